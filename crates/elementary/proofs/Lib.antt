@@ -1,0 +1,12 @@
+pub mod Signs
+pub mod Exact
+pub mod Order
+pub mod Count
+pub mod Bits
+pub mod Grid
+pub mod Parts
+pub mod Exps
+pub mod WholeRoot
+pub mod SquareRoot
+pub mod NearestRoot
+pub mod WholeUp

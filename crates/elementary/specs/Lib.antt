@@ -1,0 +1,6 @@
+pub mod Float
+pub mod Reply
+pub mod Elementary
+pub mod Inner
+pub mod Root
+pub mod WholeUp
