@@ -10,3 +10,4 @@ pub mod WholeRoot
 pub mod SquareRoot
 pub mod NearestRoot
 pub mod WholeUp
+pub mod LnSplit

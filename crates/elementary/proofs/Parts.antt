@@ -140,8 +140,8 @@ positive-no-nan (inf s) p = tt
 positive-no-nan (fin s m e) p = tt
 
 -- ---- the parts of LN's argument
-rearrange : (l n z w : ℕ) → l * (2 * w) ≡ n * 2 ^ 53 → l * 2 ^ 1022 * w ≡ n * 2 ^ 1074
-rearrange l n z w h =
+rearrange : (l n w : ℕ) → l * (2 * w) ≡ n * 2 ^ 53 → l * 2 ^ 1022 * w ≡ n * 2 ^ 1074
+rearrange l n w h =
     mul-right-comm l (2 ^ 1022) w
     ∙ ap (λ (x : ℕ). l * w * x) (pow-add 2 1 1021)
     ∙ sym (mul-assoc (l * w) 2 (2 ^ 1021))
@@ -149,18 +149,29 @@ rearrange l n z w h =
     ∙ mul-assoc n (2 ^ 53) (2 ^ 1021)
     ∙ ap (λ (x : ℕ). n * x) (sym (pow-add 2 53 1021))
 
--- f has the leading digits and the exponent of 1
-pub mantissa-bits : (x : Float) → T (fits binary64 x) → T (positive x) → ofBits binary64 (1022 * 2 ^ 52 + leading (count binary64 x)) ≡ mantissa x
-unfolding mantissa
-mantissa-bits x t p =
-    let n = count binary64 x in
-    let l = leading n in
-    let w = 2 ^ (size n - 1) in
-    let hi : l ≤ 2 ^ 53 = le-of-lt (leading-high n) in
-    let same : l * 2 ^ 1022 * w ≡ n * 2 ^ 1074 =
-    rearrange l n (size n) w (ap (λ (y : ℕ). l * y) (sym (twice-pred (size n) (size-pos n (count-pos x t p)))) ∙ count-exact x t) in
-    let small : l * 2 ^ 1022 < 2 ^ 2098 = lt-of-le-of-lt (mul-le-mul-right (2 ^ 1022) hi) (lit< tt) in
-    bits-of binary64 l 1022 (leading-low n (count-pos x t p)) hi small
-    ∙ sym
-    (round-value binary64 (units binary64 false l 1022) false n w (pow-pos (size n - 1)) (units-fits binary64 false l 1022 hi small)
-    (rescale (units binary64 false l 1022) false (l * 2 ^ 1022) (2 ^ 1074) n w (pow-pos 1074) same (units-val binary64 false l 1022 small)))
+-- the leading digits at the exponent of 1 are n / 2 ^ (z - 1)
+module _ (x : Float) (t : T (fits binary64 x)) (p : T (positive x)) where
+  lead-small : leading (count binary64 x) * 2 ^ 1022 < 2 ^ 2098
+  lead-small = lt-of-le-of-lt (mul-le-mul-right (2 ^ 1022) (le-of-lt (leading-high (count binary64 x)))) (lit< tt)
+
+  lead-value : HasValue (units binary64 false (leading (count binary64 x)) 1022) false (count binary64 x) (2 ^ (size (count binary64 x) - 1))
+  lead-value =
+      let n = count binary64 x in
+      let l = leading n in
+      let w = 2 ^ (size n - 1) in
+      rescale (units binary64 false l 1022) false (l * 2 ^ 1022) (2 ^ 1074) n w (pow-pos 1074)
+      (rearrange l n w (ap (λ (y : ℕ). l * y) (sym (twice-pred (size n) (size-pos n (count-pos x t p)))) ∙ count-exact x t))
+      (units-val binary64 false l 1022 lead-small)
+
+  -- so they are f
+  lead-is : units binary64 false (leading (count binary64 x)) 1022 ≡ mantissa x
+  unfolding mantissa
+  lead-is =
+      let n = count binary64 x in
+      sym (round-value binary64 (units binary64 false (leading n) 1022) false n (2 ^ (size n - 1)) (pow-pos (size n - 1)) (units-fits binary64 false (leading n) 1022 (le-of-lt (leading-high n)) lead-small) lead-value)
+
+  pub mantissa-value : HasValue (mantissa x) false (count binary64 x) (2 ^ (size (count binary64 x) - 1))
+  mantissa-value = subst (λ (y : Float). HasValue y false (count binary64 x) (2 ^ (size (count binary64 x) - 1))) lead-is lead-value
+
+  pub mantissa-bits : ofBits binary64 (1022 * 2 ^ 52 + leading (count binary64 x)) ≡ mantissa x
+  mantissa-bits = let n = count binary64 x in bits-of binary64 (leading n) 1022 (leading-low n (count-pos x t p)) (le-of-lt (leading-high n)) lead-small ∙ lead-is

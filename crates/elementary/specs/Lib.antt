@@ -4,3 +4,4 @@ pub mod Elementary
 pub mod Inner
 pub mod Root
 pub mod WholeUp
+pub mod LnSplit
