@@ -18,6 +18,11 @@ unfoldable pub told : Real → Reply Float
 told (Value x) = value x
 told Refused = refusal outside
 
+-- a reply's value, and a NaN for a refusal: what reads it tests for that
+unfoldable pub orNan : Reply Float → Float
+orNan (value x) = x
+orNan (refusal n) = nan
+
 -- ---- Horner: c₀ + z (c₁ + z (..)), each product and each sum rounded
 unfoldable pub horner : List Float → Float → Float
 horner [] z = 0ᶠ

@@ -8,12 +8,22 @@ mod split;
 
 ghost use mathlib.Core.Path.{_≡_};
 ghost use Rattle.elementary.specs.Float.{finite, positive};
-ghost use Rattle.elementary.specs.Elementary.{told, LN, LN1P, EXP, SQRT, CEIL};
+ghost use Rattle.elementary.specs.Elementary.{told, orNan, LN, LN1P, EXP, SQRT, CEIL};
 
 // The answer of an elementary function. `Refused` is refusal 5: the argument is outside its domain.
 pub enum Real {
     Value(f64),
     Refused,
+}
+
+// The value of an answer, and a NaN for a refusal.
+pub fn or_nan(r: Real) -> f64
+    ensures { λ x. ⌜ x ≡ orNan (told r) ⌝ }
+{
+    match r {
+        Real::Value(x) => x,
+        Real::Refused => 0.0 / 0.0,
+    }
 }
 
 // Whether x is neither a NaN nor an infinity: only then is x - x a zero.
