@@ -1,0 +1,13 @@
+pub mod Lists
+pub mod Loops
+pub mod Terms
+pub mod Plans
+pub mod Room
+pub mod RunLaws
+pub mod Holdings
+pub mod Extremes
+pub mod Mirror
+pub mod FloatMirror
+pub mod Turns
+pub mod Spent
+pub mod AtEnd

@@ -1,0 +1,250 @@
+-- Two runs whose diagonals mirror each other stay mirrored through every term, step and rebalancing, and end alike. Assumes nothing.
+use mathlib.Core.Path.{_≡_, refl, sym, ap, _∙_}
+use Prim.Native.Nat.{ℕ, zero, suc, _+_, _-_}
+use native.Mathlib.Omega.{arith}
+use mathlib.Core.Bool.{Bool, true, false, _&&_, and-comm}
+use mathlib.Core.List.{List}
+use borrow.Author.Tests.{lt-ltb, le-ltb}
+use lib.Dec.{ltb}
+use lib.ListN.{length, length-replicate, getD-replicate}
+use lib.Ieee.{Float, nan, inf, binary64, lt}
+use lib.Ieee.Fits.{add-fits}
+use Rattle.elementary.specs.Float.{_⊕_, _⊖_, _⊗_, hex, 0ᶠ, 1ᶠ, finite, positive}
+use Rattle.elementary.specs.Reply.{Reply, value, refusal, given}
+use Rattle.elementary.proofs.Signs.{add-comm-f}
+use Rattle.vector.specs.Refusals.{numerical}
+use Rattle.vector.specs.Vectors.{tab, at, fill, before, after, every, fold, larger, smaller}
+use Rattle.vector.specs.Series.{leftAt, rightAt, Operator, rowAt, applied, term, plus, bothFinite, converged, Sum, summing, summed, judge, nextTerm, series, taylorStep}
+use Rattle.vector.specs.Run.{cap, Ended, vector, overCap, failed, Fixed, Going, Turn, going, ended, norm, start, begin, divided, rebalances, rebalance, next, stepped, stepOperator, turn, runOn, runFor}
+use Rattle.vector.specs.Promises.{Mirror, MirrorEnd, MirrorRuns}
+use Rattle.vector.proofs.Lists.{Opposite, length-tab, at-tab, every-mirror}
+use Rattle.vector.proofs.Extremes.{largest-mirror, smallest-mirror}
+
+-- ---- a vector of n entries and one that mirrors it
+pub record Facing (n : ℕ) (l r : List Float) : Type 0 where
+  pub long : length l ≡ n
+  pub same : Mirror n l r
+
+mirror-sym : (n : ℕ) (l r : List Float) → Mirror n l r → Mirror n r l
+unfolding Mirror
+mirror-sym n l r m i j e = sym (m j i (omega arith))
+
+pub tab-mirror : (n : ℕ) (f g : ℕ → Float) → Opposite n f g → Mirror n (tab n f) (tab n g)
+unfolding Mirror
+tab-mirror n f g h i j e = at-tab n f i (omega arith) ∙ h i j e ∙ sym (at-tab n g j (omega arith))
+
+tab-facing : (n : ℕ) (f g : ℕ → Float) → Opposite n f g → Facing n (tab n f) (tab n g)
+tab-facing n f g h = record { long = length-tab n f; same = tab-mirror n f g h }
+
+fill-facing : (n : ℕ) (x : Float) → Facing n (fill n x) (fill n x)
+unfolding Mirror
+fill-facing n x = record {
+  long = length-replicate n x;
+  same = λ i j e. getD-replicate n i x nan (omega arith) ∙ sym (getD-replicate n j x nan (omega arith));
+}
+
+-- ---- a series of each: their values mirror each other and have one largest entry
+data Replies (n : ℕ) : Reply (List Float) → Reply (List Float) → Type 0 where
+  values : {v v′ : List Float} → Mirror n v v′ → fold larger 0ᶠ v ≡ fold larger 0ᶠ v′ → Replies n (value v) (value v′)
+  refusals : {a : ℕ} → Replies n (refusal a) (refusal a)
+
+data Sums (n : ℕ) : Sum → Sum → Type 0 where
+  terms : {t t′ s s′ : List Float} → Mirror n t t′ → Mirror n s s′ → Sums n (summing t s) (summing t′ s′)
+  replies : {r r′ : Reply (List Float)} → Replies n r r′ → Sums n (summed r) (summed r′)
+
+module _ (n : ℕ) (s s′ t t′ : List Float) (S : Mirror n s s′) (M : Mirror n t t′) where
+  plus-mirror : Mirror n (plus n s t) (plus n s′ t′)
+  unfolding plus Mirror
+  plus-mirror = tab-mirror n _ _ (λ i j e. rw (S i j e, M i j e))
+
+  plus-largest : fold larger 0ᶠ (plus n s t) ≡ fold larger 0ᶠ (plus n s′ t′)
+  unfolding plus Mirror
+  plus-largest = largest-mirror n _ _ (λ i. add-fits binary64 (at s i) (at t i)) (λ i j e. rw (S i j e, M i j e))
+
+  finite-alike : bothFinite n s t ≡ bothFinite n s′ t′
+  unfolding bothFinite Mirror
+  finite-alike = every-mirror n _ _ (λ i j e. rw (S i j e, M i j e))
+
+  converged-alike : converged n s t ≡ converged n s′ t′
+  unfolding converged Mirror
+  converged-alike = every-mirror n _ _ (λ i j e. rw (S i j e, M i j e))
+
+  positive-alike : every n (λ i. lt 0ᶠ (at s i)) ≡ every n (λ i. lt 0ᶠ (at s′ i))
+  unfolding Mirror
+  positive-alike = every-mirror n _ _ (λ i j e. rw (S i j e))
+
+  judges : (a c : Bool) → fold larger 0ᶠ s ≡ fold larger 0ᶠ s′ → Sums n (judge a c n t s) (judge a c n t′ s′)
+  unfolding judge given
+  judges false c m = replies refusals
+  judges true false m = terms M S
+  judges true true m = rw positive-alike (go (every n (λ i. lt 0ᶠ (at s′ i))))
+    where
+      go : (b : Bool) → Sums n (summed (given b numerical (value s))) (summed (given b numerical (value s′)))
+      go true = replies (values S m)
+      go false = replies refusals
+
+-- ---- two operators, what is left of one being right of the other
+neighbours : (n : ℕ) (x y : List Float) → Mirror n x y → (i j : ℕ) → suc (i + j) ≡ n → before x i ≡ after n y j
+unfolding before after Mirror
+neighbours n x y m zero j e = rw (le-ltb (suc j) n (omega arith))
+neighbours n x y m (suc i) j e = rw (lt-ltb (suc j) n (omega arith)) (m i (suc j) (omega arith))
+
+abbrev operator : ℕ → List Float → List Float → List Float → Operator
+operator n d l r = record { n = n; diagonal = d; left = l; right = r }
+
+module _ (n : ℕ) (d d′ l l′ r r′ : List Float) (D : Mirror n d d′) (L : Mirror n l r′) (R : Mirror n r l′) (eta : Float) where
+  row-alike : (x y : List Float) → Mirror n x y → (i j : ℕ) → suc (i + j) ≡ n → rowAt (operator n d l r) eta x i ≡ rowAt (operator n d′ l′ r′) eta y j
+  unfolding rowAt Mirror
+  row-alike x y m i j e =
+      let a : at d i ≡ at d′ j = D i j e in
+      let b : at l i ≡ at r′ j = L i j e in
+      let c : at r i ≡ at l′ j = R i j e in
+      let f : at x i ≡ at y j = m i j e in
+      let g : before x i ≡ after n y j = neighbours n x y m i j e in
+      let h : before y j ≡ after n x i = neighbours n y x (mirror-sym n x y m) j i (omega arith) in
+      cc (add-comm-f binary64 (at l i ⊗ before x i) (at r i ⊗ after n x i))
+
+  term-mirror : (j : ℕ) (x y : List Float) → Mirror n x y → Mirror n (term (operator n d l r) eta j x) (term (operator n d′ l′ r′) eta j y)
+  unfolding term applied Mirror
+  term-mirror j x y m = tab-mirror n _ _ (λ i k e. rw (tab-mirror n (rowAt (operator n d l r) eta x) (rowAt (operator n d′ l′ r′) eta y) (row-alike x y m) i k e))
+
+  next-sums : (j : ℕ) (t t′ s s′ : List Float) → Mirror n t t′ → Mirror n s s′
+      → Sums n (nextTerm (operator n d l r) eta j t s) (nextTerm (operator n d′ l′ r′) eta j t′ s′)
+  unfolding nextTerm
+  next-sums j t t′ s s′ M S =
+      let u = term (operator n d l r) eta j t in
+      let u′ = term (operator n d′ l′ r′) eta j t′ in
+      let v = plus n s u in
+      let v′ = plus n s′ u′ in
+      let M₁ = term-mirror j t t′ M in
+      let S₁ = plus-mirror n s s′ u u′ S M₁ in
+      rw (finite-alike n v v′ u u′ S₁ M₁, converged-alike n v v′ u u′ S₁ M₁)
+      (judges n v v′ u u′ S₁ M₁ (bothFinite n v′ u′) (converged n v′ u′) (plus-largest n s s′ u u′ S M₁))
+
+  series-replies : (k j : ℕ) {z z′ : Sum} → Sums n z z′ → Replies n (series k (operator n d l r) eta j z) (series k (operator n d′ l′ r′) eta j z′)
+  unfolding series
+  series-replies zero j (replies h) = h
+  series-replies (suc k) j (replies h) = h
+  series-replies zero j (terms M S) = refusals
+  series-replies (suc k) j (terms M S) = series-replies k (suc j) (next-sums j _ _ _ _ M S)
+
+  taylor-replies : (x y : List Float) → Mirror n x y → Replies n (taylorStep (operator n d l r) eta x) (taylorStep (operator n d′ l′ r′) eta y)
+  unfolding taylorStep
+  taylor-replies x y m = series-replies 100 1 (terms m m)
+
+-- ---- the factors
+factors : (n : ℕ) (o o′ : List Float) → Mirror n o o′ → Mirror n (tab n (leftAt o)) (tab n (rightAt n o′))
+unfolding leftAt rightAt Mirror
+factors n o o′ m = tab-mirror n (leftAt o) (rightAt n o′) go
+  where
+    go : (i j : ℕ) → suc (i + j) ≡ n → leftAt o i ≡ rightAt n o′ j
+    go zero j e = rw (le-ltb (suc j) n (omega arith))
+    go (suc i) j e = rw (lt-ltb (suc j) n (omega arith), m i (suc j) (omega arith), m (suc i) j e)
+
+-- ---- a run of each: at its end, and between two steps
+pub data Ends (n : ℕ) : Ended → Ended → Type 0 where
+  vectors : {w w′ o o′ : List Float} {s : ℕ} → Facing n w w′ → Facing n o o′ → Ends n (vector w o s) (vector w′ o′ s)
+  reports : {need : Float} {b : ℕ} → Ends n (overCap need b) (overCap need b)
+  failures : {s : ℕ} → Ends n (failed s) (failed s)
+
+abbrev between : List Float → List Float → List Float → List Float → Float → Float → ℕ → Going
+between w o l r dt rest k = record { w = w; o = o; left = l; right = r; dt = dt; remaining = rest; steps = k }
+
+abbrev stays : ℕ → List Float → Float → Fixed
+stays n d eta = record { n = n; diagonal = d; eta = eta }
+
+data Turns (n : ℕ) : Turn → Turn → Type 0 where
+  both-going : {w w′ o o′ l l′ r r′ : List Float} {dt rest : Float} {k : ℕ} → Facing n w w′ → Facing n o o′ → Mirror n l r′ → Mirror n r l′
+      → Turns n (going (between w o l r dt rest k)) (going (between w′ o′ l′ r′ dt rest k))
+  both-ended : {e e′ : Ended} → Ends n e e′ → Turns n (ended e) (ended e′)
+
+-- ---- a plan
+module _ (n : ℕ) (l l′ r r′ : List Float) (L : Mirror n l r′) (R : Mirror n r l′) where
+  norm-alike : (d d′ : List Float) → Mirror n d d′ → (eta : Float) → norm (stays n d eta) l r ≡ norm (stays n d′ eta) l′ r′
+  unfolding norm Mirror
+  norm-alike d d′ D eta =
+      largest-mirror n _ _ (λ i. add-fits binary64 (at d i) (eta ⊗ (at l i ⊕ at r i)))
+      (λ i j e. rw (D i j e, L i j e, R i j e, add-comm-f binary64 (at r′ j) (at l′ j)))
+
+  factors-alike : every n (λ i. finite (at l i) && finite (at r i)) ≡ every n (λ i. finite (at l′ i) && finite (at r′ i))
+  unfolding Mirror
+  factors-alike = every-mirror n _ _ (λ i j e. rw (L i j e, R i j e, and-comm (finite (at r′ j)) (finite (at l′ j))))
+
+  starts : (a c : Bool) (b : ℕ) (w w′ o o′ : List Float) (rest need : Float) → Facing n w w′ → Facing n o o′
+      → Turns n (start a c b w o l r rest need) (start a c b w′ o′ l′ r′ rest need)
+  unfolding start
+  starts false c b w w′ o o′ rest need W O = both-ended failures
+  starts true false b w w′ o o′ rest need W O = both-ended reports
+  starts true true b w w′ o o′ rest need W O = both-going W O L R
+
+-- ---- a step, and the run
+module _ (n : ℕ) (d d′ : List Float) (D : Mirror n d d′) (eta : Float) where
+  begins : (b : ℕ) (w w′ o o′ : List Float) (rest : Float) → Facing n w w′ → Facing n o o′ → Turns n (begin (stays n d eta) b w o rest) (begin (stays n d′ eta) b w′ o′ rest)
+  unfolding begin
+  begins b w w′ o o′ rest W O =
+      let l = tab n (leftAt o) in
+      let l′ = tab n (leftAt o′) in
+      let r = tab n (rightAt n o) in
+      let r′ = tab n (rightAt n o′) in
+      let L : Mirror n l r′ = factors n o o′ (O .same) in
+      let R : Mirror n r l′ = mirror-sym n l′ r (factors n o′ o (mirror-sym n o o′ (O .same))) in
+      rw (factors-alike n l l′ r r′ L R, norm-alike n l l′ r r′ L R d d′ D eta) (starts n l l′ r r′ L R _ _ b w w′ o o′ rest _ W O)
+
+  rebalances-alike : (c : Bool) (b : ℕ) (w w′ o o′ : List Float) (rest : Float) → Facing n w w′ → Facing n o o′
+      → Turns n (rebalance c (stays n d eta) b w o rest) (rebalance c (stays n d′ eta) b w′ o′ rest)
+  unfolding rebalance Mirror
+  rebalances-alike false b w w′ o o′ rest W O = both-ended failures
+  rebalances-alike true b w w′ o o′ rest W O =
+      begins b (fill n 1ᶠ) (fill n 1ᶠ) _ _ rest (fill-facing n 1ᶠ) (tab-facing n _ _ (λ i j e. rw (O .same i j e, W .same i j e)))
+
+  nexts : (k : ℕ) (c : Bool) (b : ℕ) (w w′ : List Float) (g g′ : Going) → Facing n w w′ → Turns n (going g) (going g′)
+      → Turns n (next k c (stays n d eta) b g w) (next k c (stays n d′ eta) b g′ w′)
+  unfolding next Mirror
+  nexts zero c b w w′ g g′ W (both-going W₀ O L R) = both-ended (vectors W O)
+  nexts (suc k) false b w w′ g g′ W (both-going W₀ O L R) = both-going W O L R
+  nexts (suc k) true b w w′ g g′ W (both-going {o = o} {o′ = o′} {dt = dt} {rest = rest} W₀ O L R) =
+      rw (every-mirror n (λ i. positive (at w i)) (λ i. positive (at w′ i)) (λ i j e. ap positive (W .same i j e)))
+      (rebalances-alike (every n (λ i. positive (at w′ i))) b w w′ o o′ (rest ⊖ dt) W O)
+
+  module _ (v v′ : List Float) (m : Mirror n v v′) (h : fold larger 0ᶠ v ≡ fold larger 0ᶠ v′) where
+    divided-facing : Facing n (divided n v) (divided n v′)
+    unfolding divided Mirror
+    divided-facing = tab-facing n _ _ (λ i j e. rw (m i j e, h))
+
+    smallest-alike : (k : ℕ) → rebalances (fold smaller (inf false) (divided n v)) k ≡ rebalances (fold smaller (inf false) (divided n v′)) k
+    unfolding rebalances divided Mirror
+    smallest-alike k = ap (λ (b : Bool). ltb 0 k && b) (smallest-mirror (hex 0x16687E92154EF7AC) n _ _ (λ i j e. rw (m i j e, h)))
+
+  steps-alike : (b : ℕ) (g g′ : Going) {x y : Reply (List Float)} → Turns n (going g) (going g′) → Replies n x y
+      → Turns n (stepped (stays n d eta) b g x) (stepped (stays n d′ eta) b g′ y)
+  unfolding stepped
+  steps-alike b g g′ t refusals = both-ended failures
+  steps-alike b g g′ (both-going {k = k} W O L R) (values {v} {v′} m h) =
+      rw (smallest-alike v v′ m h (k - 1)) (nexts _ _ b (divided n v) (divided n v′) _ _ (divided-facing v v′ m h) (both-going W O L R))
+
+  turns : (b : ℕ) (g g′ : Going) → Turns n (going g) (going g′) → Turns n (turn (stays n d eta) b g) (turn (stays n d′ eta) b g′)
+  unfolding turn stepOperator Mirror
+  turns b g g′ (both-going {w} {w′} {o} {o′} {l} {l′} {r} {r′} {dt} W O L R) =
+      steps-alike b _ _ (both-going W O L R)
+      (taylor-replies n _ _ l l′ r r′ (tab-mirror n _ _ (λ i j e. rw (D i j e))) L R (eta ⊗ dt) w w′ (W .same))
+
+  runs : (b : ℕ) {t t′ : Turn} → Turns n t t′ → Ends n (runOn b (stays n d eta) t) (runOn b (stays n d′ eta) t′)
+  unfolding runOn
+  runs zero (both-ended e) = e
+  runs (suc b) (both-ended e) = e
+  runs zero (both-going W O L R) = failures
+  runs (suc b) (both-going W O L R) = runs b (turns b _ _ (both-going W O L R))
+
+  pub ends : (later : Bool) (tau : Float) → Ends n (runFor later (stays n d eta) tau) (runFor later (stays n d′ eta) tau)
+  unfolding runFor
+  ends false tau = vectors (fill-facing n 1ᶠ) (fill-facing n 0ᶠ)
+  ends true tau = runs cap (begins cap (fill n 1ᶠ) (fill n 1ᶠ) (fill n 0ᶠ) (fill n 0ᶠ) tau (fill-facing n 1ᶠ) (fill-facing n 0ᶠ))
+
+mirror-end : (n : ℕ) {e e′ : Ended} → Ends n e e′ → MirrorEnd n e e′
+unfolding MirrorEnd
+mirror-end n (vectors W O) = (W .same, O .same, refl)
+mirror-end n reports = (refl, refl)
+mirror-end n failures = refl
+
+pub mirror-runs : MirrorRuns
+mirror-runs n d d′ eta m later tau = mirror-end n (ends n d d′ m eta later tau)

@@ -1,0 +1,46 @@
+-- An array that holds n entries and 0.0 after them, its first n places lent and come back. Assumes nothing.
+use mathlib.Core.Path.{_≡_, sym, ap, _∙_}
+use Prim.Native.Nat.{ℕ, _+_, _-_, _≤_}
+use native.Mathlib.Omega.{arith}
+use mathlib.Core.List.{List, _++_}
+use lib.ListN.{length, take, drop, length-append, length-replicate, replicate-append-replicate}
+use lib.Seq.{take-at, drop-at}
+use lib.Ieee.{Float}
+use Rattle.elementary.specs.Float.{0ᶠ}
+use Rattle.vector.specs.Vectors.{tab, fill}
+use Rattle.vector.specs.Distances.{room, padded}
+use Rattle.vector.proofs.Lists.{length-tab}
+
+module _ (n : ℕ) (a l : List Float) (e : a ≡ padded n l) (k : length l ≡ n) where
+  pub lent : take n a ≡ l
+  unfolding padded
+  lent = rw e (take-at l _ n k)
+
+  pub length-lent : length (take n a) ≡ n
+  length-lent = ap length lent ∙ k
+
+  pub back : (v : List Float) → v ++ drop n a ≡ padded n v
+  unfolding padded
+  back v = rw e (ap (λ (r : List Float). v ++ r) (drop-at l _ n k))
+
+-- a blank array
+module _ (n : ℕ) (a : List Float) (e : a ≡ fill room 0ᶠ) (h : n ≤ room) where
+  pub blank-padded : a ≡ padded n (fill n 0ᶠ)
+  unfolding padded
+  blank-padded =
+      let k : room ≡ n + (room - n) = omega arith in
+      e ∙ ap (λ (m : ℕ). fill m 0ᶠ) k ∙ sym (replicate-append-replicate n (room - n) 0ᶠ)
+
+  pub blank-length : length (take n a) ≡ n
+  blank-length = length-lent n a (fill n 0ᶠ) blank-padded (length-replicate n 0ᶠ)
+
+-- entries by a rule in the first places
+module _ (n : ℕ) (f : ℕ → Float) (d r : List Float) (e : d ≡ tab n f) where
+  pub stored-part : take n (d ++ r) ≡ tab n f
+  stored-part = take-at d r n (ap length e ∙ length-tab n f) ∙ e
+
+  pub stored-length : length (take n (d ++ r)) ≡ n
+  stored-length = ap length stored-part ∙ length-tab n f
+
+  pub stored-room : n ≤ length (d ++ r)
+  stored-room = rw (length-append d r, e, length-tab n f) (omega arith)

@@ -1,0 +1,75 @@
+-- A run spends at most the cap, a cap report is of more steps than the budget left, and a reply carries the steps of its run. Assumes nothing.
+use mathlib.Core.Path.{refl, subst}
+use Prim.Native.Nat.{ℕ, zero, suc, _≤_}
+use native.Mathlib.Nat.{le-refl, le-trans}
+use native.Mathlib.Omega.{arith}
+use mathlib.Core.Bool.{Bool, true, false}
+use mathlib.Core.List.{List}
+use lib.IntN.{ℤ, natAbs}
+use lib.Dec.{leb}
+use lib.Ieee.{Float, lt}
+use Rattle.elementary.specs.Float.{0ᶠ}
+use Rattle.vector.specs.Run.{Ended, vector, overCap, failed, Fixed, Turn, going, ended, cap, boundOk, turn, runOn, fixed, runFor, run, spent}
+use Rattle.vector.specs.Distances.{sides, exactAt, refusedEntry, withVector, answerBy, entryIf, floatsOk, floatEntry, stepsIf, floatSteps}
+use Rattle.vector.specs.Promises.{StepsWithin, Counted, StepsCounted, CapNeedsPlan, SumOf}
+use Rattle.vector.specs.declared.ValueVector.{ValueVector}
+use Rattle.vector.specs.declared.Distance.{Distance}
+use Rattle.vector.proofs.Turns.{EndOk, TurnOk, begin-ok, turn-ok}
+
+-- ---- the run, of whatever weights
+abbrev Any : List Float → List Float → Type 0
+Any w o = Unit {0}
+
+end-any : (P : List Float → List Float → Type 0) (b : ℕ) (r : Ended) → b ≤ cap → EndOk b P r → EndOk cap Any r
+end-any P b (vector w o s) h e = (tt, e .1)
+end-any P b (overCap need c) h e = (le-trans (e .0) h, e .1)
+end-any P b (failed s) h e = e
+
+on-ok : (P : List Float → List Float → Type 0) (b : ℕ) (p : Fixed) (t : Turn) → b ≤ cap → TurnOk b P t → EndOk cap Any (runOn b p t)
+unfolding runOn
+on-ok P zero p (ended r) h e = end-any P 0 r h e
+on-ok P (suc b) p (ended r) h e = end-any P (suc b) r h e
+on-ok P zero p (going g) h e = le-refl cap
+on-ok P (suc b) p (going g) h e = on-ok (SumOf p g) b p (turn p b g) (omega arith) (turn-ok p b g)
+
+run-ok : (bound : ℕ) (alpha eta tau : Float) → EndOk cap Any (run bound alpha eta tau)
+unfolding run runFor
+run-ok bound alpha eta tau = go (lt 0ᶠ tau)
+  where
+    go : (later : Bool) → EndOk cap Any (runFor later (fixed bound alpha eta) tau)
+    go false = (tt, omega arith)
+    go true = on-ok Any cap _ _ (le-refl cap) (begin-ok Any _ cap _ _ tau tt)
+
+spent-within : (r : Ended) → EndOk cap Any r → spent r ≤ cap
+unfolding spent
+spent-within (vector w o s) e = e .1
+spent-within (overCap need b) e = omega arith
+spent-within (failed s) e = e
+
+pub steps-within : StepsWithin
+steps-within bound alpha eta tau = spent-within (run bound alpha eta tau) (run-ok bound alpha eta tau)
+
+pub cap-needs-plan : CapNeedsPlan
+cap-needs-plan bound alpha eta tau need b e = subst (EndOk cap Any) e (run-ok bound alpha eta tau) .1
+
+-- ---- the reply
+sides-counted : (c : Bool) (v : ValueVector) (b a : Distance) (s : ℕ) → Counted (withVector v (sides c b a s) .answer) s
+unfolding Counted withVector sides refusedEntry
+sides-counted true v b a s = refl
+sides-counted false v b a s = tt
+
+counted : (bound : ℕ) (k base : Float) (q : ℤ) (r : Ended) → EndOk cap Any r → Counted (answerBy bound k base q r .answer) (spent r)
+unfolding Counted answerBy withVector refusedEntry exactAt spent
+counted bound k base q (vector w o s) e = sides-counted _ _ _ _ s
+counted bound k base q (overCap need b) e = (refl, omega arith)
+counted bound k base q (failed s) e = tt
+
+pub steps-counted : StepsCounted
+unfolding Counted floatEntry entryIf refusedEntry floatSteps stepsIf
+steps-counted k alpha eta base bound tau q = go (floatsOk k alpha eta base tau) (boundOk bound) (leb (natAbs q) bound)
+  where
+    go : (f b h : Bool) → Counted (entryIf f b h k alpha eta base bound tau q .answer) (stepsIf f b h alpha eta bound tau) × (stepsIf f b h alpha eta bound tau ≤ cap)
+    go false b h = (tt, omega arith)
+    go true false h = (tt, omega arith)
+    go true true false = (tt, omega arith)
+    go true true true = (counted bound k base q (run bound alpha eta tau) (run-ok bound alpha eta tau), steps-within bound alpha eta tau)

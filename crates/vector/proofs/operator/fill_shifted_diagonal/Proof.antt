@@ -1,0 +1,94 @@
+-- The entries so far are the diagonal, and q is the next row as a float, which is exact. Assumes nothing.
+use mathlib.Core.Path.{_≡_, refl, ap, _∙_}
+use Prim.Native.Nat.{ℕ, suc, _+_, _-_, _<_, _≤_}
+use native.Mathlib.Omega.{arith}
+use native.Mathlib.Nat.{le-trans}
+use native.Mathlib.Numerals.{add-one}
+use mathlib.Core.Bool.{Bool, true, false, not, cond}
+use lib.IntN.{pos, negsuc, natAbs}
+use lib.Dec.{T, lit≤, leb, nleb→lt}
+use lib.ListN.{length, length-set}
+use lib.Ieee.{Float, binary64, minus, ofBits, ofInt, round}
+use Rattle.elementary.specs.Float.{_⊕_, _⊖_, whole, 0ᶠ, 1ᶠ}
+use Rattle.elementary.proofs.Exact.{sub-whole, add-ints, minus-suc}
+use Rattle.vector.specs.Series.{diagonalAt}
+use Rattle.vector.proofs.Loops.{filled, filled-zero, stored, filled-all}
+use Rattle.vector.proofs.operator.fill_shifted_diagonal.Statement.{statement}
+use Rattle.vector.proofs.operator.fill_shifted_diagonal.Tie as tie
+
+zero-whole : 0ᶠ ≡ whole (pos 0)
+unfolding ofBits ofInt round
+zero-whole = refl
+
+one-whole : 1ᶠ ≡ whole (pos 1)
+unfolding ofBits ofInt round
+one-whole = refl
+
+size-minus : (a b : ℕ) → natAbs (minus a b) ≤ a + b
+size-minus a b = go (leb b a) (nleb→lt b a)
+  where
+    go : (t : Bool) → (T (not t) → a < b) → natAbs (cond t (pos (a - b)) (negsuc (b - suc a))) ≤ a + b
+    go true h = omega arith
+    go false h = omega (arith, h tt)
+
+-- the row of -b lots
+first : (b : ℕ) → b ≤ 200 → 0ᶠ ⊖ whole (pos b) ≡ whole (minus 0 b)
+first b h = ap (λ (z : Float). z ⊖ whole (pos b)) zero-whole ∙ sub-whole binary64 0 b (lit≤ tt) (le-trans h (lit≤ tt))
+
+-- one row more
+next : (i b : ℕ) → i ≤ 401 → b ≤ 200 → whole (minus i b) ⊕ 1ᶠ ≡ whole (minus (i + 1) b)
+next i b h l =
+    let k : natAbs (minus i b) ≤ 601 = omega (arith, size-minus i b) in
+    ap (λ (z : Float). whole (minus i b) ⊕ z) one-whole ∙ add-ints binary64 (minus i b) (pos 1) (le-trans k (lit≤ tt)) (lit≤ tt) ∙ ap whole (rw (add-one i) (minus-suc i b))
+
+abbrev Inv-loop : tie.InvT-loop
+Inv-loop alpha eta bound diag₀ q₀ i₀ diag q i = (i ≤ length diag₀) × (length diag ≡ length diag₀) × (q ≡ whole (minus i bound)) × (diag ≡ filled (diagonalAt bound alpha eta) diag₀ i)
+
+abbrev μ-loop : tie.MeasureT-loop
+μ-loop alpha eta bound diag₀ q₀ i₀ diag q i = length diag₀ - i
+
+int-to-float-q : tie.Need-int-to-float-q Inv-loop μ-loop
+int-to-float-q c = tt
+
+loop-holds : tie.Need-loop-holds Inv-loop μ-loop
+loop-holds c = (omega arith, omega arith, first _ (omega arith), filled-zero _ _)
+
+mul-diag : tie.Need-mul-diag Inv-loop μ-loop
+mul-diag c = omega arith
+
+slice-write-diag : tie.Need-slice-write-diag Inv-loop μ-loop
+slice-write-diag c = omega arith
+
+add-i : tie.Need-add-i Inv-loop μ-loop
+add-i c = omega arith
+
+loop-less : tie.Need-loop-less Inv-loop μ-loop
+loop-less c = omega arith
+
+loop-again : tie.Need-loop-again Inv-loop μ-loop
+unfolding diagonalAt
+loop-again c =
+    let i = c .before .loop .inv in
+    (omega arith, simp length-set (i .1), rw (i .2) (next (c .before .loop .i) (c .before .before .before .args .bound) (omega arith) (omega arith)), stored _ _ _ _ _ (omega arith) (i .3) (rw (i .2)))
+
+same-length : tie.Need-same-length Inv-loop μ-loop
+same-length c = omega arith
+
+returns : tie.Need-returns Inv-loop μ-loop
+returns c = filled-all _ _ _ (c .before .loop .i) _ (omega arith) (omega arith) (c .before .loop .inv .3)
+
+pub fill-shifted-diagonal-spec : {M : Type 1} → statement M
+fill-shifted-diagonal-spec =
+    tie.close
+    (tie.spec
+    Inv-loop
+    μ-loop
+    int-to-float-q
+    loop-holds
+    mul-diag
+    slice-write-diag
+    add-i
+    loop-less
+    loop-again
+    same-length
+    returns)

@@ -1,0 +1,60 @@
+-- The first row has no row before it. Assumes nothing.
+use mathlib.Core.Path.{_≡_, refl, ap, _∙_}
+use mathlib.Core.List.{List}
+use Prim.Native.Nat.{ℕ, zero, suc, _-_, _<_}
+use native.Mathlib.Omega.{arith}
+use borrow.Author.Needs.{needs}
+use lib.Ieee.{Float}
+use Rattle.elementary.specs.Float.{_⊖_, 0ᶠ}
+use Rattle.elementary.specs.Elementary.{EXP, orNan}
+use Rattle.vector.specs.Vectors.{at}
+use Rattle.vector.specs.Series.{leftAt}
+use Rattle.vector.proofs.operator.left_factor.Statement.{statement}
+use Rattle.vector.proofs.operator.left_factor.Tie as tie
+
+first : (o : List Float) (i : ℕ) → i ≡ 0 → 0ᶠ ≡ leftAt o i
+unfolding leftAt
+first o zero h = refl
+first o (suc i) h = absurd (omega arith)
+
+later : (o : List Float) (i : ℕ) → 0 < i → orNan (EXP (at o (i - 1) ⊖ at o i)) ≡ leftAt o i
+unfolding leftAt
+later o zero h = absurd (omega arith)
+later o (suc i) h = ap (λ (k : ℕ). orNan (EXP (at o k ⊖ at o (suc i)))) (omega arith)
+
+returns : tie.Need-returns
+returns c = first _ _ (c .if1 .taken)
+
+sub-exp-or-nan : tie.Need-sub-exp-or-nan
+sub-exp-or-nan c = search needs
+
+mul-exp-or-nan : tie.Need-mul-exp-or-nan
+mul-exp-or-nan c = search needs
+
+shared-slice-read-exp-or-nan : tie.Need-shared-slice-read-exp-or-nan
+shared-slice-read-exp-or-nan c = search needs
+
+mul-exp-or-nan-2 : tie.Need-mul-exp-or-nan-2
+mul-exp-or-nan-2 c = search needs
+
+shared-slice-read-exp-or-nan-2 : tie.Need-shared-slice-read-exp-or-nan-2
+shared-slice-read-exp-or-nan-2 c = search needs
+
+exp-or-nan-requires : tie.Need-exp-or-nan-requires
+exp-or-nan-requires c κs = search needs
+
+returns-2 : tie.Need-returns-2
+returns-2 c = c .exp-or-nan .ensures ∙ later _ _ (omega arith)
+
+pub left-factor-spec : {M : Type 1} → statement M
+left-factor-spec =
+    tie.close
+    (tie.spec
+    returns
+    sub-exp-or-nan
+    mul-exp-or-nan
+    shared-slice-read-exp-or-nan
+    mul-exp-or-nan-2
+    shared-slice-read-exp-or-nan-2
+    exp-or-nan-requires
+    returns-2)

@@ -1,0 +1,91 @@
+-- The loop's invariant: the first i weights are divided, and `min` is the smallest of them, from infinity. Assumes nothing.
+use mathlib.Core.Path.{_≡_, refl, sym, ap, _∙_}
+use mathlib.Core.Logic.{⊎-elim}
+use Prim.Native.Nat.{ℕ, _-_, _≤_}
+use native.Mathlib.Nat.{le-refl}
+use native.Mathlib.Omega.{arith}
+use mathlib.Core.Bool.{false}
+use mathlib.Core.List.{List}
+use lib.ListN.{length, length-set}
+use lib.Ieee.{Float, inf, div, ofBits}
+use denote.Ref.{now}
+use Rattle.elementary.specs.Float.{_⊘_}
+use Rattle.vector.specs.Vectors.{from, tab, at, fold, smaller}
+use Rattle.vector.proofs.Loops.{filled, filled-zero, stored, filled-all, at-filled, fold-suc, fold-at, smaller-taken, smaller-left}
+use Rattle.vector.proofs.run.divide.Statement.{statement}
+use Rattle.vector.proofs.run.divide.Tie as tie
+
+abbrev quotient : List Float → Float → ℕ → Float
+quotient w max i = at w i ⊘ max
+
+abbrev Inv-loop : tie.InvT-loop
+Inv-loop w₀ max min₀ i₀ w min i =
+    (i ≤ length w₀) × (length w ≡ length w₀) × (w ≡ filled (quotient w₀ max) w₀ i) × (min ≡ fold smaller (inf false) (tab i (quotient w₀ max)))
+
+abbrev μ-loop : tie.MeasureT-loop
+μ-loop w₀ max min₀ i₀ w min i = length w₀ - i
+
+loop-holds : tie.Need-loop-holds Inv-loop μ-loop
+unfolding div ofBits fold from
+loop-holds c = (omega arith, refl, filled-zero _ _, refl)
+
+mul-x : tie.Need-mul-x Inv-loop μ-loop
+mul-x c = omega arith
+
+slice-read-x : tie.Need-slice-read-x Inv-loop μ-loop
+slice-read-x c = omega arith
+
+mul-w : tie.Need-mul-w Inv-loop μ-loop
+mul-w c = omega arith
+
+slice-write-w : tie.Need-slice-write-w Inv-loop μ-loop
+slice-write-w c = omega arith
+
+add-i : tie.Need-add-i Inv-loop μ-loop
+add-i c = omega arith
+
+loop-less : tie.Need-loop-less Inv-loop μ-loop
+loop-less c = omega arith
+
+loop-again : tie.Need-loop-again Inv-loop μ-loop
+loop-again c =
+    let at-loop = c .before .before .before in
+    let i = at-loop .loop .i in
+    let inv = at-loop .loop .inv in
+    let x = at-loop .before .args in
+    let f = quotient (now (x .w)) (x .max) in
+    let old : at (at-loop .loop .w) i ⊘ x .max ≡ f i = rw (inv .2) (ap (λ (y : Float). y ⊘ x .max) (at-filled f (now (x .w)) i i (le-refl i))) in
+    let min : c .if1 .min ≡ smaller (at-loop .loop .min) (at (at-loop .loop .w) i ⊘ x .max) =
+    ⊎-elim (λ t. t .1 ∙ smaller-taken _ _ (t .0 .taken)) (λ t. t .1 ∙ smaller-left _ _ (t .0 .left)) (c .if1 .came) in (
+      omega arith,
+      simp length-set (inv .1),
+      stored f (now (x .w)) _ i _ (omega arith) (inv .2) old,
+      min ∙ rw (old, inv .3) (sym (fold-suc smaller (inf false) i f)),
+    )
+
+same-length : tie.Need-same-length Inv-loop μ-loop
+same-length c = omega arith
+
+returns : tie.Need-returns Inv-loop μ-loop
+returns c =
+    let i = c .before .loop .i in
+    let e : i ≡ length (now (c .before .before .args .w)) = omega arith in
+    let all = filled-all _ _ _ i _ e e (c .before .loop .inv .2) in
+    (all, c .before .loop .inv .3 ∙ fold-at _ _ _ _ _ e ∙ ap (fold smaller (inf false)) (sym all))
+
+pub divide-spec : {M : Type 1} → statement M
+divide-spec =
+    tie.close
+    (tie.spec
+    Inv-loop
+    μ-loop
+    loop-holds
+    mul-x
+    slice-read-x
+    mul-w
+    slice-write-w
+    add-i
+    loop-less
+    loop-again
+    same-length
+    returns)

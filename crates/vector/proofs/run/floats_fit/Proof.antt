@@ -1,0 +1,20 @@
+use borrow.Author.Needs.{needs}
+use Rattle.vector.proofs.run.floats_fit.Statement.{statement}
+use Rattle.vector.proofs.run.floats_fit.Tie as tie
+
+is-positive-finite-requires : tie.Need-is-positive-finite-requires
+is-positive-finite-requires c κs = search needs
+
+is-positive-finite-requires-2 : tie.Need-is-positive-finite-requires-2
+is-positive-finite-requires-2 c κs = search needs
+
+is-finite-requires : tie.Need-is-finite-requires
+is-finite-requires c κs = search needs
+
+returns : tie.Need-returns
+returns c = rw (c .before .before .is-positive-finite .ensures, c .before .is-positive-finite2 .ensures, c .is-finite .ensures)
+
+pub floats-fit-spec : {M : Type 1} → statement M
+floats-fit-spec =
+    tie.close
+    (tie.spec is-positive-finite-requires is-positive-finite-requires-2 is-finite-requires returns)

@@ -1,0 +1,100 @@
+use mathlib.Core.Path.{_≡_, sym, ap, _∙_}
+use mathlib.Core.List.{List}
+use lib.ListN.{length, take, length-replicate}
+use lib.Ieee.{Float}
+use borrow.Author.Needs.{needs}
+use Rattle.elementary.specs.Float.{0ᶠ, 1ᶠ}
+use Rattle.vector.specs.Vectors.{fill}
+use Rattle.vector.proofs.Room.{blank-length}
+use Rattle.vector.proofs.run.run_later.Statement.{statement}
+use Rattle.vector.proofs.run.run_later.Tie as tie
+
+blank-requires : tie.Need-blank-requires
+blank-requires c κs = search needs
+
+blank-requires-2 : tie.Need-blank-requires-2
+blank-requires-2 c κs = search needs
+
+blank-requires-3 : tie.Need-blank-requires-3
+blank-requires-3 c κs = search needs
+
+blank-requires-4 : tie.Need-blank-requires-4
+blank-requires-4 c κs = search needs
+
+blank-requires-5 : tie.Need-blank-requires-5
+blank-requires-5 c κs = search needs
+
+array-borrow-prefix-diag : tie.Need-array-borrow-prefix-diag
+array-borrow-prefix-diag c = search needs
+
+slice-aggregate-run-over : tie.Need-slice-aggregate-run-over
+slice-aggregate-run-over c = sym (blank-length _ _ (c .before .before .before .before .before .before .before .blank .ensures) (c .before .before .before .before .before .before .before .before .before .before .before .pre .1))
+
+array-borrow-prefix-left : tie.Need-array-borrow-prefix-left
+array-borrow-prefix-left c = search needs
+
+slice-aggregate-run-over-2 : tie.Need-slice-aggregate-run-over-2
+slice-aggregate-run-over-2 c = sym (blank-length _ _ (c .before .before .before .before .before .before .before .blank2 .ensures) (c .before .before .before .before .before .before .before .before .before .before .before .before .pre .1))
+
+array-borrow-prefix-right : tie.Need-array-borrow-prefix-right
+array-borrow-prefix-right c = search needs
+
+slice-aggregate-run-over-3 : tie.Need-slice-aggregate-run-over-3
+slice-aggregate-run-over-3 c = sym (blank-length _ _ (c .before .before .before .before .before .before .before .blank3 .ensures) (c .before .before .before .before .before .before .before .before .before .before .before .before .before .pre .1))
+
+array-borrow-prefix-term : tie.Need-array-borrow-prefix-term
+array-borrow-prefix-term c = search needs
+
+slice-aggregate-run-over-4 : tie.Need-slice-aggregate-run-over-4
+slice-aggregate-run-over-4 c = sym (blank-length _ _ (c .before .before .before .before .before .before .before .blank4 .ensures) (c .before .before .before .before .before .before .before .before .before .before .before .before .before .before .pre .1))
+
+array-borrow-prefix-next : tie.Need-array-borrow-prefix-next
+array-borrow-prefix-next c = search needs
+
+slice-aggregate-run-over-5 : tie.Need-slice-aggregate-run-over-5
+slice-aggregate-run-over-5 c = sym (blank-length _ _ (c .before .before .before .before .before .before .before .blank5 .ensures) (c .before .before .before .before .before .before .before .before .before .before .before .before .before .before .before .pre .1))
+
+run-over-requires : tie.Need-run-over-requires
+run-over-requires c κs =
+    let p = c .before .before .before .before .before .before .before .before .before .before .before .before .before .before .before .pre in
+    let part : (l : List Float) → l ≡ fill 401 0ᶠ → length (take (c .before .before .before .before .before .before .before .before .before .before .before .before .before .before .before .args .n) l) ≡ c .before .before .before .before .before .before .before .before .before .before .before .before .before .before .before .args .n = λ l e. blank-length _ l e (p .1) in
+    rw (ap length (p .2) ∙ length-replicate (c .before .before .before .before .before .before .before .before .before .before .before .before .before .before .before .args .n) 1ᶠ) (
+      (p .0, p .2),
+      (
+        record { diag-n = p .3; left-n = p .4; right-n = part _ (c .before .before .before .before .before .before .before .before .before .before .before .blank .ensures); term-n = part _ (c .before .before .before .before .before .before .before .before .before .before .blank2 .ensures); next-n = part _ (c .before .before .before .before .before .before .before .before .before .blank3 .ensures) },
+        (part _ (c .before .before .before .before .before .before .before .before .blank4 .ensures), part _ (c .before .before .before .before .before .before .before .blank5 .ensures)),
+      ),
+    )
+
+same-length : tie.Need-same-length
+same-length c = search needs
+
+same-length-2 : tie.Need-same-length-2
+same-length-2 c = search needs
+
+returns : tie.Need-returns
+returns c = rw (ap length (c .before .before .before .before .before .before .before .before .before .before .before .before .before .before .before .before .before .before .before .before .before .before .before .before .before .pre .2) ∙ length-replicate (c .before .before .before .before .before .before .before .before .before .before .before .before .before .before .before .before .before .before .before .before .before .before .before .before .before .args .n) 1ᶠ) at (c .before .before .before .before .before .before .before .before .before .run-over .ensures)
+
+pub run-later-spec : {M : Type 1} → statement M
+run-later-spec =
+    tie.close
+    (tie.spec
+    blank-requires
+    blank-requires-2
+    blank-requires-3
+    blank-requires-4
+    blank-requires-5
+    array-borrow-prefix-diag
+    slice-aggregate-run-over
+    array-borrow-prefix-left
+    slice-aggregate-run-over-2
+    array-borrow-prefix-right
+    slice-aggregate-run-over-3
+    array-borrow-prefix-term
+    slice-aggregate-run-over-4
+    array-borrow-prefix-next
+    slice-aggregate-run-over-5
+    run-over-requires
+    same-length
+    same-length-2
+    returns)

@@ -1,0 +1,101 @@
+// The operator of the value vector's equation, scaled by the offsets. Every slice has an entry for
+// each row.
+ghost use mathlib.Core.Path.{_≡_};
+ghost use Prim.Native.Nat.{_<_, _≤_};
+ghost use mathlib.Core.Bool.{_&&_};
+ghost use lib.ListN.{length};
+ghost use Rattle.elementary.specs.Float.{_⊗_, finite};
+ghost use Rattle.vector.specs.Vectors.{tab, at, every};
+ghost use Rattle.vector.specs.Series.{diagonalAt, leftAt, rightAt, applied};
+ghost use Rattle.vector.specs.Run.{rows};
+ghost use Rattle.vector.specs.Inner.{operatorOver};
+
+// The diagonal a second: alpha q^2 + 2 eta, for q from -bound to bound.
+pub(crate) fn fill_shifted_diagonal(alpha: f64, eta: f64, bound: u32, diag: &mut [f64])
+    requires { ⌜ (bound ≤ 200) × (length (now diag) ≡ rows bound) ⌝ }
+    ensures { λ _. ⌜ now (diag .exit) ≡ tab (rows bound) (diagonalAt bound alpha eta) ⌝ }
+{
+    let mut q = 0.0 - (bound as f64);
+    let mut i: usize = 0;
+    while i < diag.len() {
+        diag[i] = (alpha * q) * q + 2.0 * eta;
+        q = q + 1.0;
+        i += 1;
+    }
+}
+
+// The diagonal of one step.
+pub(crate) fn scale_diagonal(diag_s: &[f64], dt: f64, diag: &mut [f64])
+    requires { ⌜ length (now diag) ≡ length (now «diag_s») ⌝ }
+    ensures { λ _. ⌜ now (diag .exit) ≡ tab (length (now («diag_s» .entry))) (λ i. at (now («diag_s» .entry)) i ⊗ dt) ⌝ }
+{
+    let mut i: usize = 0;
+    while i < diag_s.len() {
+        diag[i] = diag_s[i] * dt;
+        i += 1;
+    }
+}
+
+// The left factor of row i.
+fn left_factor(o: &[f64], i: usize) -> f64
+    requires { ⌜ i < length (now o) ⌝ }
+    ensures { λ r. ⌜ r ≡ leftAt (now (o .entry)) i ⌝ }
+{
+    if i == 0 {
+        return 0.0;
+    }
+    crate::reals::exp_or_nan(o[i - 1] - o[i])
+}
+
+// The right factor of row i.
+fn right_factor(o: &[f64], i: usize) -> f64
+    requires { ⌜ i < length (now o) ⌝ }
+    ensures { λ r. ⌜ r ≡ rightAt (length (now (o .entry))) (now (o .entry)) i ⌝ }
+{
+    if i + 1 < o.len() {
+        return crate::reals::exp_or_nan(o[i + 1] - o[i]);
+    }
+    0.0
+}
+
+// The factors of every row, and whether all are finite.
+pub(crate) fn set_factors(o: &[f64], left: &mut [f64], right: &mut [f64]) -> bool
+    requires { ⌜ (length (now left) ≡ length (now o)) × (length (now right) ≡ length (now o)) ⌝ }
+    ensures { λ _. ⌜ now (left .exit) ≡ tab (length (now (o .entry))) (leftAt (now (o .entry))) ⌝ }
+    ensures { λ _. ⌜ now (right .exit) ≡ tab (length (now (o .entry))) (rightAt (length (now (o .entry))) (now (o .entry))) ⌝ }
+    ensures { λ r. ⌜ r ≡ every (length (now (o .entry))) (λ i. finite (at (now (left .exit)) i) && finite (at (now (right .exit)) i)) ⌝ }
+{
+    let mut all = true;
+    let mut i: usize = 0;
+    while i < o.len() {
+        let lf = left_factor(o, i);
+        let rf = right_factor(o, i);
+        left[i] = lf;
+        right[i] = rf;
+        all = all & (elementary::is_finite(lf) & elementary::is_finite(rf));
+        i += 1;
+    }
+    all
+}
+
+// out = B x. The two end rows stand apart, so that the rows between them read both neighbours.
+pub(crate) fn apply_operator(
+    x: &[f64],
+    diag: &[f64],
+    eta_dt: f64,
+    left: &[f64],
+    right: &[f64],
+    out: &mut [f64],
+)
+    requires { ⌜ (2 ≤ length (now x)) × (length (now diag) ≡ length (now x)) × (length (now left) ≡ length (now x)) × (length (now right) ≡ length (now x)) × (length (now out) ≡ length (now x)) ⌝ }
+    ensures { λ _. ⌜ now (out .exit) ≡ applied (operatorOver (length (now (x .entry))) (now (diag .entry)) (now (left .entry)) (now (right .entry))) «eta_dt» (now (x .entry)) ⌝ }
+{
+    let last = x.len() - 1;
+    out[0] = eta_dt * (left[0] * 0.0 + right[0] * x[1]) - diag[0] * x[0];
+    let mut i: usize = 1;
+    while i < last {
+        out[i] = eta_dt * (left[i] * x[i - 1] + right[i] * x[i + 1]) - diag[i] * x[i];
+        i += 1;
+    }
+    out[last] = eta_dt * (left[last] * x[last - 1] + right[last] * 0.0) - diag[last] * x[last];
+}

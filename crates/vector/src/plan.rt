@@ -1,0 +1,73 @@
+// The plan of steps for the time that remains.
+ghost use mathlib.Core.Path.{_≡_};
+ghost use Prim.Native.Nat.{_≤_};
+ghost use lib.ListN.{length};
+ghost use lib.Dec.{T};
+ghost use Rattle.elementary.specs.Float.{positive};
+ghost use Rattle.vector.specs.Run.{norm, needed};
+ghost use Rattle.vector.specs.Inner.{fixedOver, planFor, planOf};
+
+const STEP_NORM: f64 = 2.0;
+
+// The steps and the time of each; or the steps needed, above the budget; or refusal 11.
+pub(crate) enum Planned {
+    Steps(u32, f64),
+    OverCap(f64),
+    Refused,
+}
+
+// The largest row sum.
+fn norm_of(diag_s: &[f64], eta: f64, left: &[f64], right: &[f64]) -> f64
+    requires { ⌜ (length (now left) ≡ length (now «diag_s»)) × (length (now right) ≡ length (now «diag_s»)) ⌝ }
+    ensures { λ r. ⌜ r ≡ norm (fixedOver (length (now («diag_s» .entry))) (now («diag_s» .entry)) eta) (now (left .entry)) (now (right .entry)) ⌝ }
+{
+    let mut norm = 0.0;
+    let mut i: usize = 0;
+    while i < diag_s.len() {
+        let sum = diag_s[i] + eta * (left[i] + right[i]);
+        if norm < sum {
+            norm = sum;
+        }
+        i += 1;
+    }
+    norm
+}
+
+// The steps for a norm times a time: half of that rounded up, at least 1.0.
+fn steps_needed(size: f64) -> f64
+    ensures { λ r. ⌜ r ≡ needed size ⌝ }
+{
+    let up = crate::reals::ceil_or_nan(size / STEP_NORM);
+    if up < 1.0 { 1.0 } else { up }
+}
+
+// The plan for a norm times a time that is finite and positive.
+fn plan_for(size: f64, tau: f64, budget: u32) -> Planned
+    ensures { λ r. ⌜ r ≡ planFor size tau budget ⌝ }
+{
+    let need = steps_needed(size);
+    if need <= (budget as f64) {
+        let steps: u64 = std::num::truncating_f64_to_u64(need);
+        return Planned::Steps(steps as u32, tau / need);
+    }
+    Planned::OverCap(need)
+}
+
+// The plan for tau, with so many steps of the budget left.
+pub(crate) fn plan(
+    tau: f64,
+    diag_s: &[f64],
+    eta: f64,
+    left: &[f64],
+    right: &[f64],
+    budget: u32,
+) -> Planned
+    requires { ⌜ (length (now left) ≡ length (now «diag_s»)) × (length (now right) ≡ length (now «diag_s»)) ⌝ }
+    ensures { λ r. ⌜ r ≡ planOf (fixedOver (length (now («diag_s» .entry))) (now («diag_s» .entry)) eta) budget (now (left .entry)) (now (right .entry)) tau ⌝ }
+{
+    let size = tau * norm_of(diag_s, eta, left, right);
+    if elementary::is_positive_finite(size) {
+        return plan_for(size, tau, budget);
+    }
+    Planned::Refused
+}
