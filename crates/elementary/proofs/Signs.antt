@@ -299,3 +299,10 @@ finite-test f nan = refl
 finite-test f (inf true) = refl
 finite-test f (inf false) = refl
 finite-test f (fin s m e) = rw (less-itself f s (m * up e * down e) (down e * down e), round-zero f false (down e * down e) (mul-pos (down-pos e) (down-pos e))) (eq-zero f)
+
+-- ---- what equals itself is no NaN
+pub equal-no-nan : (x : Float) → eq x x ≡ true → T (not (isNan x))
+unfolding eq isNan
+equal-no-nan nan h = subst T (sym h) tt
+equal-no-nan (inf s) h = tt
+equal-no-nan (fin s m e) h = tt

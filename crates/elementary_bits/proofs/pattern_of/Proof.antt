@@ -1,20 +1,11 @@
 -- `elementary_bits::pattern_of` is safe: a NaN does not equal itself. Assumes nothing.
-use mathlib.Core.Path.{sym, subst}
-use mathlib.Core.Bool.{not}
 use borrow.Author.Needs.{needs}
-use lib.Dec.{T}
-use lib.Ieee.{Float, nan, inf, fin, eq, isNan}
+use Rattle.elementary.proofs.Signs.{equal-no-nan}
 use Rattle.elementary_bits.proofs.pattern_of.Statement.{statement}
 use Rattle.elementary_bits.proofs.pattern_of.Tie as tie
 
-is-no-nan : (x : Float) → T (eq x x) → T (not (isNan x))
-unfolding eq isNan
-is-no-nan nan h = h
-is-no-nan (inf s) h = tt
-is-no-nan (fin s m e) h = tt
-
 float-to-bits-result : tie.Need-float-to-bits-result
-float-to-bits-result c = is-no-nan (c .before .args .x) (subst T (sym (c .if1 .taken)) tt)
+float-to-bits-result c = equal-no-nan (c .before .args .x) (c .if1 .taken)
 
 returns : tie.Need-returns
 returns c = search needs
