@@ -1,0 +1,28 @@
+-- The table of cases, every row of it reckoned out by the definitions. Assumes nothing.
+use mathlib.Core.Path.{refl}
+use lib.Ieee.{sub, mul, div, le, ofInt, ofBits, toSigned, toUnsigned}
+use Rattle.elementary.specs.Float.{finite, positive, count}
+use Rattle.elementary.specs.Reply.{given}
+use Rattle.elementary.specs.Elementary.{horner, mantissa, exponent, odds, lnSum, lnSeries, lnJoin, lnParts, lnHalved, lnOf, LN, ln1pOf, LN1P, factorials, expSum, expN, expRest, expBy, expOf, EXP, ceilOf, CEIL, orNan}
+use Rattle.vector.specs.Vectors.{from, everyFrom, fold, larger}
+use Rattle.vector.specs.Series.{diagonalAt, leftAt, rightAt}
+use Rattle.vector.specs.Run.{norm, needed, start, begin, runOn, fixed, runFor, run}
+use Rattle.vector.specs.Distances.{padded, vectorOf, place, distance, bidAt, askAt, fine, sides, exactAt, withVector, answerBy, entryIf, floatsOk, floatEntry}
+use Rattle.quote.specs.Configuration.{amountOk, timeOk, above0, toFloat, configLimits, configOk, configIf, newConfig}
+use Rattle.quote.specs.Model.{lots, holdingOk, marketOk, modelBy, modelFrom, modelOf, modelOk, tauOf, modelIf, modelLimits, newModel}
+use Rattle.quote.specs.Rounding.{rounded, billionths}
+use Rattle.quote.specs.Quotes.{side, halfUp, widening, bidPrice, askPrice, each, inOrder, judgeIf, judge, quotesBy, buildQuotes, exactFrom, exactIf, exactAnswer, closedFrom, closedAnswer, withSteps, exactBy, exactQuotes, wrapped, optimalQuotes, closedBy, closedFormQuotes}
+use Rattle.quote.specs.Cases.{ofConfig, ofModel, ofExact, ofOptimal, ofClosed, ofAnswer, ofFloats, reckonedFrom, ofTurn, reply, configurationCases, holdingCases, vectorCases, quoteCases, table, Cases}
+
+-- the definitions that a row is reckoned with, crate by crate
+pub cases : Cases
+unfolding
+    sub mul div le ofInt ofBits toSigned toUnsigned
+    finite positive count given horner mantissa exponent odds lnSum lnSeries lnJoin lnParts lnHalved lnOf LN ln1pOf LN1P factorials expSum expN expRest expBy expOf EXP ceilOf CEIL
+    from everyFrom fold larger orNan diagonalAt leftAt rightAt norm needed start begin runOn fixed runFor run
+    padded vectorOf place distance bidAt askAt fine sides exactAt withVector answerBy entryIf floatsOk floatEntry
+    amountOk timeOk above0 toFloat configLimits configOk configIf newConfig lots holdingOk marketOk modelBy modelFrom modelOf modelOk tauOf modelIf modelLimits newModel
+    rounded billionths side halfUp widening bidPrice askPrice each inOrder judgeIf judge quotesBy buildQuotes
+    exactFrom exactIf exactAnswer closedFrom closedAnswer withSteps exactBy exactQuotes wrapped optimalQuotes closedBy closedFormQuotes
+    ofConfig ofModel ofExact ofOptimal ofClosed ofAnswer ofFloats reckonedFrom ofTurn reply configurationCases holdingCases vectorCases quoteCases table
+cases = refl

@@ -1,0 +1,12 @@
+pub mod Signed
+pub mod Passed
+pub mod Mirrors
+pub mod Pairs
+pub mod Refusing
+pub mod Nearest
+pub mod Cases
+pub mod Limits
+pub mod Sizes
+pub mod Building
+pub mod Words
+pub mod Billionths

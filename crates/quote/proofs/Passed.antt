@@ -1,0 +1,118 @@
+-- The checks of numbers either stop a call or all pass, and what it says that they pass. Assumes nothing.
+use mathlib.Core.Path.{_≡_, refl, subst}
+use Prim.Native.Nat.{ℕ, _-_, _^_, _≤_}
+use native.Mathlib.Nat.{le-trans, sub-le}
+use mathlib.Core.Bool.{Bool, true, false, _&&_, and-eq-true-iff}
+use borrow.Author.Tests.{leb-true}
+use lib.IntN.{ℤ, pos, natAbs}
+use lib.Signed.{leZ, remZ}
+use lib.Dec.{T, leb, ltb, eqb, lit≤}
+use lib.Ieee.{Float, nan, inf, fin, binary64, le, lt, ofInt, ofBits, fits}
+use lib.Ieee.Fits.{round-fits}
+use lib.Ieee.Bits.{is-true}
+use lib.Ieee.Exact.{HasValue}
+use Rattle.elementary.specs.Float.{_⊘_, whole, finite, positive}
+use Rattle.elementary.proofs.Signs.{nonneg}
+use Rattle.elementary.proofs.Exact.{whole-value, div-one-f}
+use Rattle.elementary.proofs.Order.{round-nonneg, div-nonneg, div-number, div-anti, finite-below}
+use Rattle.vector.specs.Run.{largestBound, boundOk}
+use Rattle.vector.specs.Distances.{floatsOk}
+use Rattle.quote.specs.Configuration.{amountOk, timeLimit, timeOk, above0, configLimits, configOk}
+use Rattle.quote.specs.Model.{lots, holdingOk, modelIf, modelOk, modelLimits, tauOf}
+use Rattle.quote.specs.Promises.{Checked, by-2, by-1, by-3, by-4, by-5}
+use Rattle.quote.specs.declared.GLFTConfig.{GLFTConfig}
+use Rattle.quote.specs.declared.Model.{Model}
+use Rattle.quote.specs.declared.ModelAnswer.{ModelAnswer}
+use Rattle.quote.specs.declared.ModelAnswer.the-variants.{Model as Made, Refused}
+
+-- ---- the tests for 2, 1, 3, 4 and 5, in this order
+pub data Outcome (l v m h f : Bool) (b : Model) (q : ℤ) : ModelAnswer → Type 0 where
+  stopped : {n : ℕ} → Checked l v m h f n → Outcome l v m h f b q (Refused n)
+  passed : l ≡ true → v ≡ true → h ≡ true → f ≡ true → Outcome l v m h f b q (Made b q)
+
+pub outcome : (l v m h f : Bool) (b : Model) (q : ℤ) → Outcome l v m h f b q (modelIf l v m h f b q)
+unfolding modelIf
+outcome false v m h f b q = stopped by-2
+outcome true false m h f b q = stopped by-1
+outcome true true false h f b q = stopped by-3
+outcome true true true false f b q = stopped by-4
+outcome true true true true false b q = stopped by-5
+outcome true true true true true b q = passed refl refl refl refl
+
+pub stops : {l v m h f : Bool} {n : ℕ} (b : Model) (q : ℤ) → Checked l v m h f n → modelIf l v m h f b q ≡ Refused n
+unfolding modelIf
+stops b q by-2 = refl
+stops b q by-1 = refl
+stops b q by-3 = refl
+stops b q by-4 = refl
+stops b q by-5 = refl
+
+-- ---- the bound is one of 1 to 200, and the lots are within it
+pub bound-passed : (c : GLFTConfig) → configOk c ≡ true → boundOk (c .«max_inventory_lots») ≡ true
+unfolding configOk
+bound-passed c e =
+    let p = above0 (c .«risk_aversion») && above0 (c .«order_intensity_k») && above0 (c .«intensity_scale_a») && above0 (c .«lot_size») in
+    let b = boundOk (c .«max_inventory_lots») in
+    let t = ltb 0 (c .«terminal_time») in
+    and-eq-true-iff p b .0 (and-eq-true-iff (p && b) t .0 (and-eq-true-iff (p && b && t) (leZ (pos 0) (c .«min_spread»)) .0 e .0) .0) .1
+
+pub lots-passed : (h : ℤ) (c : GLFTConfig) → holdingOk h c ≡ true → leb (natAbs (lots h c)) (c .«max_inventory_lots») ≡ true
+unfolding holdingOk
+lots-passed h c e = and-eq-true-iff (eqb (natAbs (remZ h (c .«lot_size»))) 0) (leb (natAbs (lots h c)) (c .«max_inventory_lots»)) .0 e .1
+
+pub few-lots : (h : ℤ) (c : GLFTConfig) → configOk c ≡ true → holdingOk h c ≡ true → natAbs (lots h c) ≤ largestBound
+few-lots h c v e =
+    let n = c .«max_inventory_lots» in
+    le-trans (leb-true (natAbs (lots h c)) n (lots-passed h c e)) (leb-true n largestBound (and-eq-true-iff (leb 1 n) (leb n largestBound) .0 (bound-passed c v) .1))
+
+-- ---- the floats are fine for the float entry
+finite-value : (x : Float) (s : Bool) (a c : ℕ) → HasValue x s a c → T (finite x)
+unfolding finite
+finite-value nan s a c v = absurd v
+finite-value (inf t) s a c v = absurd v
+finite-value (fin t m e) s a c v = tt
+
+one-positive : T (positive (whole (pos 1)))
+unfolding positive finite lt ofInt ofBits
+one-positive = tt
+
+-- divided by 1 or more
+quotient-finite : (x y : Float) → T (nonneg x) → T (finite x) → T (fits binary64 x) → T (nonneg y) → T (positive y) → T (le (whole (pos 1)) y) → T (finite (x ⊘ y))
+quotient-finite x y p t v q k h =
+    finite-below (x ⊘ y) x (div-nonneg binary64 x y p q (div-number binary64 x y p k))
+    (subst (λ (z : Float). T (le (x ⊘ y) z)) (div-one-f binary64 x v) (div-anti binary64 x (whole (pos 1)) y p t one-positive q h))
+    t
+
+-- a whole number that a float holds, in thousandths
+thousandths : (n : ℕ) → n ≤ 2 ^ 53 → T (finite (whole (pos n) ⊘ whole (pos 1000)))
+unfolding positive finite le lt ofInt ofBits
+thousandths n h =
+    quotient-finite (whole (pos n)) (whole (pos 1000)) (round-nonneg binary64 n 1) (finite-value (whole (pos n)) false n 1 (whole-value binary64 (pos n) h)) (round-fits binary64 false n 1) tt tt tt
+
+time-passed : (c : GLFTConfig) → configLimits c ≡ true → c .«terminal_time» ≤ timeLimit
+unfolding configLimits timeOk
+time-passed c e =
+    let p = amountOk (c .«risk_aversion») && amountOk (c .«order_intensity_k») && amountOk (c .«intensity_scale_a») && amountOk (c .«lot_size») && amountOk (c .«min_spread») in
+    leb-true (c .«terminal_time») timeLimit (and-eq-true-iff p (timeOk (c .«terminal_time»)) .0 e .1)
+
+pub tau-passed : (mid h : ℤ) (c : GLFTConfig) (vol : ℤ) (t : ℕ) → (timeOk t && modelLimits mid h c vol) ≡ true → finite (tauOf (c .«terminal_time») t) ≡ true
+unfolding modelLimits tauOf
+tau-passed mid h c vol t e =
+    let p = amountOk mid && amountOk h && amountOk vol in
+    let limits : configLimits c ≡ true = and-eq-true-iff p (configLimits c) .0 (and-eq-true-iff (timeOk t) (modelLimits mid h c vol) .0 e .1) .1 in
+    is-true (finite (tauOf (c .«terminal_time») t)) (thousandths (c .«terminal_time» - t) (le-trans (sub-le (c .«terminal_time») t) (le-trans (time-passed c limits) (lit≤ tt))))
+
+-- the model's tests, and tau's, without those of gamma, A and sigma²
+fewer : (k g a s x y z w : Bool) → (k && g && a && s && x && y && z) ≡ true → w ≡ true → (k && x && y && z && w) ≡ true
+fewer k g a s x y z w h e =
+    let u₁ = and-eq-true-iff (k && g && a && s && x && y) z .0 h in
+    let u₂ = and-eq-true-iff (k && g && a && s && x) y .0 (u₁ .0) in
+    let u₃ = and-eq-true-iff (k && g && a && s) x .0 (u₂ .0) in
+    let u₄ = and-eq-true-iff (k && g && a) s .0 (u₃ .0) in
+    let u₅ = and-eq-true-iff (k && g) a .0 (u₄ .0) in
+    let u₆ = and-eq-true-iff k g .0 (u₅ .0) in
+    rw (u₆ .0, u₃ .1, u₂ .1, u₁ .1, e)
+
+pub floats-passed : (m : Model) (tau : Float) → modelOk m ≡ true → finite tau ≡ true → floatsOk (m .k) (m .alpha) (m .eta) (m .base) tau ≡ true
+unfolding modelOk floatsOk
+floats-passed m tau f e = fewer (positive (m .k)) (positive (m .gamma)) (positive (m .a)) (positive (m .sigma2)) (positive (m .alpha)) (positive (m .eta)) (positive (m .base)) (finite tau) f e

@@ -1,0 +1,78 @@
+use mathlib.Core.Path.{_≡_, refl}
+use mir.Facts.{toZ-ofZ}
+use borrow.Author.Needs.{needs}
+use Rattle.quote.specs.Quotes.{Judged, quoted, refused, ofJudged, closedBy}
+use Rattle.quote.specs.Inner.{builtOf}
+use Rattle.quote.specs.declared.ClosedFormQuotes.{ClosedFormQuotes}
+use Rattle.quote.specs.declared.ClosedFormQuotes.the-variants as ClosedFormQuotes
+use Rattle.quote.specs.declared.quotes.Built.{Built}
+use Rattle.quote.specs.declared.quotes.Built.the-variants as Built
+use Rattle.quote.proofs.quotes.closed_of.Statement.{statement}
+use Rattle.quote.proofs.quotes.closed_of.Tie as tie
+
+-- the reply to what was built
+unfoldable reply : Built → ClosedFormQuotes
+reply (Built.Quotes q) = ClosedFormQuotes.Quotes q
+reply (Built.Refused r) = ClosedFormQuotes.Refused r
+
+reply-is : (j : Judged) → ofJudged j ≡ reply (builtOf j)
+unfolding reply ofJudged builtOf
+reply-is (quoted q) = refl
+reply-is (refused r) = refl
+
+closed-is : (c : tie.After-build-quotes) → let s = c .before .before .before .before in
+    closedBy (s .args .mid) (s .args .least) (s .args .answer) ≡ reply (c .build-quotes .result)
+unfolding closedBy
+closed-is c =
+    let a = c .before .before in
+    let s = a .before .before in
+    rw (a .answer .given .1, c .build-quotes .ensures, toZ-ofZ (s .fits .mid), toZ-ofZ (s .fits .least), reply-is)
+
+enum-known-answer : tie.Need-enum-known-answer
+enum-known-answer c = search needs
+
+build-quotes-requires : tie.Need-build-quotes-requires
+build-quotes-requires c κs = search needs
+
+enum-known-q : tie.Need-enum-known-q
+enum-known-q c = search needs
+
+enum-known-number : tie.Need-enum-known-number
+enum-known-number c = search needs
+
+enum-told : tie.Need-enum-told
+enum-told c = search needs
+
+enum-known-answer-2 : tie.Need-enum-known-answer-2
+enum-known-answer-2 c = search needs
+
+returns : tie.Need-returns
+unfolding reply
+returns c = rw (closed-is (c .before .before .before), c .before .q .given .1)
+
+returns-2 : tie.Need-returns-2
+unfolding reply
+returns-2 c = rw (closed-is (c .before .before .before), c .before .number .given .1)
+
+returns-3 : tie.Need-returns-3
+unfolding closedBy
+returns-3 c = rw (c .enum-told .given .1)
+
+returns-4 : tie.Need-returns-4
+unfolding closedBy
+returns-4 c = rw (c .before .answer2 .given .1)
+
+pub closed-of-spec : {M : Type 1} → statement M
+closed-of-spec =
+    tie.close
+    (tie.spec
+    enum-known-answer
+    build-quotes-requires
+    enum-known-q
+    enum-known-number
+    enum-told
+    enum-known-answer-2
+    returns
+    returns-2
+    returns-3
+    returns-4)

@@ -1,0 +1,52 @@
+use mathlib.Core.Path.{_≡_, refl}
+use Prim.Native.Nat.{zero, suc}
+use native.Mathlib.Omega.{arith}
+use mathlib.Core.Bool.{true, false}
+use lib.IntN.{ℤ, pos, negsuc, _+ℤ_}
+use lib.Signed.{ltZ, quotZ}
+use mir.Syntax.{w64}
+use mir.Val.{SFits}
+use mir.Facts.{toZ-ofZ}
+use borrow.Author.Tests.{ltb-false}
+use Rattle.quote.specs.Quotes.{halfUp}
+use Rattle.quote.proofs.Sizes.{size-add, size-half, size-fits}
+use Rattle.quote.proofs.quotes.half_shortfall.Statement.{statement}
+use Rattle.quote.proofs.quotes.half_shortfall.Tie as tie
+
+-- the half, by whether there is a shortfall
+some : (z : ℤ) → ltZ (pos 0) z ≡ true → quotZ (z +ℤ pos 1) (pos 2) ≡ halfUp z
+unfolding halfUp
+some (pos n) h = refl
+some (negsuc n) h = cc
+
+none : (z : ℤ) → ltZ (pos 0) z ≡ false → pos 0 ≡ halfUp z
+unfolding halfUp
+none (pos zero) h = refl
+none (pos (suc n)) h = absurd (omega (arith, ltb-false 0 (suc n) h))
+none (negsuc n) h = refl
+
+sum-fits : (c : tie.Start) → SFits w64 (c .args .short +ℤ pos 1)
+sum-fits c = size-fits (c .args .short +ℤ pos 1) (omega (arith, size-add (c .args .short) (pos 1), c .pre))
+
+half-fits : (c : tie.Start) → SFits w64 (halfUp (c .args .short))
+half-fits c = size-fits (halfUp (c .args .short)) (omega (arith, size-half (c .args .short), c .pre))
+
+half-is : (c : tie.Then1) → quotZ (c .before .args .short +ℤ pos 1) (pos 2) ≡ halfUp (c .before .args .short)
+half-is c = some (c .before .args .short) (rw (toZ-ofZ (c .before .fits .short)) at (c .if1 .taken))
+
+add-result : tie.Need-add-result
+add-result c = rw (toZ-ofZ (c .before .fits .short)) (sum-fits (c .before))
+
+div-result : tie.Need-div-result
+div-result c =
+    (omega arith, rw (toZ-ofZ (c .before .fits .short), toZ-ofZ (sum-fits (c .before)), half-is c) (half-fits (c .before)))
+
+returns : tie.Need-returns
+returns c =
+    rw (toZ-ofZ (c .before .fits .short), toZ-ofZ (sum-fits (c .before)), half-is c, toZ-ofZ (half-fits (c .before)))
+
+returns-2 : tie.Need-returns-2
+returns-2 c = none (c .before .args .short) (rw (toZ-ofZ (c .before .fits .short)) at (c .if1 .left))
+
+pub half-shortfall-spec : {M : Type 1} → statement M
+half-shortfall-spec = tie.close (tie.spec add-result div-result returns returns-2)

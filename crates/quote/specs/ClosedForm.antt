@@ -1,0 +1,42 @@
+-- Document 01, module 4: the distances of the closed form. Definitions only.
+use Prim.Native.Nat.{ℕ}
+use mathlib.Core.Bool.{Bool, true, false, _&&_}
+use lib.IntN.{ℤ, pos, negℤ}
+use lib.Signed.{ltZ}
+use lib.Ieee.{Float}
+use Rattle.elementary.specs.Float.{_⊕_, _⊖_, _⊗_, _⊘_, whole, 1ᶠ, 2ᶠ, positive}
+use Rattle.elementary.specs.Elementary.{LN1P, EXP, SQRT, orNan}
+use Rattle.vector.specs.Refusals.{numerical}
+use Rattle.vector.specs.Distances.{fine, sides}
+use Rattle.vector.specs.declared.Distance.{Distance}
+use Rattle.vector.specs.declared.Distance.the-variants.{At, Absent}
+use Rattle.vector.specs.declared.Answer.{Answer}
+use Rattle.vector.specs.declared.Answer.the-variants as Answer
+use Rattle.quote.specs.declared.Model.{Model}
+
+-- the slope c; a NaN where an elementary function refuses
+unfoldable pub slope : Model → Float
+slope m =
+    let growth = orNan (EXP ((1ᶠ ⊕ m .k ⊘ m .gamma) ⊗ orNan (LN1P (m .gamma ⊘ m .k)))) in
+    orNan (SQRT (m .sigma2 ⊗ m .gamma ⊘ (2ᶠ ⊗ m .k ⊗ m .a) ⊗ growth))
+
+-- base + ((2q + 1)/2) × c, where a bid is allowed
+unfoldable pub formBid : Bool → Float → Float → Float → Distance
+formBid false base c q = Absent
+formBid true base c q = At (base ⊕ (2ᶠ ⊗ q ⊕ 1ᶠ) ⊘ 2ᶠ ⊗ c)
+
+-- base - ((2q - 1)/2) × c, where an ask is
+unfoldable pub formAsk : Bool → Float → Float → Float → Distance
+formAsk false base c q = Absent
+formAsk true base c q = At (base ⊖ (2ᶠ ⊗ q ⊖ 1ᶠ) ⊘ 2ᶠ ⊗ c)
+
+-- is the slope finite and positive, or 11
+unfoldable pub formIf : Bool → Float → Model → ℤ → Answer
+formIf false c m q = Answer.Refused numerical
+formIf true c m q =
+    let b = formBid (ltZ q (pos (m .«q_max»))) (m .base) c (whole q) in
+    let a = formAsk (ltZ (negℤ (pos (m .«q_max»))) q) (m .base) c (whole q) in
+    sides (fine b && fine a) b a 0
+
+unfoldable pub closedFormDistances : Model → ℤ → Answer
+closedFormDistances m q = formIf (positive (slope m)) (slope m) m q

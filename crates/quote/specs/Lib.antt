@@ -1,0 +1,9 @@
+pub mod Refusals
+pub mod Configuration
+pub mod Model
+pub mod ClosedForm
+pub mod Rounding
+pub mod Quotes
+pub mod Inner
+pub mod Promises
+pub mod Cases

@@ -1,0 +1,119 @@
+-- The buyer's first and third demands for the entries of this layer, as named statements. Each is proved once, in proofs/. Definitions only.
+use mathlib.Core.Path.{_≡_}
+use Prim.Native.Nat.{ℕ, _≤_}
+use mathlib.Core.Bool.{Bool, true, false, _&&_}
+use mathlib.Core.Logic.{_⊎_, _↔_}
+use lib.IntN.{ℤ, pos, negsuc, negℤ, natAbs, _+ℤ_}
+use lib.Ieee.{Float}
+use Rattle.elementary.specs.Elementary.{outside}
+use Rattle.vector.specs.Refusals.{configuration, holding, numerical}
+use Rattle.vector.specs.Run.{cap}
+use Rattle.vector.specs.Promises.{exchanged}
+use Rattle.vector.specs.declared.Distance.{Distance}
+use Rattle.vector.specs.declared.Answer.{Answer}
+use Rattle.vector.specs.declared.Answer.the-variants as Answer
+use Rattle.quote.specs.Refusals.{limits, market, capped, beyond, crossed}
+use Rattle.quote.specs.Configuration.{amountOk, above0, timeOk, configLimits, configOk}
+use Rattle.quote.specs.Model.{lots, modelLimits, marketOk, holdingOk, modelOk, modelOf, tauOf}
+use Rattle.quote.specs.ClosedForm.{closedFormDistances}
+use Rattle.quote.specs.Quotes.{side, widening, bidPrice, askPrice, each, inOrder, exactAnswer, closedAnswer, exactSteps, exactQuotes, optimalQuotes, closedFormQuotes}
+use Rattle.quote.specs.declared.GLFTConfig.{GLFTConfig}
+use Rattle.quote.specs.declared.Price.{Price}
+use Rattle.quote.specs.declared.Price.the-variants.{At, Absent}
+use Rattle.quote.specs.declared.GlftQuotes.{GlftQuotes}
+use Rattle.quote.specs.declared.ExactQuotes.{ExactQuotes}
+use Rattle.quote.specs.declared.ExactQuotes.the-variants as Exact
+use Rattle.quote.specs.declared.OptimalQuotes.{OptimalQuotes}
+use Rattle.quote.specs.declared.OptimalQuotes.the-variants as Optimal
+use Rattle.quote.specs.declared.ClosedFormQuotes.{ClosedFormQuotes}
+use Rattle.quote.specs.declared.ClosedFormQuotes.the-variants as Closed
+
+-- ==== Demand 3: two calls of one entry, alike in all but the holding, which the second has with the other sign.
+-- The opposite of a 64-bit holding is a number of ℤ always, so nothing is asked here; where 64 bits hold it, there is a second call.
+
+-- ---- (a) before prices: the same report or refusal, or the distances exchanged bit for bit, an absent side facing an absent one; the defined run's
+-- steps agree, under a refusal too, and are at most 11,000
+abbrev pub ExactMirror : Type 0
+ExactMirror = (mid h : ℤ) (c : GLFTConfig) (vol : ℤ) (t : ℕ)
+    → (exactAnswer mid (negℤ h) c vol t ≡ exchanged (exactAnswer mid h c vol t)) × (exactSteps mid (negℤ h) c vol t ≡ exactSteps mid h c vol t) × (exactSteps mid h c vol t ≤ cap)
+
+abbrev pub ClosedMirror : Type 0
+ClosedMirror = (mid h : ℤ) (c : GLFTConfig) (vol : ℤ) → closedAnswer mid (negℤ h) c vol ≡ exchanged (closedAnswer mid h c vol)
+
+-- ---- (b) prices that face each other: both absent, or adding up to exactly twice the mid
+unfoldable pub Facing : ℤ → Price → Price → Type 0
+Facing mid Absent Absent = Unit {0}
+Facing mid Absent (At a) = ⊥
+Facing mid (At b) Absent = ⊥
+Facing mid (At b) (At a) = b +ℤ a ≡ mid +ℤ mid
+
+-- the bid of each call faces the ask of the other: this covers every q from minus the bound to one below it, widened or not
+pub record Pair (mid : ℤ) (q q′ : GlftQuotes) : Type 0 where
+  pub bid : Facing mid (q .bid) (q′ .ask)
+  pub ask : Facing mid (q′ .bid) (q .ask)
+
+-- Quotes may be refused at one sign alone: 13 and 14 look at prices, and prices are not exchanged. With mid 9 × 10^15 billionths, tau 0 and bound 1,
+-- the holding of 1 lot has an ask alone, above the limit: 13; minus 1 lot has a bid alone, which is fine.
+abbrev pub ExactPairs : Type 0
+ExactPairs = (mid h : ℤ) (c : GLFTConfig) (vol : ℤ) (t : ℕ) (q q′ : GlftQuotes) (s s′ : ℕ)
+    → exactQuotes mid h c vol t ≡ Exact.Quotes q s → exactQuotes mid (negℤ h) c vol t ≡ Exact.Quotes q′ s′ → Pair mid q q′ × (s ≡ s′) × (s ≡ exactSteps mid h c vol t)
+
+-- ---- (c) the wrapper, and the closed form
+abbrev pub OptimalPairs : Type 0
+OptimalPairs = (mid h : ℤ) (c : GLFTConfig) (vol : ℤ) (t : ℕ) (q q′ : GlftQuotes) (s s′ : ℕ)
+    → optimalQuotes mid h c vol t ≡ Optimal.Quotes q s → optimalQuotes mid (negℤ h) c vol t ≡ Optimal.Quotes q′ s′ → Pair mid q q′ × (s ≡ s′) × (s ≡ exactSteps mid h c vol t)
+
+abbrev pub ClosedPairs : Type 0
+ClosedPairs = (mid h : ℤ) (c : GLFTConfig) (vol : ℤ) (q q′ : GlftQuotes)
+    → closedFormQuotes mid h c vol ≡ Closed.Quotes q → closedFormQuotes mid (negℤ h) c vol ≡ Closed.Quotes q′ → Pair mid q q′
+
+-- ==== Demand 1: each refusal is the reply in just the situation that document 01 names
+
+-- the numbers' checks, in order: the situation of 2, 1, 3, 4 and 5, each where none before it holds
+pub data Checked : Bool → Bool → Bool → Bool → Bool → ℕ → Type 0 where
+  by-2 : {v m h f : Bool} → Checked false v m h f limits
+  by-1 : {m h f : Bool} → Checked true false m h f configuration
+  by-3 : {h f : Bool} → Checked true true false h f market
+  by-4 : {f : Bool} → Checked true true true false f holding
+  by-5 : Checked true true true true false outside
+
+abbrev pub ExactChecked : ℤ → ℤ → GLFTConfig → ℤ → ℕ → ℕ → Type 0
+ExactChecked mid h c vol t n = Checked (timeOk t && modelLimits mid h c vol) (configOk c) (marketOk mid vol) (holdingOk h c) (modelOk (modelOf c vol)) n
+
+abbrev pub ClosedChecked : ℤ → ℤ → GLFTConfig → ℤ → ℕ → Type 0
+ClosedChecked mid h c vol n = Checked (modelLimits mid h c vol) (configOk c) (marketOk mid vol) (holdingOk h c) (modelOk (modelOf c vol)) n
+
+-- prices from an answer: 13 where a rounded distance or a price in its last form is beyond the limit; 14 where that is not so and a price is not positive or
+-- bid is not below ask
+abbrev pub Within : ℤ → ℤ → Distance → Distance → Bool
+Within mid least b a =
+    let w = widening least (side b) (side a) in
+    each amountOk (side b) && each amountOk (side a) && each amountOk (bidPrice mid w (side b)) && each amountOk (askPrice mid w (side a))
+
+abbrev pub Ordered : ℤ → ℤ → Distance → Distance → Bool
+Ordered mid least b a =
+    let w = widening least (side b) (side a) in
+    each above0 (bidPrice mid w (side b)) && each above0 (askPrice mid w (side a)) && inOrder (bidPrice mid w (side b)) (askPrice mid w (side a))
+
+pub data Priced (mid least : ℤ) : Answer → ℕ → Type 0 where
+  by-13 : {b a : Distance} {s : ℕ} → Within mid least b a ≡ false → Priced mid least (Answer.Distances b a s) beyond
+  by-14 : {b a : Distance} {s : ℕ} → Within mid least b a ≡ true → Ordered mid least b a ≡ false → Priced mid least (Answer.Distances b a s) crossed
+
+-- exact_quotes refuses by n exactly where the checks do, where the reckoning ends in 11 after them, or where the prices do
+abbrev pub ExactRefused : ℤ → ℤ → GLFTConfig → ℤ → ℕ → ℕ → Type 0
+ExactRefused mid h c vol t n =
+    ExactChecked mid h c vol t n ⊎ (((n ≡ numerical) × (exactAnswer mid h c vol t ≡ Answer.Refused numerical)) ⊎ Priced mid (c .«min_spread») (exactAnswer mid h c vol t) n)
+
+abbrev pub ExactRefusals : Type 0
+ExactRefusals = (mid h : ℤ) (c : GLFTConfig) (vol : ℤ) (t n : ℕ) → (exactQuotes mid h c vol t ≡ Exact.Refused n) ↔ ExactRefused mid h c vol t n
+
+-- the wrapper refuses where exact_quotes does, and by 12 just where that reports the cap
+abbrev pub OptimalRefusals : Type 0
+OptimalRefusals = (mid h : ℤ) (c : GLFTConfig) (vol : ℤ) (t n : ℕ)
+    → (optimalQuotes mid h c vol t ≡ Optimal.Refused n)
+    ↔ ((exactQuotes mid h c vol t ≡ Exact.Refused n) ⊎ ((n ≡ capped) × ((need : Float) × (b : ℕ) × (s : ℕ) × (exactQuotes mid h c vol t ≡ Exact.OverStepCap need b s))))
+
+abbrev pub ClosedRefusals : Type 0
+ClosedRefusals = (mid h : ℤ) (c : GLFTConfig) (vol : ℤ) (n : ℕ)
+    → (closedFormQuotes mid h c vol ≡ Closed.Refused n)
+    ↔ (ClosedChecked mid h c vol n ⊎ (((n ≡ numerical) × (closedAnswer mid h c vol ≡ Answer.Refused numerical)) ⊎ Priced mid (c .«min_spread») (closedAnswer mid h c vol) n))
