@@ -2,17 +2,17 @@
 -- So its leading digits are all that it has, and floats lie no closer than on a grid. Assumes nothing.
 use mathlib.Core.Path.{_≡_, refl, sym, ap, _∙_, subst}
 use mathlib.Core.Logic.{_⊎_, inl, inr}
-use Prim.Native.Nat.{ℕ, zero, suc, _+_, _-_, _*_, _/_, _%_, _^_, _≤_, _<_}
-use native.Mathlib.Nat.{le-trans, le-of-eq, le-of-suc-le-suc, lt-of-lt-of-le, lt-of-not-le, not-le-of-lt, le-of-lt, add-zero, add-comm, zero-mul, mul-one, mul-comm, mul-assoc, mul-right-comm, mul-le-mul-right, mul-lt-mul-of-pos-right, lt-of-mul-lt-mul-right, mul-pos, zero-lt-suc, le-div-iff-mul-le, div-lt-iff-lt-mul, pow-suc, mul-div-cancel, div-one, zero-div}
+use Prim.Native.Nat.{ℕ, suc, _+_, _-_, _*_, _/_, _^_, _≤_, _<_}
+use native.Mathlib.Nat.{le-trans, le-of-eq, le-of-suc-le-suc, lt-of-lt-of-le, not-le-of-lt, le-of-lt, add-zero, zero-mul, mul-one, mul-assoc, mul-le-mul-right, lt-of-mul-lt-mul-right, mul-pos, zero-lt-suc, mul-div-cancel, zero-div}
 use native.Mathlib.Numerals.{add-one}
 use native.Mathlib.Omega.{arith}
-use mathlib.Core.Bool.{Bool, true, false, not, _&&_}
-use lib.IntN.{ℤ, pos, negsuc}
-use lib.Dec.{T, leb, ltb, eqb, leb→le, nleb→lt, ltb→lt}
-use lib.Pow.{pow-add, pow-pos, pow-mono, pow-lt, shl-lt}
-use lib.Ieee.{Float, nan, inf, fin, Format, binary64, prec, emax, low, up, down, size, fits}
-use lib.Ieee.Digits.{size-lt, size-le, size-reaches}
-use lib.Ieee.Fits.{and-l, and-r, down-pos}
+use mathlib.Core.Bool.{Bool, true, false, not}
+use lib.IntN.{ℤ}
+use lib.Dec.{T, leb, leb→le, nleb→lt}
+use lib.Pow.{pow-add, pow-pos, pow-mono, shl-lt}
+use lib.Ieee.{Float, nan, inf, fin, Format, prec, low, down, size, fits}
+use lib.Ieee.Digits.{size-le}
+use lib.Ieee.Fits.{down-pos}
 use lib.Ieee.Exact.{HasValue}
 use Rattle.elementary.specs.Float.{count}
 use Rattle.elementary.specs.Inner.{leading, SplitOf}

@@ -1,19 +1,16 @@
 -- The order of the values that are `nonneg`: it is total, and the operations, the count of units and the cast to an unsigned integer keep it.
 -- Rounding gives back a value that the format holds, so a sum is no smaller than such an operand. Infinities, zeros and subnormal values are included. Assumes nothing.
-use mathlib.Core.Path.{_≡_, refl, sym, ap, _∙_, subst}
-use Prim.Native.Nat.{ℕ, zero, suc, _+_, _-_, _*_, _/_, _%_, _^_, _≤_, _<_, suc-le-suc}
-use native.Mathlib.Nat.{le-refl, le-trans, le-of-eq, le-of-lt, sub-le, lt-of-lt-of-le, mul-le-mul-right, mul-le-mul, mul-pos, lt-of-mul-lt-mul-right, mul-lt-mul-of-pos-right, lt-of-not-le, not-le-of-lt}
+use lib.Ieee.Nearest.{div-mono as div-le}
+use mathlib.Core.Path.{_≡_, refl, sym, subst}
+use Prim.Native.Nat.{ℕ, zero, suc, _+_, _-_, _*_, _^_, _≤_, _<_}
+use native.Mathlib.Nat.{le-refl, le-trans, le-of-eq, le-of-lt, sub-le, lt-of-lt-of-le, mul-le-mul-right, mul-le-mul, mul-pos}
 use native.Mathlib.Omega.{arith}
 use mathlib.Core.Bool.{Bool, true, false, not, _&&_, _||_, cond, true≢false}
 use borrow.Author.Tests.{ltb-false, le-ltb, ne-eqb}
-use lib.IntN.{ℤ, pos, negsuc}
-use lib.Dec.{T, leb, ltb, eqb, leb→le, ltb→lt, eqb→eq}
-use lib.Pow.{pow-add, pow-pos, pow-lt}
-use lib.Ieee.{Float, nan, inf, fin, Format, prec, emax, low, up, down, unlike, odd, units, round, add, sub, mul, div, lt, eq, le, size, top, hid, ofBits, toBits, toUnsigned, fits, isNan}
-use lib.Ieee.Fits.{up-pos, down-pos, round-is, round-fits, and-l, and-r}
-use lib.Ieee.Bits.{ofBits-toBits}
-use lib.Ieee.Exact.{HasValue, round-exact}
-use lib.Ieee.Nearest.{div-same, div-mono as div-le}
+use lib.IntN.{ℤ, pos}
+use lib.Dec.{T, ltb, eqb, ltb→lt, eqb→eq}
+use lib.Ieee.{Float, nan, inf, fin, Format, prec, emax, low, up, down, unlike, odd, units, round, add, sub, mul, div, lt, eq, le, ofBits, toUnsigned, fits, isNan}
+use lib.Ieee.Fits.{up-pos, down-pos, round-is, and-l, and-r}
 use lib.Ieee.Order.{le-of-values, round-mono}
 use lib.Ieee.Positive.{through, first-pos}
 use Rattle.elementary.specs.Float.{finite, positive, count}

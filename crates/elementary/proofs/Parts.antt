@@ -1,21 +1,21 @@
 -- A positive float's parts, as its bits have them: the 53 leading digits of its count and how many digits that has. Assumes nothing.
-use mathlib.Core.Path.{_≡_, refl, sym, ap, _∙_, subst}
-use Prim.Native.Nat.{ℕ, zero, suc, _+_, _-_, _*_, _/_, _%_, _^_, _≤_, _<_}
-use native.Mathlib.Nat.{le-trans, le-of-eq, le-of-lt, lt-of-lt-of-le, lt-of-le-of-lt, mul-le-mul-right, mul-comm, mul-assoc, mul-one, mul-right-comm, mul-lt-mul-of-pos-right, mul-pos, pow-succ', sub-le, add-sub-cancel, zero-lt-suc, mul-div-cancel, le-add-left}
+use mathlib.Core.Path.{_≡_, sym, ap, _∙_, subst}
+use Prim.Native.Nat.{ℕ, _+_, _-_, _*_, _/_, _%_, _^_, _≤_, _<_}
+use native.Mathlib.Nat.{le-trans, le-of-eq, le-of-lt, lt-of-lt-of-le, lt-of-le-of-lt, mul-le-mul-right, mul-comm, mul-assoc, mul-one, mul-right-comm, mul-lt-mul-of-pos-right, mul-pos, sub-le, add-sub-cancel, zero-lt-suc, mul-div-cancel, le-add-left}
 use native.Mathlib.Omega.{arith}
-use mathlib.Core.Bool.{Bool, true, false, not}
-use lib.IntN.{ℤ, pos, negsuc}
+use mathlib.Core.Bool.{true, false, not}
+use lib.IntN.{ℤ, negsuc}
 use lib.Dec.{T, ltb, lit≤, lit<}
-use lib.Pow.{pow-pos, pow-add, pow-mono}
+use lib.Pow.{pow-pos, pow-add}
 use borrow.Author.Tests.{ltb-true, ltb-false}
 use lib.Ieee.{Float, nan, inf, fin, binary64, size, lt, mul, round, units, fits, isNan, toBits, ofBits, up, down}
-use lib.Ieee.Digits.{size-lt, size-le, size-reaches}
+use lib.Ieee.Digits.{size-le, size-reaches}
 use lib.Ieee.Fits.{down-pos}
 use lib.Ieee.Exact.{HasValue, round-exact, units-val}
 use lib.Ieee.Positive.{value-pos, positive-of-value}
 use Rattle.elementary.specs.Float.{count, finite, positive, hex, _⊗_}
 use Rattle.elementary.specs.Inner.{leading, SplitOf}
-use Rattle.elementary.proofs.Count.{size-pos, size-gt, size-lead, leading-low, leading-high, leading-cut, leading-shift, size-shift, count-value, count-of, count-exact, twice-pred, count-top, lt-count, positive-is}
+use Rattle.elementary.proofs.Count.{size-pos, size-gt, leading-low, leading-high, leading-cut, leading-shift, size-shift, count-value, count-of, count-exact, twice-pred, count-top, lt-count, positive-is}
 use Rattle.elementary.specs.Elementary.{mantissa}
 use Rattle.elementary.proofs.Exact.{rescale, round-value}
 use Rattle.elementary.proofs.Bits.{toBits-units, bits-of, units-fits}

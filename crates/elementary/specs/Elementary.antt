@@ -4,7 +4,7 @@ use mathlib.Core.Bool.{Bool, true, false, cond}
 use mathlib.Core.List.{List, [], _∷_}
 use lib.IntN.{ℤ, pos, negsuc, _+ℤ_}
 use lib.Dec.{leb}
-use lib.Ieee.{Float, nan, inf, fin, binary64, up, down, minus, size, neg, lt, round, toSigned}
+use lib.Ieee.{Float, nan, inf, fin, binary64, up, down, minus, size, lt, round, toSigned}
 use Rattle.elementary.specs.Float.{_⊕_, _⊖_, _⊗_, _⊘_, hex, whole, 0ᶠ, ½ᶠ, 1ᶠ, 2ᶠ, finite, positive, count}
 use Rattle.elementary.specs.Reply.{Reply, value, refusal, given}
 use Rattle.elementary.specs.declared.Real.{Real}

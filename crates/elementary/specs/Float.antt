@@ -1,7 +1,7 @@
 -- binary64 under short names: the operations, the constants, the tests that refusals use, and a value as a count of units. Definitions only.
 use Prim.Native.Nat.{ℕ, _*_, _/_, _^_}
 use mathlib.Core.Bool.{Bool, true, false, _&&_}
-use lib.IntN.{ℤ, pos}
+use lib.IntN.{ℤ}
 use lib.Ieee.{Float, nan, inf, fin, Format, binary64, low, up, down, add, sub, mul, div, lt, ofInt, ofBits}
 
 -- ---- one rounding each

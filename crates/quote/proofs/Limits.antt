@@ -1,4 +1,5 @@
 -- Amounts as the machine holds them, lots, and what a model says of the amounts that it comes from. Assumes nothing.
+use Rattle.quote.specs.declared.ModelAnswer.the-variants.{Model as Made}
 use mathlib.Core.Path.{_≡_, refl, sym, subst}
 use Prim.Native.Nat.{ℕ, zero, suc, _/_, _^_, _≤_, _<_}
 use native.Mathlib.Nat.{div-le-self, lt-of-le-of-lt}
@@ -18,7 +19,6 @@ use Rattle.quote.specs.Configuration.{amountOk, timeOk, above0, configLi
 use Rattle.quote.specs.Model.{lots, holdingOk, marketOk, modelOf, modelOk, modelIf, modelLimits, newModel}
 use Rattle.quote.specs.declared.GLFTConfig.{GLFTConfig}
 use Rattle.quote.specs.declared.Model.{Model}
-use Rattle.quote.specs.declared.ModelAnswer.the-variants.{Model as Made}
 
 -- ---- bits
 -- a field's bits are read back as its number

@@ -23,7 +23,7 @@ use Rattle.quote.specs.Promises.{Checked, by-2, by-1, by-3, by-4, by-5}
 use Rattle.quote.specs.declared.GLFTConfig.{GLFTConfig}
 use Rattle.quote.specs.declared.Model.{Model}
 use Rattle.quote.specs.declared.ModelAnswer.{ModelAnswer}
-use Rattle.quote.specs.declared.ModelAnswer.the-variants.{Model as Made, Refused}
+use Rattle.quote.specs.declared.ModelAnswer.the-variants.{Refused, Model as Made}
 
 -- ---- the tests for 2, 1, 3, 4 and 5, in this order
 pub data Outcome (l v m h f : Bool) (b : Model) (q : ℤ) : ModelAnswer → Type 0 where

@@ -26,7 +26,6 @@ use Rattle.quote.specs.declared.ModelAnswer.{ModelAnswer}
 use Rattle.quote.specs.declared.ModelAnswer.the-variants as ModelAnswer
 use Rattle.quote.specs.declared.Price.{Price}
 use Rattle.quote.specs.declared.Price.the-variants as Price
-use Rattle.quote.specs.declared.GlftQuotes.{GlftQuotes}
 use Rattle.quote.specs.declared.ExactQuotes.{ExactQuotes}
 use Rattle.quote.specs.declared.ExactQuotes.the-variants as ExactQuotes
 use Rattle.quote.specs.declared.OptimalQuotes.{OptimalQuotes}

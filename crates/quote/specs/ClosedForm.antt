@@ -1,5 +1,4 @@
 -- Document 01, module 4: the distances of the closed form. Definitions only.
-use Prim.Native.Nat.{ℕ}
 use mathlib.Core.Bool.{Bool, true, false, _&&_}
 use lib.IntN.{ℤ, pos, negℤ}
 use lib.Signed.{ltZ}

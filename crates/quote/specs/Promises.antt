@@ -3,7 +3,7 @@ use mathlib.Core.Path.{_≡_}
 use Prim.Native.Nat.{ℕ, _≤_}
 use mathlib.Core.Bool.{Bool, true, false, _&&_}
 use mathlib.Core.Logic.{_⊎_, _↔_}
-use lib.IntN.{ℤ, pos, negsuc, negℤ, natAbs, _+ℤ_}
+use lib.IntN.{ℤ, negℤ, _+ℤ_}
 use lib.Ieee.{Float}
 use Rattle.elementary.specs.Elementary.{outside}
 use Rattle.vector.specs.Refusals.{configuration, holding, numerical}
@@ -13,19 +13,15 @@ use Rattle.vector.specs.declared.Distance.{Distance}
 use Rattle.vector.specs.declared.Answer.{Answer}
 use Rattle.vector.specs.declared.Answer.the-variants as Answer
 use Rattle.quote.specs.Refusals.{limits, market, capped, beyond, crossed}
-use Rattle.quote.specs.Configuration.{amountOk, above0, timeOk, configLimits, configOk}
-use Rattle.quote.specs.Model.{lots, modelLimits, marketOk, holdingOk, modelOk, modelOf, tauOf}
-use Rattle.quote.specs.ClosedForm.{closedFormDistances}
+use Rattle.quote.specs.Configuration.{amountOk, above0, timeOk, configOk}
+use Rattle.quote.specs.Model.{modelLimits, marketOk, holdingOk, modelOk, modelOf}
 use Rattle.quote.specs.Quotes.{side, widening, bidPrice, askPrice, each, inOrder, exactAnswer, closedAnswer, exactSteps, exactQuotes, optimalQuotes, closedFormQuotes}
 use Rattle.quote.specs.declared.GLFTConfig.{GLFTConfig}
 use Rattle.quote.specs.declared.Price.{Price}
 use Rattle.quote.specs.declared.Price.the-variants.{At, Absent}
 use Rattle.quote.specs.declared.GlftQuotes.{GlftQuotes}
-use Rattle.quote.specs.declared.ExactQuotes.{ExactQuotes}
 use Rattle.quote.specs.declared.ExactQuotes.the-variants as Exact
-use Rattle.quote.specs.declared.OptimalQuotes.{OptimalQuotes}
 use Rattle.quote.specs.declared.OptimalQuotes.the-variants as Optimal
-use Rattle.quote.specs.declared.ClosedFormQuotes.{ClosedFormQuotes}
 use Rattle.quote.specs.declared.ClosedFormQuotes.the-variants as Closed
 
 -- ==== Demand 3: two calls of one entry, alike in all but the holding, which the second has with the other sign.

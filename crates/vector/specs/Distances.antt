@@ -1,10 +1,10 @@
 -- Document 01, module 4, its float side: the replies of the value vector, of the distances at one holding, and of the float entry. Definitions only.
-use Prim.Native.Nat.{ℕ, zero, suc, _+_, _-_, _*_, _/_}
+use Prim.Native.Nat.{ℕ, zero, suc, _+_, _-_, _/_}
 use mathlib.Core.Bool.{Bool, true, false, _&&_}
 use mathlib.Core.List.{List, _++_}
 use lib.IntN.{ℤ, pos, natAbs, _+ℤ_}
 use lib.Dec.{ltb, leb, eqb}
-use lib.Ieee.{Float, lt}
+use lib.Ieee.{Float}
 use Rattle.elementary.specs.Float.{_⊕_, _⊖_, _⊘_, 0ᶠ, finite, positive}
 use Rattle.elementary.specs.Elementary.{LN, outside, orNan}
 use Rattle.vector.specs.Refusals.{configuration, holding, numerical}

@@ -1,15 +1,15 @@
 -- What the crate's own functions hand each other. No public contract cites this file. Definitions only.
 use mathlib.Core.Path.{_≡_}
 use Prim.Native.Nat.{ℕ, _-_, _≤_}
-use mathlib.Core.Bool.{Bool, true, false, _&&_}
+use mathlib.Core.Bool.{Bool, true, false}
 use mathlib.Core.List.{List}
 use lib.IntN.{pos}
 use lib.ListN.{length}
 use lib.Ieee.{Float, inf, le, toUnsigned}
 use Rattle.elementary.specs.Float.{_⊗_, _⊘_, whole, finite, positive}
 use Rattle.elementary.specs.Reply.{Reply, value, refusal}
-use Rattle.vector.specs.Vectors.{tab, at, every, fold, smaller}
-use Rattle.vector.specs.Series.{Operator, plus, bothFinite, converged, leftAt, rightAt}
+use Rattle.vector.specs.Vectors.{tab, at, fold, smaller}
+use Rattle.vector.specs.Series.{Operator, plus, bothFinite, converged}
 use Rattle.vector.specs.Run.{Ended, vector, overCap, failed, Fixed, Going, Turn, going, ended, cap, norm, needed, divided}
 use Rattle.vector.specs.Distances.{blankVector, refusedVector}
 use Rattle.vector.specs.declared.ValueVector.{ValueVector}
@@ -18,7 +18,6 @@ use Rattle.vector.specs.declared.Outcome.{Outcome}
 use Rattle.vector.specs.declared.Outcome.the-variants as Outcome
 use Rattle.vector.specs.declared.plan.Planned.{Planned}
 use Rattle.vector.specs.declared.plan.Planned.the-variants as Planned
-use Rattle.vector.specs.declared.run.Pace.{Pace}
 use Rattle.vector.specs.declared.run.Progress.{Progress}
 use Rattle.vector.specs.declared.run.Progress.the-variants as Progress
 

@@ -1,6 +1,5 @@
 -- What holds of every run and of every reply of the float entry, as named statements. Each is proved once, in proofs/. Definitions only.
 use mathlib.Core.Path.{_≡_}
-use mathlib.Core.Logic.{_⊎_}
 use Prim.Native.Nat.{ℕ, suc, _+_, _-_, _≤_}
 use mathlib.Core.Bool.{Bool, true, false}
 use mathlib.Core.List.{List}
@@ -18,7 +17,6 @@ use Rattle.vector.specs.declared.Distance.{Distance}
 use Rattle.vector.specs.declared.Distance.the-variants.{At, Absent}
 use Rattle.vector.specs.declared.Answer.{Answer}
 use Rattle.vector.specs.declared.Answer.the-variants.{Distances, OverCap, Refused}
-use Rattle.vector.specs.declared.FloatAnswer.{FloatAnswer}
 
 -- ---- the steps: never more than 11,000, and in a cap report 11,000 less the budget left
 abbrev pub StepsWithin : Type 0

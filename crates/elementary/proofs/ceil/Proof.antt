@@ -1,5 +1,5 @@
-use mathlib.Core.Path.{_≡_, refl, sym, _∙_, subst}
-use mathlib.Core.Bool.{Bool, true, false}
+use mathlib.Core.Path.{_≡_, sym, _∙_, subst}
+use mathlib.Core.Bool.{true, false}
 use lib.Dec.{T}
 use Rattle.elementary.specs.Float.{finite}
 use Rattle.elementary.specs.Reply.{given}
@@ -7,27 +7,19 @@ use Rattle.elementary.specs.Elementary.{told, CEIL}
 use borrow.Author.Needs.{needs}
 use Rattle.elementary.proofs.ceil.Statement.{statement}
 use Rattle.elementary.proofs.ceil.Tie as tie
-use Rattle.elementary.proofs.ceil.Reads as reads
-use Rattle.elementary.proofs.ceil.Lts as lts
-use Rattle.elementary.proofs.ceiling.ceil_finite.Reads as ceil-finite-reads
-use Rattle.elementary.proofs.is_finite.Reads as is-finite-reads
 
--- src/lib.rt:83:8
 is-finite-requires : tie.Need-is-finite-requires
 is-finite-requires c κs = search needs
 
--- src/lib.rt:84:28
 ceil-finite-requires : tie.Need-ceil-finite-requires
 ceil-finite-requires c κs = subst T (sym (c .if1 .taken) ∙ c .before .is-finite .ensures) tt
 
--- src/lib.rt:84:9
 returns : tie.Need-returns
 unfolding told CEIL given
 returns c =
     let yes : finite (c .before .before .before .args .x) ≡ true = sym (c .before .before .is-finite .ensures) ∙ c .before .if1 .taken in
     rw (yes, c .ceil-finite .ensures)
 
--- src/lib.rt:80:1
 returns-2 : tie.Need-returns-2
 unfolding told CEIL given
 returns-2 c =

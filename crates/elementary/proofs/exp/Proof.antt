@@ -1,5 +1,5 @@
-use mathlib.Core.Path.{_≡_, refl, sym, _∙_, subst}
-use mathlib.Core.Bool.{Bool, true, false}
+use mathlib.Core.Path.{_≡_, sym, _∙_, subst}
+use mathlib.Core.Bool.{true, false}
 use lib.Dec.{T}
 use Rattle.elementary.specs.Float.{finite}
 use Rattle.elementary.specs.Reply.{given}
@@ -7,27 +7,19 @@ use Rattle.elementary.specs.Elementary.{told, EXP}
 use borrow.Author.Needs.{needs}
 use Rattle.elementary.proofs.exp.Statement.{statement}
 use Rattle.elementary.proofs.exp.Tie as tie
-use Rattle.elementary.proofs.exp.Reads as reads
-use Rattle.elementary.proofs.exp.Lts as lts
-use Rattle.elementary.proofs.exponential.exp_finite.Reads as exp-finite-reads
-use Rattle.elementary.proofs.is_finite.Reads as is-finite-reads
 
--- src/lib.rt:60:8
 is-finite-requires : tie.Need-is-finite-requires
 is-finite-requires c κs = search needs
 
--- src/lib.rt:61:28
 exp-finite-requires : tie.Need-exp-finite-requires
 exp-finite-requires c κs = subst T (sym (c .if1 .taken) ∙ c .before .is-finite .ensures) tt
 
--- src/lib.rt:61:9
 returns : tie.Need-returns
 unfolding told EXP given
 returns c =
     let yes : finite (c .before .before .before .args .x) ≡ true = sym (c .before .before .is-finite .ensures) ∙ c .before .if1 .taken in
     rw (yes, c .exp-finite .ensures)
 
--- src/lib.rt:57:1
 returns-2 : tie.Need-returns-2
 unfolding told EXP given
 returns-2 c =

@@ -2,10 +2,7 @@ use lib.Ieee.{binary64}
 use Rattle.elementary.proofs.Signs.{finite-test}
 use Rattle.elementary.proofs.is_finite.Statement.{statement}
 use Rattle.elementary.proofs.is_finite.Tie as tie
-use Rattle.elementary.proofs.is_finite.Reads as reads
-use Rattle.elementary.proofs.is_finite.Lts as lts
 
--- src/lib.rt:20:1
 returns : tie.Need-returns
 returns c = finite-test binary64 (c .args .x)
 

@@ -2,15 +2,10 @@ use Rattle.elementary.specs.Float.{positive}
 use borrow.Author.Needs.{needs}
 use Rattle.elementary.proofs.is_positive_finite.Statement.{statement}
 use Rattle.elementary.proofs.is_positive_finite.Tie as tie
-use Rattle.elementary.proofs.is_positive_finite.Reads as reads
-use Rattle.elementary.proofs.is_positive_finite.Lts as lts
-use Rattle.elementary.proofs.is_finite.Reads as is-finite-reads
 
--- src/lib.rt:30:5
 is-finite-requires : tie.Need-is-finite-requires
 is-finite-requires c κs = search needs
 
--- src/lib.rt:27:1
 returns : tie.Need-returns
 unfolding positive
 returns c = rw (c .is-finite .ensures)

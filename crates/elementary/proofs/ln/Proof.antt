@@ -1,5 +1,5 @@
-use mathlib.Core.Path.{_≡_, refl, sym, _∙_, subst}
-use mathlib.Core.Bool.{Bool, true, false}
+use mathlib.Core.Path.{_≡_, sym, _∙_, subst}
+use mathlib.Core.Bool.{true, false}
 use lib.Dec.{T}
 use Rattle.elementary.specs.Float.{positive}
 use Rattle.elementary.specs.Reply.{given}
@@ -7,27 +7,19 @@ use Rattle.elementary.specs.Elementary.{told, LN}
 use borrow.Author.Needs.{needs}
 use Rattle.elementary.proofs.ln.Statement.{statement}
 use Rattle.elementary.proofs.ln.Tie as tie
-use Rattle.elementary.proofs.ln.Reads as reads
-use Rattle.elementary.proofs.ln.Lts as lts
-use Rattle.elementary.proofs.is_positive_finite.Reads as is-positive-finite-reads
-use Rattle.elementary.proofs.logarithm.ln_positive.Reads as ln-positive-reads
 
--- src/lib.rt:37:8
 is-positive-finite-requires : tie.Need-is-positive-finite-requires
 is-positive-finite-requires c κs = search needs
 
--- src/lib.rt:38:28
 ln-positive-requires : tie.Need-ln-positive-requires
 ln-positive-requires c κs = subst T (sym (c .if1 .taken) ∙ c .before .is-positive-finite .ensures) tt
 
--- src/lib.rt:38:9
 returns : tie.Need-returns
 unfolding told LN given
 returns c =
     let yes : positive (c .before .before .before .args .x) ≡ true = sym (c .before .before .is-positive-finite .ensures) ∙ c .before .if1 .taken in
     rw (yes, c .ln-positive .ensures)
 
--- src/lib.rt:34:1
 returns-2 : tie.Need-returns-2
 unfolding told LN given
 returns-2 c =

@@ -1,44 +1,33 @@
-use mathlib.Core.Path.{_≡_, refl, sym, _∙_, subst}
-use mathlib.Core.Bool.{Bool, true, false}
+use mathlib.Core.Path.{_≡_, sym, _∙_}
+use mathlib.Core.Bool.{true, false}
 use Rattle.elementary.specs.Float.{positive}
 use Rattle.elementary.specs.Reply.{given}
 use Rattle.elementary.specs.Elementary.{told, LN1P, ln1pOf}
 use borrow.Author.Needs.{needs}
 use Rattle.elementary.proofs.ln_1p.Statement.{statement}
 use Rattle.elementary.proofs.ln_1p.Tie as tie
-use Rattle.elementary.proofs.ln_1p.Reads as reads
-use Rattle.elementary.proofs.ln_1p.Lts as lts
-use Rattle.elementary.proofs.is_positive_finite.Reads as is-positive-finite-reads
-use Rattle.elementary.proofs.ln.Reads as ln-reads
-use Rattle.elementary.proofs.logarithm.ln_series.Reads as ln-series-reads
 
--- src/lib.rt:47:8
 is-positive-finite-requires : tie.Need-is-positive-finite-requires
 is-positive-finite-requires c κs = search needs
 
--- src/lib.rt:49:32
 ln-series-requires : tie.Need-ln-series-requires
 ln-series-requires c κs = search needs
 
--- src/lib.rt:49:13
 returns : tie.Need-returns
 unfolding told LN1P ln1pOf given
 returns c =
     let yes : positive (c .before .before .before .before .args .r) ≡ true = sym (c .before .before .before .is-positive-finite .ensures) ∙ c .before .before .if1 .taken in
     rw (yes, c .before .if2 .taken, c .ln-series .ensures)
 
--- src/lib.rt:51:9
 ln-requires : tie.Need-ln-requires
 ln-requires c κs = search needs
 
--- src/lib.rt:51:9
 returns-2 : tie.Need-returns-2
 unfolding LN1P ln1pOf given
 returns-2 c =
     let yes : positive (c .before .before .before .before .args .r) ≡ true = sym (c .before .before .before .is-positive-finite .ensures) ∙ c .before .before .if1 .taken in
     rw (yes, c .before .if2 .left, c .ln .ensures)
 
--- src/lib.rt:44:1
 returns-3 : tie.Need-returns-3
 unfolding told LN1P given
 returns-3 c =

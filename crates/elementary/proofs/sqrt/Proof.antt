@@ -16,10 +16,6 @@ use Rattle.elementary.specs.Elementary.{told, SQRT, sqrtOf}
 use borrow.Author.Needs.{needs}
 use Rattle.elementary.proofs.sqrt.Statement.{statement}
 use Rattle.elementary.proofs.sqrt.Tie as tie
-use Rattle.elementary.proofs.sqrt.Reads as reads
-use Rattle.elementary.proofs.sqrt.Lts as lts
-use Rattle.elementary.proofs.is_positive_finite.Reads as is-positive-finite-reads
-use Rattle.elementary.proofs.root.sqrt_positive.Reads as sqrt-positive-reads
 
 -- a zero compared with a zero
 zero-below : (u d : ℕ) → ltb (0 * 1 * d) (0 * u * 1) ≡ false
@@ -65,26 +61,21 @@ no-root (fin s zero e) z p = absurd (true≢false (sym (zero-level s (up e) (dow
 no-root (fin true (suc m) e) z p = refl
 no-root (fin false (suc m) e) z p = absurd (true≢false (sym (lt-ltb (0 * 1 * down e) (suc m * up e * 1) (omega (arith, mul-pos (zero-lt-suc m) (up-pos e)))) ∙ p))
 
--- src/lib.rt:71:9
 returns : tie.Need-returns
 returns c = zero-root (c .before .args .x) (c .if1 .taken)
 
--- src/lib.rt:73:8
 is-positive-finite-requires : tie.Need-is-positive-finite-requires
 is-positive-finite-requires c κs = search needs
 
--- src/lib.rt:74:28
 sqrt-positive-requires : tie.Need-sqrt-positive-requires
 sqrt-positive-requires c κs = subst T (sym (c .if2 .taken) ∙ c .before .is-positive-finite .ensures) tt
 
--- src/lib.rt:74:9
 returns-2 : tie.Need-returns-2
 unfolding told
 returns-2 c =
     let x = c .before .before .before .before .args .x in
     ap value (c .sqrt-positive .ensures) ∙ sym (positive-root x (subst T (sym (c .before .if2 .taken) ∙ c .before .before .is-positive-finite .ensures) tt))
 
--- src/lib.rt:67:1
 returns-3 : tie.Need-returns-3
 returns-3 c =
     no-root (c .before .before .before .args .x) (c .before .before .if1 .left) (sym (c .before .is-positive-finite .ensures) ∙ c .if2 .left)

@@ -1,6 +1,6 @@
 -- `floatrun::signed_of` is safe: a word from 2^63 on is at most 2^63 - 1 below the largest, so minus one less that is a signed number. Assumes nothing.
 use Prim.Native.Nat.{ℕ, zero, suc, _-_, _^_, _<_}
-use mathlib.Core.Bool.{Bool, true, false}
+use mathlib.Core.Bool.{Bool, true}
 use native.Mathlib.Omega.{arith}
 use borrow.Author.Needs.{needs}
 use lib.Dec.{T, ltb, lt→ltb}

@@ -5,38 +5,28 @@ use Rattle.elementary.proofs.WholeUp.{large, large-neg}
 use borrow.Author.Needs.{needs}
 use Rattle.elementary.proofs.ceiling.ceil_finite.Statement.{statement}
 use Rattle.elementary.proofs.ceiling.ceil_finite.Tie as tie
-use Rattle.elementary.proofs.ceiling.ceil_finite.Reads as reads
-use Rattle.elementary.proofs.ceiling.ceil_finite.Lts as lts
-use Rattle.elementary.proofs.ceiling.ceil_negative.Reads as ceil-negative-reads
-use Rattle.elementary.proofs.ceiling.ceil_small.Reads as ceil-small-reads
 
 -- the format holds x
 held : (c : tie.Start) → T (fits binary64 (c .args .x))
 held c = subst T (sym (c .good .0 .1)) tt
 
--- src/ceiling.rt:42:13
 ceil-negative-requires : tie.Need-ceil-negative-requires
 ceil-negative-requires c κs = search needs
 
--- src/ceiling.rt:42:13
 returns : tie.Need-returns
 returns c = search needs
 
--- src/ceiling.rt:44:9
 returns-2 : tie.Need-returns-2
 returns-2 c =
     let s = c .before .before in
     large-neg (s .args .x) (s .pre) (held s) (c .if2 .left)
 
--- src/ceiling.rt:47:9
 ceil-small-requires : tie.Need-ceil-small-requires
 ceil-small-requires c κs = search needs
 
--- src/ceiling.rt:47:9
 returns-3 : tie.Need-returns-3
 returns-3 c = search needs
 
--- src/ceiling.rt:36:1
 returns-4 : tie.Need-returns-4
 returns-4 c =
     let s = c .before .before in

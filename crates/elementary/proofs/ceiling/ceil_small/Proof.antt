@@ -6,10 +6,6 @@ use Rattle.elementary.proofs.WholeUp.{Small, small, small-cast, small-c
 use borrow.Author.Needs.{needs}
 use Rattle.elementary.proofs.ceiling.ceil_small.Statement.{statement}
 use Rattle.elementary.proofs.ceiling.ceil_small.Tie as tie
-use Rattle.elementary.proofs.ceiling.ceil_small.Reads as reads
-use Rattle.elementary.proofs.ceiling.ceil_small.Lts as lts
-use Rattle.std.proofs.num.nearest_u64_to_f64.Reads as nearest-u64-to-f64-reads
-use Rattle.std.proofs.num.truncating_f64_to_u64.Reads as truncating-f64-to-u64-reads
 
 -- the format holds x
 held : (c : tie.Start) → T (fits binary64 (c .args .x))
@@ -18,25 +14,20 @@ held c = subst T (sym (c .good .0 .1)) tt
 is-small : (c : tie.Start) → Small (c .args .x)
 is-small c = small (c .args .x) (c .pre .0) (c .pre .1)
 
--- src/ceiling.rt:28:9
 truncating-f64-to-u64-requires : tie.Need-truncating-f64-to-u64-requires
 truncating-f64-to-u64-requires c κs = small-cast (is-small c)
 
--- src/ceiling.rt:29:8
 nearest-u64-to-f64-requires : tie.Need-nearest-u64-to-f64-requires
 nearest-u64-to-f64-requires c κs = search needs
 
--- src/ceiling.rt:30:45
 add-nearest-u64-to-f64 : tie.Need-add-nearest-u64-to-f64
 add-nearest-u64-to-f64 c =
     let t = c .before .before in
     omega (arith, small-cut (is-small (t .before)), t .truncating-f64-to-u64 .ensures)
 
--- src/ceiling.rt:30:9
 nearest-u64-to-f64-requires-2 : tie.Need-nearest-u64-to-f64-requires-2
 nearest-u64-to-f64-requires-2 c κs = search needs
 
--- src/ceiling.rt:30:9
 returns : tie.Need-returns
 returns c =
     let r = c .before .before in
@@ -44,7 +35,6 @@ returns c =
     c .nearest-u64-to-f642 .ensures
     ∙ small-next (is-small (t .before)) (t .truncating-f64-to-u64 .ensures) (rw (r .nearest-u64-to-f64 .ensures) at (c .before .if1 .taken))
 
--- src/ceiling.rt:23:1
 returns-2 : tie.Need-returns-2
 returns-2 c =
     let r = c .before in

@@ -1,15 +1,10 @@
 use Rattle.elementary.proofs.Exps.{turns-range, count-up}
 use Rattle.elementary.proofs.exponential.exp_count.Statement.{statement}
 use Rattle.elementary.proofs.exponential.exp_count.Tie as tie
-use Rattle.elementary.proofs.exponential.exp_count.Reads as reads
-use Rattle.elementary.proofs.exponential.exp_count.Lts as lts
-use Rattle.std.proofs.num.truncating_f64_to_u64.Reads as truncating-f64-to-u64-reads
 
--- src/exponential.rt:58:5
 truncating-f64-to-u64-requires : tie.Need-truncating-f64-to-u64-requires
 truncating-f64-to-u64-requires c κs = turns-range (c .args .x) (c .pre .0) (c .pre .1)
 
--- src/exponential.rt:53:1
 returns : tie.Need-returns
 returns c = rw (c .truncating-f64-to-u64 .ensures) (count-up (c .before .args .x) (c .before .pre .0) (c .before .pre .1))
 

@@ -3,37 +3,27 @@ use Rattle.elementary.specs.Elementary.{expOf}
 use Rattle.elementary.proofs.Exps.{not-above}
 use Rattle.elementary.proofs.exponential.exp_finite.Statement.{statement}
 use Rattle.elementary.proofs.exponential.exp_finite.Tie as tie
-use Rattle.elementary.proofs.exponential.exp_finite.Reads as reads
-use Rattle.elementary.proofs.exponential.exp_finite.Lts as lts
-use Rattle.elementary.proofs.exponential.exp_down.Reads as exp-down-reads
-use Rattle.elementary.proofs.exponential.exp_up.Reads as exp-up-reads
 
--- src/exponential.rt:89:9
 returns : tie.Need-returns
 unfolding expOf div ofInt ofBits
 returns c = rw (c .if1 .taken)
 
--- src/exponential.rt:92:9
 returns-2 : tie.Need-returns-2
 unfolding expOf neg ofInt ofBits
 returns-2 c = rw (c .before .if1 .left, c .if2 .taken)
 
--- src/exponential.rt:94:18
 exp-down-requires : tie.Need-exp-down-requires
 unfolding neg ofInt ofBits
 exp-down-requires c κs = (c .if3 .taken, c .before .if2 .left)
 
--- src/exponential.rt:94:39
 exp-up-requires : tie.Need-exp-up-requires
 unfolding ofInt ofBits
 exp-up-requires c κs = (c .if3 .left, not-above (c .before .before .before .args .x) (c .before .before .before .pre) (c .before .before .if1 .left))
 
--- src/exponential.rt:84:1
 returns-3 : tie.Need-returns-3
 unfolding expOf neg ofInt ofBits
 returns-3 c = rw (c .before .before .before .if1 .left, c .before .before .if2 .left) (c .exp-down .ensures)
 
--- src/exponential.rt:84:1
 returns-4 : tie.Need-returns-4
 unfolding expOf neg ofInt ofBits
 returns-4 c = rw (c .before .before .before .if1 .left, c .before .before .if2 .left) (c .exp-up .ensures)

@@ -1,12 +1,9 @@
-use mathlib.Core.Path.{_≡_, refl}
+use mathlib.Core.Path.{refl}
 use lib.Ieee.{ofBits}
 use Rattle.elementary.specs.Elementary.{expRest}
 use Rattle.elementary.proofs.exponential.exp_rest.Statement.{statement}
 use Rattle.elementary.proofs.exponential.exp_rest.Tie as tie
-use Rattle.elementary.proofs.exponential.exp_rest.Reads as reads
-use Rattle.elementary.proofs.exponential.exp_rest.Lts as lts
 
--- src/exponential.rt:38:1
 returns : tie.Need-returns
 unfolding expRest ofBits
 returns c = refl

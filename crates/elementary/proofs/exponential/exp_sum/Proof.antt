@@ -1,12 +1,9 @@
-use mathlib.Core.Path.{_≡_, refl}
+use mathlib.Core.Path.{refl}
 use lib.Ieee.{ofInt, ofBits}
 use Rattle.elementary.specs.Elementary.{expSum, horner, factorials}
 use Rattle.elementary.proofs.exponential.exp_sum.Statement.{statement}
 use Rattle.elementary.proofs.exponential.exp_sum.Tie as tie
-use Rattle.elementary.proofs.exponential.exp_sum.Reads as reads
-use Rattle.elementary.proofs.exponential.exp_sum.Lts as lts
 
--- src/exponential.rt:18:1
 returns : tie.Need-returns
 unfolding expSum horner factorials ofInt ofBits
 returns c = refl

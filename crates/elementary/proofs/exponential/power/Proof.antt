@@ -1,4 +1,4 @@
-use mathlib.Core.Path.{_≡_, refl, sym, ap, _∙_, subst}
+use mathlib.Core.Path.{_≡_, sym, ap, _∙_, subst}
 use mathlib.Core.Bool.{Bool, true, false, not, cond}
 use Prim.Native.Nat.{ℕ, suc, _+_, _-_, _*_, _^_, _≤_, _<_}
 use native.Mathlib.Nat.{le-of-eq, lt-of-le-of-lt}
@@ -13,8 +13,6 @@ use Rattle.elementary.proofs.Bits.{bits-of, bits-no-nan, units-odd}
 use borrow.Author.Needs.{needs}
 use Rattle.elementary.proofs.exponential.power.Statement.{statement}
 use Rattle.elementary.proofs.exponential.power.Tie as tie
-use Rattle.elementary.proofs.exponential.power.Reads as reads
-use Rattle.elementary.proofs.exponential.power.Lts as lts
 
 -- the exponent's field alone: a leading digit with no digits after it
 field : (n : ℕ) → 1 ≤ n → n * 4503599627370496 ≡ (n - 1) * 2 ^ 52 + 2 ^ 52
@@ -56,17 +54,14 @@ is-power : (n : ℕ) → 1 ≤ n → n ≤ 2046 → units binary64 false (2 ^ 52
 unfolding odd trailingZeros
 is-power n h k = units-odd binary64 false (2 ^ 52) (n - 1) (small n k) ∙ ap (λ (e : ℤ). fin false 1 e) (shift n h)
 
--- src/exponential.rt:49:20
 mul-result : tie.Need-mul-result
 mul-result c = search needs
 
--- src/exponential.rt:49:5
 float-from-bits-result : tie.Need-float-from-bits-result
 float-from-bits-result c =
     let n = c .args .n in
     subst (λ (b : ℕ). T (not (nanBits binary64 b))) (sym (field n (c .pre .0))) (bits-no-nan binary64 (2 ^ 52) (n - 1) (lit≤ tt) (lit≤ tt) (small n (c .pre .1)))
 
--- src/exponential.rt:45:1
 returns : tie.Need-returns
 returns c =
     let n = c .args .n in

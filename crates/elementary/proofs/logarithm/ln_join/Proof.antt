@@ -2,15 +2,10 @@ use Rattle.elementary.specs.Elementary.{lnJoin}
 use borrow.Author.Needs.{needs}
 use Rattle.elementary.proofs.logarithm.ln_join.Statement.{statement}
 use Rattle.elementary.proofs.logarithm.ln_join.Tie as tie
-use Rattle.elementary.proofs.logarithm.ln_join.Reads as reads
-use Rattle.elementary.proofs.logarithm.ln_join.Lts as lts
-use Rattle.elementary.proofs.logarithm.ln_series.Reads as ln-series-reads
 
--- src/logarithm.rt:44:15
 ln-series-requires : tie.Need-ln-series-requires
 ln-series-requires c κs = search needs
 
--- src/logarithm.rt:41:1
 returns : tie.Need-returns
 unfolding lnJoin
 returns c = rw (c .ln-series .ensures)

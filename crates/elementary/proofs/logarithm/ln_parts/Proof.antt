@@ -10,25 +10,18 @@ use Rattle.elementary.proofs.Exact.{sub-whole}
 use borrow.Author.Needs.{needs}
 use Rattle.elementary.proofs.logarithm.ln_parts.Statement.{statement}
 use Rattle.elementary.proofs.logarithm.ln_parts.Tie as tie
-use Rattle.elementary.proofs.logarithm.ln_parts.Reads as reads
-use Rattle.elementary.proofs.logarithm.ln_parts.Lts as lts
-use Rattle.elementary.proofs.logarithm.ln_join.Reads as ln-join-reads
-use Rattle.std.proofs.num.nearest_u64_to_f64.Reads as nearest-u64-to-f64-reads
 
 -- the exponent, counted from 1075 down
 less-bias : (z : ℕ) → z ≤ 2100 → whole (pos z) ⊖ hex 0x4090CC0000000000 ≡ whole (minus z 1075)
 unfolding ofInt ofBits
 less-bias z h = sub-whole binary64 z 1075 (le-trans h (lit≤ tt)) (lit≤ tt)
 
--- src/logarithm.rt:52:13
 nearest-u64-to-f64-requires : tie.Need-nearest-u64-to-f64-requires
 nearest-u64-to-f64-requires c κs = search needs
 
--- src/logarithm.rt:53:5
 ln-join-requires : tie.Need-ln-join-requires
 ln-join-requires c κs = search needs
 
--- src/logarithm.rt:48:1
 returns : tie.Need-returns
 unfolding lnParts
 returns c =

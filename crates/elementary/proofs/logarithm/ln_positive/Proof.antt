@@ -1,6 +1,6 @@
-use mathlib.Core.Path.{_≡_, refl, sym, ap, _∙_, subst}
+use mathlib.Core.Path.{_≡_, sym, ap, _∙_, subst}
 use mathlib.Core.Bool.{not}
-use Prim.Native.Nat.{ℕ, suc, _+_, _*_, _%_, _^_, _≤_, _<_}
+use Prim.Native.Nat.{ℕ, _+_, _*_, _%_, _^_, _≤_, _<_}
 use native.Mathlib.Nat.{le-of-lt}
 use native.Mathlib.Omega.{arith}
 use lib.Dec.{T, lit≤}
@@ -17,10 +17,6 @@ use Rattle.elementary.proofs.Parts.{mantissa-bits}
 use borrow.Author.Needs.{needs}
 use Rattle.elementary.proofs.logarithm.ln_positive.Statement.{statement}
 use Rattle.elementary.proofs.logarithm.ln_positive.Tie as tie
-use Rattle.elementary.proofs.logarithm.ln_positive.Reads as reads
-use Rattle.elementary.proofs.logarithm.ln_positive.Lts as lts
-use Rattle.elementary.proofs.logarithm.ln_parts.Reads as ln-parts-reads
-use Rattle.elementary.proofs.split.split.Reads as split-reads
 
 -- the format holds x
 held : (c : tie.Start) → T (fits binary64 (c .args .x))
@@ -33,30 +29,24 @@ one-and d a b = omega arith
 read : (c : tie.Start) (d z : ℕ) → SplitOf (count binary64 (c .args .x)) d z → ofBits binary64 (4607182418800017408 + d % 4503599627370496) ≡ mantissa (c .args .x)
 read c d z s = ap (λ (b : ℕ). ofBits binary64 b) (one-and d (s .low) (s .high) ∙ ap (λ (y : ℕ). 1022 * 2 ^ 52 + y) (s .leads)) ∙ mantissa-bits (c .args .x) (held c) (c .pre)
 
--- src/logarithm.rt:61:9
 split-requires : tie.Need-split-requires
 split-requires c κs = search needs
 
--- src/logarithm.rt:62:33
 add-f : tie.Need-add-f
 add-f c = search needs
 
--- src/logarithm.rt:62:18
 float-from-bits-f : tie.Need-float-from-bits-f
 float-from-bits-f c =
     let s = c .before .split .ensures in
     subst (λ (b : ℕ). T (not (nanBits binary64 b))) (sym (one-and (c .before .split .result .digits) (s .low) (s .high)))
     (bits-no-nan binary64 (c .before .split .result .digits) 1022 (s .low) (le-of-lt (s .high)) (units-small binary64 (c .before .split .result .digits) 1022 (le-of-lt (s .high)) (lit≤ tt)))
 
--- src/logarithm.rt:64:34
 add-ln-parts : tie.Need-add-ln-parts
 add-ln-parts c = search needs
 
--- src/logarithm.rt:64:9
 ln-parts-requires : tie.Need-ln-parts-requires
 ln-parts-requires c κs = search needs
 
--- src/logarithm.rt:64:9
 returns : tie.Need-returns
 unfolding lnOf lnHalved exponent
 returns c =
@@ -69,11 +59,9 @@ returns c =
     ∙ ap (λ (f : Float). lnParts (f ⊗ ½ᶠ) (minus (s .result .size + 1) 1075)) f-is
     ∙ ap (λ (e : ℤ). lnParts (mantissa (start .args .x) ⊗ ½ᶠ) e) (ap (λ (z : ℕ). minus z 1075) (add-one (s .result .size)) ∙ sym (minus-suc (s .result .size) 1075) ∙ ap (λ (z : ℕ). minus z 1075 +ℤ pos 1) (s .ensures .sized)))
 
--- src/logarithm.rt:66:5
 ln-parts-requires-2 : tie.Need-ln-parts-requires-2
 ln-parts-requires-2 c κs = search needs
 
--- src/logarithm.rt:57:1
 returns-2 : tie.Need-returns-2
 unfolding lnOf lnHalved exponent
 returns-2 c =

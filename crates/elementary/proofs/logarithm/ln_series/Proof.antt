@@ -2,15 +2,10 @@ use Rattle.elementary.specs.Elementary.{lnSeries}
 use borrow.Author.Needs.{needs}
 use Rattle.elementary.proofs.logarithm.ln_series.Statement.{statement}
 use Rattle.elementary.proofs.logarithm.ln_series.Tie as tie
-use Rattle.elementary.proofs.logarithm.ln_series.Reads as reads
-use Rattle.elementary.proofs.logarithm.ln_series.Lts as lts
-use Rattle.elementary.proofs.logarithm.ln_sum.Reads as ln-sum-reads
 
--- src/logarithm.rt:37:17
 ln-sum-requires : tie.Need-ln-sum-requires
 ln-sum-requires c κs = search needs
 
--- src/logarithm.rt:34:1
 returns : tie.Need-returns
 unfolding lnSeries
 returns c = rw (c .ln-sum .ensures)

@@ -1,12 +1,9 @@
-use mathlib.Core.Path.{_≡_, refl}
+use mathlib.Core.Path.{refl}
 use lib.Ieee.{ofInt, ofBits}
 use Rattle.elementary.specs.Elementary.{lnSum, horner, odds}
 use Rattle.elementary.proofs.logarithm.ln_sum.Statement.{statement}
 use Rattle.elementary.proofs.logarithm.ln_sum.Tie as tie
-use Rattle.elementary.proofs.logarithm.ln_sum.Reads as reads
-use Rattle.elementary.proofs.logarithm.ln_sum.Lts as lts
 
--- src/logarithm.rt:16:1
 returns : tie.Need-returns
 unfolding lnSum horner odds ofInt ofBits
 returns c = refl

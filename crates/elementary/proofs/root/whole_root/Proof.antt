@@ -3,9 +3,6 @@ use Prim.Native.Nat.{_-_}
 use Rattle.elementary.proofs.WholeRoot.{Reading, reading-starts, reading-room, reading-goes-on, reading-ends}
 use Rattle.elementary.proofs.root.whole_root.Statement.{statement}
 use Rattle.elementary.proofs.root.whole_root.Tie as tie
-use Rattle.elementary.proofs.root.whole_root.Reads as reads
-use Rattle.elementary.proofs.root.whole_root.Lts as lts
-use Rattle.elementary.proofs.root.next_digit.Reads as next-digit-reads
 
 abbrev Inv-loop : tie.InvT-loop
 Inv-loop m d₀ left₀ i₀ d left i = Reading m (d .root) (d .rest) left i
@@ -13,31 +10,24 @@ Inv-loop m d₀ left₀ i₀ d left i = Reading m (d .root) (d .rest) left i
 abbrev μ-loop : tie.MeasureT-loop
 μ-loop m d₀ left₀ i₀ d left i = 54 - i
 
--- src/root.rt:44:5
 loop-holds : tie.Need-loop-holds Inv-loop μ-loop
 loop-holds c = reading-starts (c .args .m) (c .pre)
 
--- src/root.rt:45:9
 next-digit-requires : tie.Need-next-digit-requires Inv-loop μ-loop
 next-digit-requires c κs = reading-room (c .before .loop .inv) (search needs)
 
--- src/root.rt:46:16
 mul-left : tie.Need-mul-left Inv-loop μ-loop
 mul-left c = search needs
 
--- src/root.rt:47:9
 add-i : tie.Need-add-i Inv-loop μ-loop
 add-i c = search needs
 
--- src/root.rt:44:5
 loop-less : tie.Need-loop-less Inv-loop μ-loop
 loop-less c = search needs
 
--- src/root.rt:44:5
 loop-again : tie.Need-loop-again Inv-loop μ-loop
 loop-again c = search (reading-goes-on, needs)
 
--- src/root.rt:37:1
 returns : tie.Need-returns Inv-loop μ-loop
 returns c = search (reading-ends, needs)
 

@@ -6,37 +6,29 @@ use Rattle.elementary.proofs.Parts.{scaled-positive, scaled-enough, sca
 use borrow.Author.Needs.{needs}
 use Rattle.elementary.proofs.split.split.Statement.{statement}
 use Rattle.elementary.proofs.split.split.Tie as tie
-use Rattle.elementary.proofs.split.split.Reads as reads
-use Rattle.elementary.proofs.split.split.Lts as lts
-use Rattle.elementary.proofs.split.split_normal.Reads as split-normal-reads
 
 -- the format holds x
 held : (c : tie.Start) → T (fits binary64 (c .args .x))
 held c = subst T (sym (c .good .0 .1)) tt
 
--- src/split.rt:37:13
 split-normal-requires : tie.Need-split-normal-requires
 split-normal-requires c κs =
     let x = c .before .args .x in
     (scaled-positive x (held (c .before)) (c .before .pre) (c .if1 .taken), le-trans (lit≤ tt) (scaled-enough x (held (c .before)) (c .before .pre) (c .if1 .taken)))
 
--- src/split.rt:40:19
 sub-t5 : tie.Need-sub-t5
 sub-t5 c =
     let s = c .before .before .before in
     le-trans (scaled-enough (s .args .x) (held s) (s .pre) (c .before .before .if1 .taken)) (le-of-eq (sym (c .before .split-normal .ensures .sized)))
 
--- src/split.rt:38:9
 returns : tie.Need-returns
 returns c =
     let s = c .before .before .before in
     scaled-parts (s .args .x) (held s) (s .pre) (c .before .before .if1 .taken) _ _ (c .before .split-normal .ensures)
 
--- src/split.rt:43:5
 split-normal-requires-2 : tie.Need-split-normal-requires-2
 split-normal-requires-2 c κs = (c .before .pre, normal (c .before .args .x) (held (c .before)) (c .before .pre) (c .if1 .left))
 
--- src/split.rt:32:1
 returns-2 : tie.Need-returns-2
 returns-2 c = search needs
 

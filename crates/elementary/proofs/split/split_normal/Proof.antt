@@ -6,26 +6,20 @@ use Rattle.elementary.proofs.Parts.{normal-parts, positive-no-nan}
 use borrow.Author.Needs.{needs}
 use Rattle.elementary.proofs.split.split_normal.Statement.{statement}
 use Rattle.elementary.proofs.split.split_normal.Tie as tie
-use Rattle.elementary.proofs.split.split_normal.Reads as reads
-use Rattle.elementary.proofs.split.split_normal.Lts as lts
 
 -- the format holds x
 held : (c : tie.Start) → T (fits binary64 (c .args .x))
 held c = subst T (sym (c .good .0 .1)) tt
 
--- src/split.rt:24:21
 float-to-bits-bits : tie.Need-float-to-bits-bits
 float-to-bits-bits c = positive-no-nan (c .args .x) (c .pre .0)
 
--- src/split.rt:26:17
 add-t4 : tie.Need-add-t4
 add-t4 c = search needs
 
--- src/split.rt:27:15
 add-t6 : tie.Need-add-t6
 add-t6 c = record { fits = lt-of-le-of-lt (normal-parts (c .args .x) (held c) (c .pre .0) (c .pre .1) .most) (lit< tt) }
 
--- src/split.rt:19:1
 returns : tie.Need-returns
 returns c = normal-parts (c .args .x) (held c) (c .pre .0) (c .pre .1)
 
