@@ -5,6 +5,7 @@ pub mod Pairs
 pub mod Refusing
 pub mod Nearest
 pub mod Cases
+pub mod Replies
 pub mod Limits
 pub mod Sizes
 pub mod Building

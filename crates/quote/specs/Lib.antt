@@ -6,4 +6,5 @@ pub mod Rounding
 pub mod Quotes
 pub mod Inner
 pub mod Promises
+pub mod Replies
 pub mod Cases

@@ -1,0 +1,131 @@
+-- Reading a number group by group, and a record number by number. Assumes nothing.
+use mathlib.Core.Path.{_≡_, refl, sym, ap, _∙_}
+use Prim.Native.Nat.{ℕ, zero, suc, _+_, _-_, _*_, _%_, _^_, _<_, _≤_}
+use native.Mathlib.Nat.{add-zero, zero-add, add-suc, suc-add, le-of-eq, mul-le-mul-right, pow-suc, pow-le-pow-right}
+use native.Mathlib.Numerals.{add-one}
+use native.Mathlib.Omega.{arith}
+use mathlib.Core.Bool.{Bool, true, false, _&&_}
+use mathlib.Core.List.{List, [], _∷_, _++_}
+use borrow.Author.Tests.{lt-ltb, le-ltb}
+use lib.ListN.{length, getD, take, drop, set, length-set, drop-of-length-le}
+use lib.Seq.{drop-cons, take-all, take-suc-set}
+use lib.Dec.{ltb, eqb, lit<}
+use Rattle.sheet.specs.Refusals.{cutShort, malformed}
+use Rattle.sheet.specs.Record.{Read, taken, refused, _then_, group, groups, number, numbers}
+use Rattle.sheet.specs.Inner.{scaled}
+
+-- ---- a number whose first k groups make a value, the next being worth a unit
+pub record Grouped (s : List ℕ) (at value unit k : ℕ) : Type 0 where
+  pub few : k ≤ 8
+  pub small : value < unit
+  pub worth : unit ≡ 128 ^ k
+  pub so-far : number (drop at s) ≡ scaled value unit (groups (8 - k) (ltb 0 k) (drop (at + k) s))
+
+scaled-all : (x : Read ℕ) → x ≡ scaled 0 1 x
+unfolding scaled
+scaled-all (taken n r) = ap (λ (m : ℕ). taken m r) (omega arith)
+scaled-all (refused k) = refl
+
+pub grouped-none : (s : List ℕ) (at : ℕ) → Grouped s at 0 1 0
+unfolding number
+grouped-none s at = record {
+  few = omega arith;
+  small = omega arith;
+  worth = refl;
+  so-far = rw (add-zero at) (scaled-all (groups 8 false (drop at s)));
+}
+
+scaled-under : (a u g : ℕ) (x : Read ℕ) → scaled a u (x then λ n r. taken (g + 128 * n) r) ≡ scaled (a + g * u) (u * 128) x
+unfolding scaled _then_
+scaled-under a u g (taken n r) = ap (λ (m : ℕ). taken m r) (omega arith)
+scaled-under a u g (refused k) = refl
+
+low-bits : (b : ℕ) → b % 128 ≤ 127
+low-bits b = omega arith
+
+module _ (s : List ℕ) (at value unit k : ℕ) (g : Grouped s at value unit k) (more : k < 8) where
+  left : 8 - k ≡ suc (8 - suc k)
+  left = omega arith
+
+  -- a group that is added keeps the value below 2 ^ 56
+  pub unit-fits : unit ≤ 2 ^ 49
+  unit-fits = rw (g .worth) (pow-le-pow-right {n = 128} (lit< tt) {j = 7} (omega arith))
+
+  pub group-fits : (x : ℕ) → x ≤ 127 → value + x * unit < 2 ^ 56
+  group-fits x h = omega (arith, unit-fits, g .small, mul-le-mul-right unit h)
+
+  -- no byte is left
+  pub group-cut : length s ≤ at + k → number (drop at s) ≡ refused cutShort
+  unfolding groups scaled
+  group-cut h = g .so-far ∙ rw (left, drop-of-length-le s h)
+
+  -- the byte b comes next
+  module _ (b : ℕ) (there : at + k < length s) (is : b ≡ getD s (at + k) 0) where
+    next : number (drop at s)
+        ≡ scaled value unit (group (ltb b 128) (ltb 0 k && eqb b 0) b (drop (suc (at + k)) s) (groups (8 - suc k) true (drop (suc (at + k)) s) then λ n r. taken (b % 128 + 128 * n) r))
+    unfolding groups
+    next = g .so-far ∙ rw (left, drop-cons s (at + k) 0 there, is)
+
+    pub group-zero : b < 128 → (ltb 0 k && eqb b 0) ≡ true → number (drop at s) ≡ refused malformed
+    unfolding group scaled
+    group-zero h e = next ∙ rw (lt-ltb b 128 h, e)
+
+    pub group-last : b < 128 → (ltb 0 k && eqb b 0) ≡ false → number (drop at s) ≡ taken (value + b * unit) (drop (at + k + 1) s)
+    unfolding group scaled
+    group-last h e = next ∙ rw (lt-ltb b 128 h, e, add-one (at + k)) (ap (λ (m : ℕ). taken m (drop (suc (at + k)) s)) (omega arith))
+
+    pub group-more : 128 ≤ b → Grouped s at (value + b % 128 * unit) (unit * 128) (k + 1)
+    unfolding group
+    group-more h = record {
+      few = omega arith;
+      small = omega (arith, mul-le-mul-right unit (low-bits b));
+      worth = rw (add-one k, pow-suc 128 k) (ap (λ (m : ℕ). m * 128) (g .worth));
+      so-far = next ∙ rw (le-ltb b 128 h, scaled-under value unit (b % 128) (groups (8 - suc k) true (drop (suc (at + k)) s)), add-one k, lt-ltb 0 (suc k) (omega arith), add-suc at k);
+    }
+
+-- all eight had their top bit set
+pub group-ninth : (s : List ℕ) (at value unit k : ℕ) → Grouped s at value unit k → 8 ≤ k → number (drop at s) ≡ refused malformed
+unfolding groups scaled
+group-ninth s at value unit k g h = g .so-far ∙ let e : 8 - k ≡ 0 = omega arith in rw e
+
+-- ---- a record of which i numbers are read
+pub record Passed (s : List ℕ) (at : ℕ) (values : List ℕ) (next i : ℕ) : Type 0 where
+  pub few : i ≤ 11
+  pub all : length values ≡ 11
+  pub within : next ≤ length s
+  pub so-far : numbers i (drop at s) ≡ taken (take i values) (drop next s)
+
+pub passed-none : (s : List ℕ) (at : ℕ) (values : List ℕ) → at ≤ length s → length values ≡ 11 → Passed s at values at 0
+unfolding numbers
+passed-none s at values h e = record { few = omega arith; all = e; within = h; so-far = refl }
+
+pub passed-more : (s : List ℕ) (at : ℕ) (values : List ℕ) (next i n m : ℕ) → Passed s at values next i → i < 11 → number (drop next s) ≡ taken n (drop m s) → m ≤ length s
+    → Passed s at (set values i n) m (i + 1)
+unfolding numbers _then_
+passed-more s at values next i n m p h e w =
+    record {
+      few = omega arith;
+      all = length-set values i n ∙ p .all;
+      within = w;
+      so-far = rw (add-one i, p .so-far, e, take-suc-set values i n (rw (p .all) h));
+    }
+
+-- a refusal ends the reading
+stays : (d i k : ℕ) (l : List ℕ) → numbers i l ≡ refused k → numbers (d + i) l ≡ refused k
+unfolding numbers _then_
+stays zero i k l e = rw (zero-add i) e
+stays (suc d) i k l e = rw (suc-add d i, stays d i k l e)
+
+next-refused : (s : List ℕ) (at : ℕ) (values : List ℕ) (next i k : ℕ) → Passed s at values next i → number (drop next s) ≡ refused k → numbers (suc i) (drop at s) ≡ refused k
+unfolding numbers _then_
+next-refused s at values next i k p e = rw (p .so-far, e)
+
+pub passed-refused : (s : List ℕ) (at : ℕ) (values : List ℕ) (next i k : ℕ) → Passed s at values next i → i < 11 → number (drop next s) ≡ refused k → numbers 11 (drop at s) ≡ refused k
+passed-refused s at values next i k p h e =
+    let d : 10 - i + suc i ≡ 11 = omega arith in
+    rw d at (stays (10 - i) (suc i) k (drop at s) (next-refused s at values next i k p e))
+
+pub passed-all : (s : List ℕ) (at : ℕ) (values : List ℕ) (next i : ℕ) → Passed s at values next i → 11 ≤ i → numbers 11 (drop at s) ≡ taken values (drop next s)
+passed-all s at values next i p h =
+    let e : i ≡ 11 = omega (arith, p .few) in
+    rw e at (p .so-far) ∙ ap (λ (v : List ℕ). taken v (drop next s)) (take-all 11 values (le-of-eq (p .all)))

@@ -1,0 +1,164 @@
+-- The promises of the sheet: holdings as stored, lines that fit and move, and the steps that make the whole. Assumes nothing.
+use mathlib.Core.Path.{_≡_, refl, sym, ap, _∙_, subst}
+use Prim.Native.Nat.{ℕ, zero, suc, _+_, _-_, _*_, _/_, _%_, _<_, _≤_}
+use native.Mathlib.Nat.{le-refl}
+use native.Mathlib.Omega.{arith}
+use mathlib.Core.Bool.{Bool, true, false}
+use mathlib.Core.List.{List, [], _∷_, _++_, append-nil}
+use borrow.Author.Tests.{ltb-true, ltb-false, leb-true, leb-false, eq-eqb, ne-eqb, eqb-true, eqb-false}
+use lib.IntN.{ℤ, pos, negsuc}
+use lib.ListN.{length, drop, length-drop, drop-of-length-le}
+use lib.Dec.{ltb, leb, eqb, lit<}
+use Rattle.quote.proofs.Replies.{replies-kept}
+use Rattle.quote.specs.Refusals.{limits}
+use Rattle.sheet.specs.Refusals.{malformed, longSheet}
+use Rattle.sheet.specs.Record.{Read, taken, refused, numbers, stored, holdingBy, holding, recordOf, recordOk, recordIf, recordFrom, readRecord}
+use Rattle.sheet.specs.Lines.{refusalLine}
+use Rattle.sheet.specs.Sheet.{mostBytes, leastRoom, recordLine, Step, line, end, lineOf, lineAt, answered, first, headIf, headBy, headOf, lines, printedIf, printed}
+use Rattle.sheet.specs.Promises.{HoldingsStored, LinesFit, LinesMove, Followed, StepsMakeTheWhole}
+use Rattle.sheet.specs.Promises as Promises
+use Rattle.sheet.specs.declared.record.Record.{Record}
+use Rattle.sheet.specs.declared.line.LineAnswer.the-variants as LineAnswer
+use Rattle.sheet.proofs.Widths.{answer-most, refusal-most}
+use Rattle.sheet.proofs.Steps.{line-end, line-long, line-read}
+use Rattle.sheet.proofs.Left.{next-moves, next-left, refused-small}
+
+-- ---- holdings
+back : (h : ℤ) → holding (stored h) ≡ h
+unfolding stored holding holdingBy
+back (pos n) = rw (eq-eqb (2 * n % 2) 0 (omega arith)) (ap pos (omega arith))
+back (negsuc n) = rw (ne-eqb ((2 * suc n - 1) % 2) 0 (λ e. omega arith)) (ap negsuc (omega arith))
+
+forth : (n : ℕ) → stored (holding n) ≡ n
+unfolding stored holding holdingBy
+forth n = go (eqb (n % 2) 0) (eqb-true (n % 2) 0) (eqb-false (n % 2) 0)
+  where
+    go : (t : Bool) → (t ≡ true → n % 2 ≡ 0) → (t ≡ false → n % 2 ≡ 0 → ⊥) → stored (holdingBy t (n / 2)) ≡ n
+    go true f g = let h = f refl in omega arith
+    go false f g = let h = g refl in omega arith
+
+pub holdings-stored : HoldingsStored
+holdings-stored = (back, forth)
+
+-- ---- the line at a place, by what is read there
+-- a record's line, or that of refusal 2
+text : Bool → Record → List ℕ
+text true r = recordLine r
+text false r = refusalLine limits
+
+step-text : (t : Bool) (r : Record) (n next : ℕ) → lineOf n (recordIf t r next) ≡ line (text t r) next
+unfolding text lineOf recordIf
+step-text true r n next = refl
+step-text false r n next = refl
+
+head-text : (t : Bool) (r : Record) (l : List ℕ) → headIf t r l ≡ first (text t r) l
+unfolding text headIf
+head-text true r l = refl
+head-text false r l = refl
+
+text-most : (t : Bool) (r : Record) → length (text t r) ≤ leastRoom
+unfolding text recordLine
+text-most true r = answer-most _ (replies-kept (r .«mid_price») (r .inventory) (r .config) (r .volatility) (r .«current_time»))
+text-most false r = refusal-most limits (lit< tt)
+
+-- the line at a place before the end
+data Due (s : List ℕ) (at : ℕ) : Step → Type 0 where
+  long : Due s at (line (refusalLine longSheet) (length s))
+  stopped : {k : ℕ} → k ≤ malformed → Due s at (line (refusalLine k) (length s))
+  read : {v r : List ℕ} → numbers 11 (drop at s) ≡ taken v r → Due s at (line (text (recordOk (recordOf v)) (recordOf v)) (length s - length r))
+
+due-read : (s : List ℕ) (at : ℕ) (x : Read (List ℕ)) → numbers 11 (drop at s) ≡ x → Due s at (lineOf (length s) (recordFrom (length s) x))
+unfolding lineOf recordFrom
+due-read s at (taken v r) e = subst (Due s at) (sym (step-text (recordOk (recordOf v)) (recordOf v) (length s) (length s - length r))) (read e)
+due-read s at (refused k) e = stopped (refused-small 11 (drop at s) k e)
+
+due : (s : List ℕ) (at : ℕ) → at < length s → Due s at (lineAt s at)
+unfolding readRecord
+due s at h = go (leb (length s) mostBytes) (leb-true (length s) mostBytes) (leb-false (length s) mostBytes)
+  where
+    go : (m : Bool) → (m ≡ true → length s ≤ mostBytes) → (m ≡ false → mostBytes < length s) → Due s at (lineAt s at)
+    go true f g = rw (line-read s at h (f refl)) (due-read s at (numbers 11 (drop at s)) refl)
+    go false f g = rw (line-long s at h (g refl)) long
+
+-- a line is due before the end alone
+before-end : (s : List ℕ) (at : ℕ) (t : List ℕ) (next : ℕ) → lineAt s at ≡ line t next → at < length s
+before-end s at t next e = go (ltb at (length s)) (ltb-true at (length s)) (ltb-false at (length s))
+  where
+    go : (m : Bool) → (m ≡ true → at < length s) → (m ≡ false → length s ≤ at) → at < length s
+    go true f g = f refl
+    go false f g = let h : lineAt s at ≡ end = line-end s at (g refl) in let z : _≡_ {A = ℕ} 0 1 = cc in absurd (omega arith)
+
+due-fits : (s : List ℕ) (at : ℕ) (x : Step) (t : List ℕ) (next : ℕ) → Due s at x → x ≡ line t next → length t ≤ leastRoom
+due-fits s at x t next long e = let z : refusalLine longSheet ≡ t = cc in rw z at (refusal-most longSheet (lit< tt))
+due-fits s at x t next (stopped {k} h) e = let z : refusalLine k ≡ t = cc in rw z at (refusal-most k (omega arith))
+due-fits s at x t next (read {v} d) e = let z : text (recordOk (recordOf v)) (recordOf v) ≡ t = cc in rw z at (text-most (recordOk (recordOf v)) (recordOf v))
+
+pub lines-fit : LinesFit
+lines-fit s at t next e = due-fits s at (lineAt s at) t next (due s at (before-end s at t next e)) e
+
+due-moves : (s : List ℕ) (at : ℕ) (x : Step) (t : List ℕ) (next : ℕ) → at < length s → Due s at x → x ≡ line t next → (at < next) × (next ≤ length s)
+due-moves s at x t next h long e = let z : next ≡ length s = cc in rw z (h, le-refl (length s))
+due-moves s at x t next h (stopped k) e = let z : next ≡ length s = cc in rw z (h, le-refl (length s))
+due-moves s at x t next h (read {v} {r} d) e = let z : next ≡ length s - length r = cc in rw z (next-moves s at v r d)
+
+pub lines-move : LinesMove
+lines-move s at t next e = let h = before-end s at t next e in due-moves s at (lineAt s at) t next h (due s at h) e
+
+-- both, from what `next_line` answers
+told : (b : Bool) (x : Step) (n next : ℕ) → LineAnswer.Written n next ≡ answered b x → (t : List ℕ) × (x ≡ line t next) × (n ≡ length t)
+unfolding answered
+told false x n next e = let z : _≡_ {A = ℕ} 0 1 = cc in absurd (omega arith)
+told true (line t m) n next e = let z : m ≡ next = cc in (t, ap (line t) z, cc)
+told true end n next e = let z : _≡_ {A = ℕ} 0 1 = cc in absurd (omega arith)
+
+pub line-told : (b : Bool) (s : List ℕ) (at n next : ℕ) → LineAnswer.Written n next ≡ answered b (lineAt s at) → (n ≤ leastRoom) × (at < next) × (next ≤ length s)
+line-told b s at n next e =
+    let k = told b (lineAt s at) n next e in
+    let m = lines-move s at (k .0) next (k .1) in
+    (rw (k .2) (lines-fit s at (k .0) next (k .1)), m .0, m .1)
+
+-- ---- the steps make the whole
+-- a line that is the last
+last-line : (s : List ℕ) (at : ℕ) (t : List ℕ) → lineAt s at ≡ line t (length s) → Followed s at t
+last-line s at t e = subst (Followed s at) (append-nil t) (Promises.taken e (Promises.ended (line-end s (length s) (le-refl (length s)))))
+
+head-is : (l : List ℕ) → 0 < length l → headOf l ≡ headBy (numbers 11 l)
+unfolding headOf
+head-is [] h = absurd (omega arith)
+head-is (b ∷ l) h = refl
+
+module _ (s : List ℕ) (short : length s ≤ mostBytes) where
+  line-of : (at : ℕ) (x : Read (List ℕ)) → at < length s → numbers 11 (drop at s) ≡ x → lineAt s at ≡ lineOf (length s) (recordFrom (length s) x)
+  unfolding readRecord
+  line-of at x h e = line-read s at h short ∙ ap (λ (y : Read (List ℕ)). lineOf (length s) (recordFrom (length s) y)) e
+
+  -- one record, and those after it
+  follow-one : (k at : ℕ) (x : Read (List ℕ)) → at < length s → numbers 11 (drop at s) ≡ x → ((next : ℕ) → at < next → Followed s next (lines k (headOf (drop next s))))
+      → Followed s at (lines (suc k) (headBy x))
+  unfolding lines headBy recordFrom lineOf
+  follow-one k at (taken v r) h e f =
+      let n = length s - length r in
+      let o = recordOk (recordOf v) in
+      let g : Followed s n (lines k (headOf r)) = rw (next-left s at v r e) at (f n (next-moves s at v r e .0)) in
+      rw (head-text o (recordOf v) r) (Promises.taken (line-of at (taken v r) h e ∙ step-text o (recordOf v) (length s) n) g)
+  follow-one k at (refused n) h e f = last-line s at (refusalLine n) (line-of at (refused n) h e)
+
+  -- from a place on, with turns enough for the bytes left
+  follow : (k at : ℕ) → length s ≤ k + at → Followed s at (lines k (headOf (drop at s)))
+  unfolding lines headOf
+  follow zero at h = Promises.ended (line-end s at (omega arith))
+  follow (suc k) at h = go (ltb at (length s)) (ltb-true at (length s)) (ltb-false at (length s)) (λ next m. follow k next (omega arith))
+    where
+      go : (m : Bool) → (m ≡ true → at < length s) → (m ≡ false → length s ≤ at) → ((next : ℕ) → at < next → Followed s next (lines k (headOf (drop next s))))
+          → Followed s at (lines (suc k) (headOf (drop at s)))
+      go true f g r =
+          rw (head-is (drop at s) (rw (length-drop at s) (omega (arith, f refl)))) (follow-one k at (numbers 11 (drop at s)) (f refl) refl r)
+      go false f g r = rw (drop-of-length-le s (g refl)) (Promises.ended (line-end s at (g refl)))
+
+pub steps-make-the-whole : StepsMakeTheWhole
+unfolding printed printedIf
+steps-make-the-whole s = go (leb (length s) mostBytes) (leb-true (length s) mostBytes) (leb-false (length s) mostBytes)
+  where
+    go : (m : Bool) → (m ≡ true → length s ≤ mostBytes) → (m ≡ false → mostBytes < length s) → Followed s 0 (printedIf m s)
+    go true f g = follow s (f refl) (length s) 0 (omega arith)
+    go false f g = last-line s 0 (refusalLine longSheet) (line-long s 0 (omega (arith, g refl)) (g refl))

@@ -1,0 +1,29 @@
+-- What the crate's own functions hand each other. No public contract cites this file. Definitions only.
+use mathlib.Core.Path.{_≡_}
+use Prim.Native.Nat.{ℕ, _+_, _*_, _<_, _≤_}
+use mathlib.Core.Bool.{Bool, true, false}
+use mathlib.Core.List.{List}
+use lib.ListN.{length, drop}
+use lib.Dec.{eqb}
+use Rattle.sheet.specs.Record.{Read, taken, refused, number, numbers}
+use Rattle.sheet.specs.declared.record.Number.{Number}
+use Rattle.sheet.specs.declared.record.Number.the-variants as Number
+use Rattle.sheet.specs.declared.record.Numbers.{Numbers}
+
+-- the number at a place, and the place after it
+unfoldable pub NumberIs : List ℕ → ℕ → Number → Type 0
+NumberIs s at (Number.Value n next) = (number (drop at s) ≡ taken n (drop next s)) × (at < next) × (next ≤ length s)
+NumberIs s at (Number.Refused k) = (number (drop at s) ≡ refused k) × (0 < k)
+
+-- a number whose groups so far make a, the next being worth u
+unfoldable pub scaled : ℕ → ℕ → Read ℕ → Read ℕ
+scaled a u (taken n r) = taken (a + u * n) r
+scaled a u (refused k) = refused k
+
+-- several numbers, by their kind: 0, or the refusal
+unfoldable pub readBy : Bool → ℕ → List ℕ → List ℕ → Read (List ℕ)
+readBy true k v l = taken v l
+readBy false k v l = refused k
+
+abbrev pub NumbersAre : List ℕ → ℕ → Numbers → Type 0
+NumbersAre s at r = (numbers 11 (drop at s) ≡ readBy (eqb (r .kind) 0) (r .kind) (r .values) (drop (r .next) s)) × (r .next ≤ length s)

@@ -1,0 +1,6 @@
+pub mod Refusals
+pub mod Record
+pub mod Lines
+pub mod Sheet
+pub mod Promises
+pub mod Inner

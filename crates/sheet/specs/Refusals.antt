@@ -1,0 +1,18 @@
+-- The numbers that refuse in this layer, after document 01's list. 2 stands in the layer below. Definitions only.
+use Prim.Native.Nat.{ℕ}
+
+-- a record that ends inside itself
+abbrev pub cutShort : ℕ
+cutShort = 6
+
+-- a number of more than 8 groups, or of several groups whose last is zero
+abbrev pub malformed : ℕ
+malformed = 7
+
+-- a line buffer under 64 bytes
+abbrev pub smallBuffer : ℕ
+smallBuffer = 8
+
+-- a sheet over 65,536 bytes
+abbrev pub longSheet : ℕ
+longSheet = 9

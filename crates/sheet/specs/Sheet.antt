@@ -1,0 +1,95 @@
+-- Document 01, module 6: a sheet's lines, one by one and as a whole. Definitions only.
+use Prim.Native.Nat.{ℕ, zero, suc}
+use mathlib.Core.Bool.{Bool, true, false}
+use mathlib.Core.List.{List, [], _∷_, _++_}
+use lib.ListN.{length}
+use lib.Dec.{ltb, leb}
+use Rattle.quote.specs.Refusals.{limits}
+use Rattle.quote.specs.Quotes.{exactQuotes}
+use Rattle.sheet.specs.Refusals.{smallBuffer, longSheet}
+use Rattle.sheet.specs.Record.{Read, taken, refused, numbers, recordOf, recordOk, readRecord}
+use Rattle.sheet.specs.Lines.{answerLine, refusalLine, over}
+use Rattle.sheet.specs.declared.record.Record.{Record}
+use Rattle.sheet.specs.declared.record.RecordAnswer.{RecordAnswer}
+use Rattle.sheet.specs.declared.record.RecordAnswer.the-variants as RecordAnswer
+use Rattle.sheet.specs.declared.line.LineAnswer.{LineAnswer}
+use Rattle.sheet.specs.declared.line.LineAnswer.the-variants as LineAnswer
+
+-- the longest sheet, and the least line buffer
+abbrev pub mostBytes : ℕ
+mostBytes = 65_536
+
+abbrev pub leastRoom : ℕ
+leastRoom = 64
+
+-- a record's line
+unfoldable pub recordLine : Record → List ℕ
+recordLine r = answerLine (exactQuotes (r .«mid_price») (r .inventory) (r .config) (r .volatility) (r .«current_time»))
+
+-- ---- the line at a place, and the next place; or the end
+pub data Step : Type 0 where
+  line : List ℕ → ℕ → Step
+  end : Step
+
+-- of a sheet of n bytes; after 6 or 7 nothing more is read
+unfoldable pub lineOf : ℕ → RecordAnswer → Step
+lineOf n (RecordAnswer.Record r next) = line (recordLine r) next
+lineOf n (RecordAnswer.Skipped k next) = line (refusalLine k) next
+lineOf n (RecordAnswer.Refused k) = line (refusalLine k) n
+
+-- is the place before the end, is the sheet no longer than the longest
+unfoldable pub lineIf : Bool → Bool → List ℕ → ℕ → Step
+lineIf false m s at = end
+lineIf true false s at = line (refusalLine longSheet) (length s)
+lineIf true true s at = lineOf (length s) (readRecord s at)
+
+unfoldable pub lineAt : List ℕ → ℕ → Step
+lineAt s at = lineIf (ltb at (length s)) (leb (length s) mostBytes) s at
+
+-- ---- what `next_line` answers, and what it leaves in the buffer: has that the room
+unfoldable pub answered : Bool → Step → LineAnswer
+answered false t = LineAnswer.Refused smallBuffer
+answered true (line t next) = LineAnswer.Written (length t) next
+answered true end = LineAnswer.End
+
+unfoldable pub left : Bool → Step → List ℕ → List ℕ
+left false t b = b
+left true (line t next) b = over t b
+left true end b = b
+
+abbrev pub hasRoom : List ℕ → Bool
+hasRoom b = leb leastRoom (length b)
+
+-- ---- what is printed for a whole sheet
+-- what the head of some bytes prints: nothing, a line with the bytes left, or the last line
+pub data Head : Type 0 where
+  none : Head
+  first : List ℕ → List ℕ → Head
+  last : List ℕ → Head
+
+unfoldable pub headIf : Bool → Record → List ℕ → Head
+headIf true r l = first (recordLine r) l
+headIf false r l = first (refusalLine limits) l
+
+unfoldable pub headBy : Read (List ℕ) → Head
+headBy (taken v rest) = let r = recordOf v in headIf (recordOk r) r rest
+headBy (refused n) = last (refusalLine n)
+
+unfoldable pub headOf : List ℕ → Head
+headOf [] = none
+headOf (b ∷ l) = headBy (numbers 11 (b ∷ l))
+
+-- the lines in order; a record takes a byte at least, so as many turns as bytes are enough
+unfoldable pub lines : ℕ → Head → List ℕ
+lines zero h = []
+lines (suc k) none = []
+lines (suc k) (last t) = t
+lines (suc k) (first t l) = t ++ lines k (headOf l)
+
+-- is the sheet no longer than the longest
+unfoldable pub printedIf : Bool → List ℕ → List ℕ
+printedIf true s = lines (length s) (headOf s)
+printedIf false s = refusalLine longSheet
+
+unfoldable pub printed : List ℕ → List ℕ
+printed s = printedIf (leb (length s) mostBytes) s

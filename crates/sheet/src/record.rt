@@ -1,0 +1,171 @@
+// Reads a record: eleven numbers in groups of seven bits.
+ghost use mathlib.Core.Path.{_≡_};
+ghost use Prim.Native.Nat.{_+_, _*_, _<_, _≤_};
+ghost use lib.ListN.{length};
+ghost use lib.Dec.{T};
+ghost use Rattle.sheet.specs.Record.{holding, recordOf, recordOk, readRecord};
+ghost use Rattle.sheet.specs.Inner.{NumberIs, NumbersAre};
+use quote::GLFTConfig;
+
+const MOST: u64 = GLFTConfig::MAX_AMOUNT as u64;
+
+// The eleven numbers of a record.
+pub struct Record {
+    pub mid_price: i64,
+    pub inventory: i64,
+    pub volatility: i64,
+    pub config: GLFTConfig,
+    pub current_time: u64,
+}
+
+// A record and the place of the next; a refusal by 2, with the place where reading goes on; or a
+// refusal by 6 or 7, after which nothing more is read.
+pub enum RecordAnswer {
+    Record(Record, usize),
+    Skipped(u8, usize),
+    Refused(u8),
+}
+
+// A number and the place after it, or a refusal.
+enum Number {
+    Value(u64, usize),
+    Refused(u8),
+}
+
+// Eleven numbers and the place after them; kind is 0, or the refusal.
+struct Numbers {
+    kind: u8,
+    values: [u64; 11],
+    next: usize,
+}
+
+fn wide(b: u8) -> u64
+    ensures { λ r. ⌜ r ≡ b ⌝ }
+{
+    b as u64
+}
+
+// The number at a place.
+fn read_number(s: &[u8], at: usize) -> Number
+    requires { ⌜ at ≤ length (now s) ⌝ }
+    ensures { λ r. ⌜ NumberIs (now (s .entry)) at r ⌝ }
+{
+    let mut value: u64 = 0;
+    let mut unit: u64 = 1;
+    let mut groups: usize = 0;
+    while groups < 8 {
+        let i = at + groups;
+        if i >= s.len() {
+            return Number::Refused(6);
+        }
+        let b = s[i];
+        if b < 128 {
+            if (groups > 0) & (b == 0) {
+                return Number::Refused(7);
+            }
+            return Number::Value(value + wide(b) * unit, i + 1);
+        }
+        value += wide(b % 128) * unit;
+        unit = unit * 128;
+        groups += 1;
+    }
+    Number::Refused(7)
+}
+
+// The eleven numbers from a place on.
+fn read_numbers(s: &[u8], at: usize) -> Numbers
+    requires { ⌜ at ≤ length (now s) ⌝ }
+    ensures { λ r. ⌜ NumbersAre (now (s .entry)) at r ⌝ }
+{
+    let mut values: [u64; 11] = [0; 11];
+    let mut next = at;
+    let mut i: usize = 0;
+    while i < 11 {
+        match read_number(s, next) {
+            Number::Value(v, n) => {
+                values[i] = v;
+                next = n;
+            }
+            Number::Refused(kind) => {
+                return Numbers { kind, values, next };
+            }
+        }
+        i += 1;
+    }
+    Numbers {
+        kind: 0,
+        values,
+        next,
+    }
+}
+
+// Whether every number is within its limit. A stored holding is about twice its size.
+fn within_limits(v: [u64; 11]) -> bool
+    ensures { λ r. ⌜ r ≡ recordOk (recordOf v) ⌝ }
+{
+    let config = (v[3] <= MOST)
+        & (v[4] <= MOST)
+        & (v[5] <= MOST)
+        & (v[7] <= MOST)
+        & (v[10] <= MOST)
+        & (v[8] <= GLFTConfig::MAX_TIME);
+    (v[0] <= MOST)
+        & (v[1] <= 2 * MOST)
+        & (v[2] <= MOST)
+        & config
+        & (v[9] <= GLFTConfig::MAX_TIME)
+        & (v[6] <= 4294967295)
+}
+
+// A stored holding: 2h, or -2h - 1 where it is negative.
+fn holding_of(stored: u64) -> i64
+    requires { ⌜ stored ≤ 18000000000000000 ⌝ }
+    ensures { λ r. ⌜ r ≡ holding stored ⌝ }
+{
+    let half = (stored / 2) as i64;
+    if stored % 2 == 0 {
+        return half;
+    }
+    -1 - half
+}
+
+fn record_of(v: [u64; 11]) -> Record
+    requires { ⌜ T (recordOk (recordOf v)) ⌝ }
+    ensures { λ r. ⌜ r ≡ recordOf v ⌝ }
+{
+    let config = GLFTConfig {
+        risk_aversion: v[3] as i64,
+        order_intensity_k: v[4] as i64,
+        intensity_scale_a: v[5] as i64,
+        max_inventory_lots: v[6] as u32,
+        lot_size: v[7] as i64,
+        terminal_time: v[8],
+        min_spread: v[10] as i64,
+    };
+    Record {
+        mid_price: v[0] as i64,
+        inventory: holding_of(v[1]),
+        volatility: v[2] as i64,
+        config,
+        current_time: v[9],
+    }
+}
+
+// The record at a place of a sheet: refused by 6, 7 and 2.
+pub fn read_record(sheet: &[u8], at: usize) -> RecordAnswer
+    ensures { λ r. ⌜ r ≡ readRecord (now (sheet .entry)) at ⌝ }
+{
+    if at > sheet.len() {
+        return RecordAnswer::Refused(6);
+    }
+    let numbers = read_numbers(sheet, at);
+    let kind = numbers.kind;
+    if kind != 0 {
+        return RecordAnswer::Refused(kind);
+    }
+    let values = numbers.values;
+    if within_limits(values) {
+        return RecordAnswer::Record(record_of(values), numbers.next);
+    }
+    RecordAnswer::Skipped(2, numbers.next)
+}
