@@ -1,0 +1,378 @@
+"""Writes crates/quote_cases/stdout: what document 01 says of every case that the program runs.
+
+    python3 expected.py > LINES
+
+A case here is a name, what it changes of the usual desk, and, where document 01's text tells the
+answer of `exact_quotes`, that: a refusal's number, or bid and ask in billionths. The lines
+themselves are reckoned by quoting.py, which is held to what is told. Nothing of the library takes
+part.
+"""
+import math
+import sys
+
+import quoting
+from quoting import BILLION as ONE
+from quoting import MOST_AMOUNT as LIMIT
+from quoting import MOST_TIME as LAST
+from quoting import Desk, elementary
+
+MILLION = 10**6 * ONE
+LARGEST, LEAST = 2**63 - 1, -(2**63)
+BASE = 693147181  # the logarithm of 2
+CAP = "cap"
+USUAL = Desk(100 * ONE, 0, ONE, ONE, ONE, ONE, 1, ONE, 1000, 1000, 0)
+EXAMPLE = Desk(1000 * ONE, 0, 1684700000000, ONE // 100, 3 * ONE // 10, 9 * ONE // 10, 30, ONE, 600000, 0, 0)
+STEEP = Desk(4 * MILLION, 0, 8 * ONE, MILLION, 100000, 1, 8, 100000 * ONE, 5000, 0, 0)
+NAMES = {"risk_aversion": "risk aversion", "a": "A", "lot_size": "lot size", "min_spread": "min spread"}
+CONFIGURATION = ("risk_aversion", "k", "a", "lot_size", "min_spread")
+
+
+def around(distance):
+    return 100 * ONE - distance, 100 * ONE + distance
+
+
+# ---- the cases in amounts
+def document():
+    yield "usual", {}, around(BASE)
+    yield "bound 0 and mid 0", {"bound": 0, "mid": 0}, 1
+    yield "risk aversion and k one billionth", {"risk_aversion": 1, "k": 1}, 13
+    yield "mid 0.5", {"mid": ONE // 2}, 14
+
+
+def at_the_limit():
+    told = {"mid": 13, "volatility": around(BASE), "a": around(BASE), "min_spread": 14}
+    for field in ("mid", "volatility", "risk_aversion", "k", "a", "lot_size", "min_spread"):
+        yield NAMES.get(field, field) + " at the limit", {field: LIMIT}, told.get(field)
+    yield "one lot at the limit", {"holding": LIMIT, "lot_size": LIMIT}, None
+    yield "minus one lot at the limit", {"holding": -LIMIT, "lot_size": LIMIT}, None
+    yield "current at the limit", {"current": LAST}, around(BASE)
+    yield "terminal and current at the limit", {"terminal": LAST, "current": LAST}, around(BASE)
+    yield "terminal at the limit", {"terminal": LAST, "current": 0}, CAP
+
+
+def beyond_the_limit():
+    for field in ("mid", "holding", "volatility", "risk_aversion", "k", "a", "lot_size", "min_spread"):
+        name = NAMES.get(field, field)
+        yield name + " one above the limit", {field: LIMIT + 1}, 2
+        yield name + " one below minus the limit", {field: -LIMIT - 1}, 2
+        yield name + " the largest", {field: LARGEST}, 2
+        yield name + " the least", {field: LEAST}, 2
+    yield "terminal one above the limit", {"terminal": LAST + 1, "current": 0}, 2
+    yield "terminal the largest", {"terminal": 2**64 - 1}, 2
+    yield "current one above the limit", {"current": LAST + 1}, 2
+    yield "current the largest", {"current": 2**64 - 1}, 2
+
+
+def not_positive(fields, number):
+    for field in fields:
+        name = NAMES.get(field, field)
+        yield name + " 0", {field: 0}, number
+        yield name + " minus one billionth", {field: -1}, number
+        yield name + " minus the limit", {field: -LIMIT}, number
+
+
+def configurations():
+    yield from not_positive(("risk_aversion", "k", "a", "lot_size"), 1)
+    yield "bound 0", {"bound": 0}, 1
+    yield "bound 201", {"bound": 201}, 1
+    yield "bound the largest", {"bound": 2**32 - 1}, 1
+    yield "terminal and current 0", {"terminal": 0, "current": 0}, 1
+    yield "terminal 0", {"terminal": 0}, 1
+    yield "min spread minus one billionth", {"min_spread": -1}, 1
+    yield "min spread minus the limit", {"min_spread": -LIMIT}, 1
+
+
+def markets():
+    yield from not_positive(("mid", "volatility"), 3)
+
+
+def held(lot, holding):
+    return {"lot_size": lot, "holding": holding}
+
+
+def fractions():
+    yield "one billionth of a lot", held(ONE, 1), 4
+    yield "minus one billionth of a lot", held(ONE, -1), 4
+    yield "half a lot", held(ONE, ONE // 2), 4
+    yield "minus half a lot", held(ONE, -ONE // 2), 4
+    yield "one billionth less than a lot", held(ONE, ONE - 1), 4
+    yield "one billionth more than a lot", held(ONE, ONE + 1), 4
+    yield "minus 1.5 lots", held(ONE, -3 * ONE // 2), 4
+    yield "1 in lots of 3", held(3 * ONE, ONE), 4
+    # the logarithm of 4, a third of it
+    yield "3 in lots of 3", held(3 * ONE, 3 * ONE), (None, 100462098120)
+    yield "minus 3 in lots of 3", held(3 * ONE, -3 * ONE), (99537901880, None)
+    yield "4 in lots of 3", held(3 * ONE, 4 * ONE), 4
+    yield "0.5 in lots of 0.5", held(ONE // 2, ONE // 2), (None, 100810930216)
+    yield "one billionth in lots at the limit", held(LIMIT, 1), 4
+
+
+def bounds():
+    yield "minus 2 lots at bound 1", held(ONE, -2 * ONE), 4
+    yield "1 in lots of 0.5 at bound 1", held(ONE // 2, ONE), 4
+    yield "2^32 + 1 lots at bound 1", held(1, 2**32 + 1), 4
+    yield "minus 2^32 - 1 lots at bound 1", held(1, -(2**32) - 1), 4
+    yield "the limit in lots of one billionth", held(1, LIMIT), 4
+    yield "minus the limit in lots of one billionth", held(1, -LIMIT), 4
+    yield "199 lots at bound 200", {"bound": 200, "holding": 199 * ONE}, around(BASE)
+    yield "200 lots at bound 200", {"bound": 200, "holding": 200 * ONE}, (None, 100 * ONE + BASE)
+    yield "minus 200 lots at bound 200", {"bound": 200, "holding": -200 * ONE}, (100 * ONE - BASE, None)
+    yield "201 lots at bound 200", {"bound": 200, "holding": 201 * ONE}, 4
+    yield "minus 201 lots at bound 200", {"bound": 200, "holding": -201 * ONE}, 4
+
+
+def caps():
+    # A quarter of a fill a second, the norm is 1: 11,000 steps take 22,000 seconds
+    yield "11,000 steps", {"terminal": 22000000, "current": 0}, None
+    yield "one millisecond more", {"terminal": 22000001, "current": 0}, CAP
+    yield "a long time", {"terminal": 10**9, "current": 0}, CAP
+    yield "a rebalancing", STEEP, None
+    yield "over the cap after a rebalancing", STEEP._replace(terminal=30000), CAP
+
+
+def both(x):
+    return {"risk_aversion": x, "k": x}
+
+
+def too_far():
+    yield "an ask at the limit", {"mid": LIMIT - BASE}, (LIMIT - 2 * BASE, LIMIT)
+    yield "an ask one above the limit", {"mid": LIMIT - BASE + 1}, 13
+    yield "an ask alone beyond the limit", {"mid": LIMIT, "holding": ONE}, 13
+    yield "a bid alone at the largest mid", {"mid": LIMIT, "holding": -ONE}, (LIMIT - BASE, None)
+    yield "k one billionth", {"k": 1}, None
+    yield "risk aversion one billionth", {"risk_aversion": 1}, None
+    yield "risk aversion and k 70 billionths", both(70), 13
+    yield "risk aversion and k 100 billionths", both(100), 14
+    yield "the same at mid 7,000,000", dict(both(100), mid=7 * MILLION), 13
+    yield "the same, no ask", dict(both(100), mid=7 * MILLION, holding=-ONE), None
+
+
+def widened_too_far():
+    yield "widened to an ask one above the limit", {"mid": LIMIT // 2 + 1, "min_spread": LIMIT}, 13
+    yield "widened to a bid of 0 and an ask at the limit", {"mid": LIMIT // 2, "min_spread": LIMIT}, 14
+    yield "widened to the same by rounding up", {"mid": LIMIT // 2, "min_spread": LIMIT - 1}, 14
+    yield "widened to a bid of one billionth", {"mid": LIMIT // 2, "min_spread": LIMIT - 2}, (1, LIMIT - 1)
+
+
+def one_side_too_far():
+    wild = {"volatility": MILLION, "a": 1, "bound": 2, "mid": 8 * MILLION}
+    yield "a bid's distance beyond the limit", dict(wild, holding=ONE), None
+    yield "an ask's distance beyond the limit", dict(wild, holding=-ONE), None
+    yield "a bid above the limit", dict(wild, bound=1, holding=-ONE), None
+
+
+def crossed():
+    long = {"volatility": LIMIT, "holding": ONE}
+    yield "a bid of minus one billionth", {"mid": BASE - 1}, 14
+    yield "a bid of 0", {"mid": BASE}, 14
+    yield "a bid of one billionth", {"mid": BASE + 1}, (1, 2 * BASE + 1)
+    yield "mid 0.5, no ask", {"mid": ONE // 2, "holding": -ONE}, 14
+    yield "mid 0.5, no bid", {"mid": ONE // 2, "holding": ONE}, (None, ONE // 2 + BASE)
+    yield "an ask far below 0", long, (None, 100 * ONE + BASE)
+    yield "an ask far below 0 before the end", dict(long, k=ONE // 100, current=999), 14
+
+
+def same_price():
+    averse = {"risk_aversion": LIMIT}
+    yield "a distance of 2.5 billionths", dict(averse, lot_size=1000 * ONE), around(3)
+    yield "a distance of 0.55 billionths", dict(averse, lot_size=5000 * ONE), around(1)
+    yield "a distance of 0.28 billionths", dict(averse, lot_size=10000 * ONE), 14
+    yield "a distance of nearly 0", dict(averse, lot_size=LIMIT), 14
+    yield "the same, min spread one billionth", dict(averse, lot_size=LIMIT, min_spread=1), around(1)
+    yield "the same, min spread 3 billionths", dict(averse, lot_size=LIMIT, min_spread=3), around(2)
+
+
+def two_faults():
+    cap = {"terminal": 10**9, "current": 0}
+    yield "2 by mid, and 1", {"mid": LIMIT + 1, "bound": 0}, 2
+    yield "2 by terminal, and 1", {"terminal": LAST + 1, "current": 0, "min_spread": -1}, 2
+    yield "2 by current, and 1", {"current": LAST + 1, "bound": 0}, 2
+    yield "2 by current, and 3", {"current": LAST + 1, "mid": 0}, 2
+    yield "2 by volatility, and 3", {"volatility": LIMIT + 1, "mid": 0}, 2
+    yield "2 by current, and 4", {"current": LAST + 1, "holding": 1}, 2
+    yield "1 by k, and 3", {"k": 0, "mid": 0}, 1
+    yield "1 by min spread, and 4", {"min_spread": -1, "holding": 1}, 1
+    yield "1 by lot size 0, and a holding", {"lot_size": 0, "holding": ONE}, 1
+    yield "3 by volatility, and 4", {"volatility": 0, "holding": 1}, 3
+    yield "3 by mid, and 4", {"mid": 0, "holding": 2 * ONE}, 3
+    yield "4 and 13", dict(both(1), holding=1), 4
+    yield "4 and 14", {"mid": ONE // 2, "holding": 2 * ONE}, 4
+    yield "4 and the cap", dict(cap, holding=1), 4
+    yield "the cap and 13", dict(cap, **both(1)), CAP
+    yield "the cap and 14", dict(cap, mid=ONE // 2), CAP
+    yield "13 by the ask, and 14 by the bid", dict(both(100), mid=4 * MILLION), 13
+
+
+def prices():
+    # half the logarithm of 3, that of 1.5, and twice that
+    yield "risk aversion 2", {"risk_aversion": 2 * ONE}, around(549306144)
+    yield "k 2", {"k": 2 * ONE}, around(405465108)
+    yield "lot size 0.5", {"lot_size": ONE // 2}, around(810930216)
+    yield "min spread that of the quotes", {"min_spread": 2 * BASE}, around(BASE)
+    yield "min spread one billionth more", {"min_spread": 2 * BASE + 1}, around(BASE + 1)
+    yield "min spread two billionths more", {"min_spread": 2 * BASE + 2}, around(BASE + 1)
+    yield "min spread three billionths more", {"min_spread": 2 * BASE + 3}, around(BASE + 2)
+    yield "min spread 2 with no bid", {"min_spread": 2 * ONE, "holding": ONE}, (None, 100 * ONE + BASE)
+    yield "min spread 2 with no ask", {"min_spread": 2 * ONE, "holding": -ONE}, (100 * ONE - BASE, None)
+
+
+def halfway():
+    up = {"risk_aversion": 5, "k": 112, "lot_size": 1102600000}  # 8,715,779.8779296875
+    down = {"risk_aversion": 5, "k": 115, "lot_size": 1088200000}  # 8,496,209.9072265625
+    above, below = 8715779877929688, 8496209907226562
+    yield "halfway, no ask", dict(up, mid=LIMIT, holding=-1102600000), (LIMIT - above, None)
+    yield "halfway, no bid", dict(up, holding=1102600000), (None, 100 * ONE + above)
+    yield "halfway the other way, no ask", dict(down, mid=LIMIT, holding=-1088200000), (LIMIT - below, None)
+    yield "halfway the other way, no bid", dict(down, holding=1088200000), (None, 100 * ONE + below)
+
+
+def runs():
+    yield "one millisecond left", {"current": 999}, None
+    yield "one second left", {"current": 0}, None
+    yield "one millisecond past the end", {"current": 1001}, around(BASE)
+    yield "the example of glft.rs", EXAMPLE, None
+    yield "the example with 5 lots", EXAMPLE._replace(holding=5 * ONE), None
+    yield "the example with minus 30 lots", EXAMPLE._replace(holding=-30 * ONE), None
+
+
+TABLES = (document, at_the_limit, beyond_the_limit, configurations, markets, fractions, bounds, caps, too_far,
+          widened_too_far, one_side_too_far, crossed, same_price, two_faults, prices, halfway, runs)
+
+
+def refused(ask, *arguments):
+    """What is answered, or `R` and a refusal's number."""
+    try:
+        return ask(*arguments)
+    except quoting.Refused as refusal:
+        return "R %d" % refusal.number
+
+
+def new_configuration(desk):
+    usual = USUAL._replace(**{name: getattr(desk, name) for name in CONFIGURATION}, terminal=desk.terminal)
+    quoting.check_limits(usual, 0)
+    quoting.check_configuration(desk)
+    return "passes"
+
+
+def lots(desk):
+    return "%d" % quoting.model_of(desk)[1]
+
+
+def line(name, desk):
+    fields = [refused(new_configuration, desk), refused(lots, desk)]
+    entries = (quoting.EXACT, quoting.WRAPPER, quoting.CLOSED_FORM)
+    return name + ": " + " | ".join(fields + [quoting.line(desk, entry) for entry in entries])
+
+
+def hold(name, desk, told):
+    """The reckoning against what document 01's text tells."""
+    exact = quoting.line(desk, quoting.EXACT)
+    if told is None:
+        return
+    if told == CAP:
+        agrees = exact.startswith("C ")
+    elif isinstance(told, int):
+        agrees = exact == "R %d" % told
+    else:
+        agrees = exact == quoting.prices(*told) + " 0"
+    if not agrees:
+        sys.exit("expected.py: %s: %s, and not %s" % (name, exact, told))
+
+
+def amounts():
+    for table in TABLES:
+        for name, changes, told in table():
+            desk = changes if isinstance(changes, Desk) else USUAL._replace(**changes)
+            hold(name, desk, told)
+            yield line(name, desk)
+
+
+def models():
+    desks = {
+        "the usual desk": USUAL,
+        "the example": EXAMPLE,
+        "the steep desk": STEEP,
+        "lots of 0.7 at bound 200": USUAL._replace(lot_size=7 * ONE // 10, bound=200),
+    }
+    for name, desk in desks.items():
+        model, _ = quoting.model_of(desk)
+        yield "model of %s: %s %d" % (name, " ".join(map(bits, model[:7])), model.bound)
+
+
+# ---- the cases in floats
+def bits(x):
+    return "%016x" % elementary.bits_of(x)
+
+
+def floats(name, k=1.0, alpha=1.0, eta=1.0, base=1.0, bound=1, tau=1.0, q=0, told=None):
+    try:
+        distances, steps = quoting.float_entry(k, alpha, eta, base, bound, tau, q)
+        answer = " ".join(["-" if d is None else bits(d) for d in distances] + ["%d" % steps])
+    except quoting.OverCap as report:
+        answer = "C %s %d %d" % (bits(report.needed), report.budget, report.steps)
+    except quoting.Refused as refusal:
+        answer = "R %d" % refusal.number
+    if told is not None and answer != "R %d" % told:
+        sys.exit("expected.py: floats, %s: %s, and not %d" % (name, answer, told))
+    return "floats, %s: %s" % (name, answer)
+
+
+def unfit():
+    yield floats("all 1")
+    yield floats("k 0", k=0.0, told=5)
+    yield floats("k -1", k=-1.0, told=5)
+    yield floats("k infinite", k=math.inf, told=5)
+    yield floats("k no number", k=math.nan, told=5)
+    for name in ("alpha", "eta", "base"):
+        yield floats(name + " 0", told=5, **{name: 0.0})
+        yield floats(name + " infinite", told=5, **{name: math.inf})
+        yield floats(name + " no number", told=5, **{name: math.nan})
+    yield floats("tau infinite", tau=math.inf, told=5)
+    yield floats("tau minus infinite", tau=-math.inf, told=5)
+    yield floats("tau no number", tau=math.nan, told=5)
+    yield floats("tau -1", tau=-1.0)
+    yield floats("bound 0", bound=0, told=1)
+    yield floats("bound 201", bound=201, told=1)
+    yield floats("bound 0 and tau no number", bound=0, tau=math.nan, told=5)
+    yield floats("bound 0 and q 1", bound=0, q=1, told=1)
+    yield floats("q 2", q=2, told=4)
+    yield floats("q -2", q=-2, told=4)
+    yield floats("q the least", q=LEAST, told=4)
+    yield floats("q 2 and tau infinite", q=2, tau=math.inf, told=5)
+    yield floats("q 2 over the cap", q=2, tau=1e10, told=4)
+    yield floats("over the cap", q=1, tau=1e10)
+
+
+def numerical():
+    yield floats("the norm times tau infinite", alpha=1e300, tau=1e300, told=11)
+    yield floats("the norm itself infinite", alpha=1e308, bound=2, tau=1e-300, told=11)
+    yield floats("the norm times tau zero", alpha=1e-300, eta=1e-300, tau=1e-300, told=11)
+    yield floats("a factor infinite", alpha=1e100, eta=1e-300, tau=1e-97, told=11)
+    yield floats("the same with fewer steps", alpha=1e100, eta=1e-300, tau=9e-98)
+    yield floats("a distance infinite", k=1e-308, alpha=1e10, tau=1e-8, told=11)
+    yield floats("a distance not infinite", k=1e-300, alpha=1e10, tau=1e-8)
+
+
+def functions():
+    cases = (
+        ("LN 0", elementary.ln, 0.0), ("LN -1", elementary.ln, -1.0), ("LN infinite", elementary.ln, math.inf),
+        ("LN1P 0", elementary.ln_1p, 0.0), ("LN1P -0.5", elementary.ln_1p, -0.5),
+        ("LN1P no number", elementary.ln_1p, math.nan), ("EXP infinite", elementary.exp, math.inf),
+        ("EXP no number", elementary.exp, math.nan), ("root of -1", elementary.sqrt, -1.0),
+        ("root infinite", elementary.sqrt, math.inf), ("rounding up infinite", elementary.ceil, math.inf),
+        ("rounding up no number", elementary.ceil, math.nan),
+    )
+    for name, function, argument in cases:
+        if function(argument) is not elementary.REFUSED:
+            sys.exit("expected.py: " + name)
+        yield name + ": R 5"
+
+
+def main():
+    for part in (amounts, models, unfit, numerical, functions):
+        for text in part():
+            print(text)
+
+
+if __name__ == "__main__":
+    main()
