@@ -8,8 +8,8 @@ For each case of exact.py and each q from -Q to Q:
   paper's, and its two distances are held to Theorem 1's;
 - DESKRUN, the quotes, gets amounts. Sigma goes from root seconds to root years of 365 days, to the
   nearest billionth. Mid less bid and ask less mid are held to Theorem 1's distances (`exact_quotes`)
-  and to the closed form's (`closed_form_quotes`); a price is a whole number of billionths, so half a
-  billionth is the least that can be expected.
+  and to the closed form's (`closed_form_quotes`). A price is a whole number of billionths, so half of
+  one is what can be expected; the status is 1 where a price is more than one away.
 """
 import os
 import struct
@@ -83,6 +83,7 @@ def farthest(ours, papers, scale=1):
 
 def main():
     floatrun, deskrun = sys.argv[1:]
+    worst = 0
     print("%-28s %6s  %-22s  %s" % ("", "", "floatrun, units:", "deskrun, billionths:"))
     print("%-28s %6s  %-11s %-11s %-11s %-11s" % ("case", "steps", "largest", "relative", "exact", "closed form"))
     for case in exact.CASES:
@@ -93,8 +94,10 @@ def main():
         absolute, relative = farthest(floats, theorem)
         quotes, _ = farthest(from_quotes(deskrun, case, quoting.EXACT), theorem, BILLION)
         forms, _ = farthest(from_quotes(deskrun, case, quoting.CLOSED_FORM), form, BILLION)
+        worst = max(worst, quotes * BILLION, forms * BILLION)
         shown = [mp.nstr(x, 3) for x in (absolute, relative, quotes * BILLION, forms * BILLION)]
         print("%-28s %6d  %-11s %-11s %-11s %-11s" % (case.name, steps, *shown))
+    sys.exit(1 if worst > 1 else 0)
 
 
 if __name__ == "__main__":

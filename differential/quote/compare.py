@@ -25,6 +25,7 @@ import quoting
 from quoting import BILLION, MOST_AMOUNT, MOST_TIME
 
 ENTRIES = ("exact", "wrapper", "closed form")
+PLANS = {0: "no run", 1: "1 step", quoting.STEPS: "11,000 steps"}
 NEAR = 1000.0
 WITHIN = 2
 SIZES = (NEAR, 1e4, 1e5, 1e6, 1e7)
@@ -139,6 +140,8 @@ class Comparison:
             for side, price in zip(("bid", "ask"), fields[1:3]):
                 if price == "-":
                     self.counts["%s: Q, no %s" % (name, side)] += 1
+            if len(fields) > 3 and not rebalancings and int(fields[3]) in PLANS:
+                self.counts["%s: Q, %s" % (name, PLANS[int(fields[3])])] += 1
         if fields[0] in "QC" and rebalancings:
             self.counts["%s: %s, after rebalancing" % (name, fields[0])] += 1
 
@@ -155,6 +158,8 @@ class Comparison:
 
     def take(self, record, ours, routed, note, platform):
         """The faults of a line."""
+        if "" in (ours, routed, note, platform):
+            return ["no line"]
         if len(record) < quoting.RECORD.size:
             return [] if ours == routed == "R 6" else ["a record that is cut short"]
         desk, entry = quoting.unpack(record)
