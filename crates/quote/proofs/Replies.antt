@@ -1,16 +1,14 @@
 -- Every reply of an exact call keeps its prices, steps and number within their limits. Assumes nothing.
-use mathlib.Core.Path.{_≡_, refl, sym, ap, _∙_, subst}
-use mathlib.Core.Logic.{_⊎_, inl, inr}
+use mathlib.Core.Path.{_≡_, refl, sym, ap, subst}
+use mathlib.Core.Logic.{inl, inr}
 use Prim.Native.Nat.{ℕ, _≤_}
 use native.Mathlib.Omega.{arith}
 use mathlib.Core.Bool.{Bool, true, false, not, _&&_, and-eq-true-iff}
 use borrow.Author.Tests.{leb-true, ltb-true}
 use lib.IntN.{ℤ, pos, negsuc, natAbs}
-use lib.Signed.{ltZ}
 use lib.Dec.{T, leb}
 use lib.Ieee.{Float, nan, inf, fin, lt, isNan}
 use Rattle.elementary.specs.Float.{whole}
-use Rattle.vector.specs.Refusals.{numerical}
 use Rattle.vector.specs.Run.{Ended, vector, overCap, failed, cap, boundOk, run}
 use Rattle.vector.specs.Distances.{sides, exactAt, refusedEntry, withVector, answerBy, entryIf, floatsOk, floatEntry}
 use Rattle.vector.specs.Promises.{Counted}
@@ -22,7 +20,7 @@ use Rattle.vector.proofs.Spent.{cap-needs-plan}
 use Rattle.quote.specs.Refusals.{crossed}
 use Rattle.quote.specs.Configuration.{amountLimit, amountOk, above0, timeOk}
 use Rattle.quote.specs.Model.{newModel, tauOf}
-use Rattle.quote.specs.Quotes.{side, widening, bidPrice, askPrice, each, inOrder, judgeIf, judge, quotesBy, buildQuotes, withSteps, exactFrom, exactIf, exactAnswer, exactBy, exactQuotes, exactSteps}
+use Rattle.quote.specs.Quotes.{each, inOrder, judgeIf, judge, quotesBy, buildQuotes, withSteps, exactFrom, exactIf, exactAnswer, exactBy, exactQuotes, exactSteps}
 use Rattle.quote.specs.Promises.{Checked, by-2, by-1, by-3, by-4, by-5, Priced, by-13, by-14, ExactRefused}
 use Rattle.quote.specs.Replies.{PriceKept, ReplyKept, RepliesKept}
 use Rattle.quote.specs.declared.GLFTConfig.{GLFTConfig}

@@ -5,7 +5,7 @@ use native.Mathlib.Omega.{arith}
 use mathlib.Core.Bool.{Bool, true, false, _&&_}
 use mathlib.Core.List.{List}
 use borrow.Author.Tests.{leb-true, leb-false, le-leb, lt-leb, eqb-true, eqb-false}
-use lib.IntN.{ℤ, natAbs}
+use lib.IntN.{natAbs}
 use lib.ListN.{getD}
 use lib.Dec.{T, leb, eqb, leb→le}
 use Rattle.quote.specs.Configuration.{amountLimit, timeLimit, amountOk, timeOk, configLimits}

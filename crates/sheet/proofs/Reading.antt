@@ -1,18 +1,22 @@
 -- Reading a number group by group, and a record number by number. Assumes nothing.
-use mathlib.Core.Path.{_≡_, refl, sym, ap, _∙_}
+use mathlib.Core.Path.{_≡_, refl, ap, _∙_}
 use Prim.Native.Nat.{ℕ, zero, suc, _+_, _-_, _*_, _%_, _^_, _<_, _≤_}
 use native.Mathlib.Nat.{add-zero, zero-add, add-suc, suc-add, le-of-eq, mul-le-mul-right, pow-suc, pow-le-pow-right}
 use native.Mathlib.Numerals.{add-one}
 use native.Mathlib.Omega.{arith}
-use mathlib.Core.Bool.{Bool, true, false, _&&_}
-use mathlib.Core.List.{List, [], _∷_, _++_}
+use mathlib.Core.Bool.{true, false, _&&_}
+use mathlib.Core.List.{List}
 use borrow.Author.Tests.{lt-ltb, le-ltb}
 use lib.ListN.{length, getD, take, drop, set, length-set, drop-of-length-le}
 use lib.Seq.{drop-cons, take-all, take-suc-set}
 use lib.Dec.{ltb, eqb, lit<}
 use Rattle.sheet.specs.Refusals.{cutShort, malformed}
 use Rattle.sheet.specs.Record.{Read, taken, refused, _then_, group, groups, number, numbers}
-use Rattle.sheet.specs.Inner.{scaled}
+
+-- a number whose groups so far make a, the next being worth u
+pub scaled : ℕ → ℕ → Read ℕ → Read ℕ
+scaled a u (taken n r) = taken (a + u * n) r
+scaled a u (refused k) = refused k
 
 -- ---- a number whose first k groups make a value, the next being worth a unit
 pub record Grouped (s : List ℕ) (at value unit k : ℕ) : Type 0 where

@@ -1,10 +1,10 @@
--- The promises of the sheet: holdings as stored, lines that fit and move, and the steps that make the whole. Assumes nothing.
+-- The promises of the sheet: numbers and holdings as stored, lines that fit and move, and the steps that make the whole. Assumes nothing.
 use mathlib.Core.Path.{_≡_, refl, sym, ap, _∙_, subst}
 use Prim.Native.Nat.{ℕ, zero, suc, _+_, _-_, _*_, _/_, _%_, _<_, _≤_}
 use native.Mathlib.Nat.{le-refl}
 use native.Mathlib.Omega.{arith}
 use mathlib.Core.Bool.{Bool, true, false}
-use mathlib.Core.List.{List, [], _∷_, _++_, append-nil}
+use mathlib.Core.List.{List, [], _∷_, append-nil}
 use borrow.Author.Tests.{ltb-true, ltb-false, leb-true, leb-false, eq-eqb, ne-eqb, eqb-true, eqb-false}
 use lib.IntN.{ℤ, pos, negsuc}
 use lib.ListN.{length, drop, length-drop, drop-of-length-le}
@@ -12,10 +12,10 @@ use lib.Dec.{ltb, leb, eqb, lit<}
 use Rattle.quote.proofs.Replies.{replies-kept}
 use Rattle.quote.specs.Refusals.{limits}
 use Rattle.sheet.specs.Refusals.{malformed, longSheet}
-use Rattle.sheet.specs.Record.{Read, taken, refused, numbers, stored, holdingBy, holding, recordOf, recordOk, recordIf, recordFrom, readRecord}
+use Rattle.sheet.specs.Record.{Read, taken, refused, _then_, group, groups, number, numbers, stored, holdingBy, holding, recordOf, recordOk, recordIf, recordFrom, readRecord}
 use Rattle.sheet.specs.Lines.{refusalLine}
 use Rattle.sheet.specs.Sheet.{mostBytes, leastRoom, recordLine, Step, line, end, lineOf, lineAt, answered, first, headIf, headBy, headOf, lines, printedIf, printed}
-use Rattle.sheet.specs.Promises.{HoldingsStored, LinesFit, LinesMove, Followed, StepsMakeTheWhole}
+use Rattle.sheet.specs.Promises.{BillionRead, HoldingsStored, LinesFit, LinesMove, Followed, StepsMakeTheWhole}
 use Rattle.sheet.specs.Promises as Promises
 use Rattle.sheet.specs.declared.record.Record.{Record}
 use Rattle.sheet.specs.declared.line.LineAnswer.the-variants as LineAnswer
@@ -23,7 +23,11 @@ use Rattle.sheet.proofs.Widths.{answer-most, refusal-most}
 use Rattle.sheet.proofs.Steps.{line-end, line-long, line-read}
 use Rattle.sheet.proofs.Left.{next-moves, next-left, refused-small}
 
--- ---- holdings
+-- ---- numbers and holdings
+pub billion-read : BillionRead
+unfolding number groups group _then_
+billion-read = refl
+
 back : (h : ℤ) → holding (stored h) ≡ h
 unfolding stored holding holdingBy
 back (pos n) = rw (eq-eqb (2 * n % 2) 0 (omega arith)) (ap pos (omega arith))
@@ -120,7 +124,7 @@ line-told b s at n next e =
 -- ---- the steps make the whole
 -- a line that is the last
 last-line : (s : List ℕ) (at : ℕ) (t : List ℕ) → lineAt s at ≡ line t (length s) → Followed s at t
-last-line s at t e = subst (Followed s at) (append-nil t) (Promises.taken e (Promises.ended (line-end s (length s) (le-refl (length s)))))
+last-line s at t e = subst (Followed s at) (append-nil t) (Promises.stepped e (Promises.ended (line-end s (length s) (le-refl (length s)))))
 
 head-is : (l : List ℕ) → 0 < length l → headOf l ≡ headBy (numbers 11 l)
 unfolding headOf
@@ -140,7 +144,7 @@ module _ (s : List ℕ) (short : length s ≤ mostBytes) where
       let n = length s - length r in
       let o = recordOk (recordOf v) in
       let g : Followed s n (lines k (headOf r)) = rw (next-left s at v r e) at (f n (next-moves s at v r e .0)) in
-      rw (head-text o (recordOf v) r) (Promises.taken (line-of at (taken v r) h e ∙ step-text o (recordOf v) (length s) n) g)
+      rw (head-text o (recordOf v) r) (Promises.stepped (line-of at (taken v r) h e ∙ step-text o (recordOf v) (length s) n) g)
   follow-one k at (refused n) h e f = last-line s at (refusalLine n) (line-of at (refused n) h e)
 
   -- from a place on, with turns enough for the bytes left

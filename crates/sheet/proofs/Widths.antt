@@ -1,8 +1,8 @@
 -- How long a field and a line are. Assumes nothing.
-use mathlib.Core.Path.{_≡_, refl, sym, ap, _∙_}
+use mathlib.Core.Path.{_≡_, ap, _∙_}
 use Prim.Native.Nat.{ℕ, suc, _+_, _/_, _^_, _<_, _≤_}
 use native.Mathlib.Omega.{arith}
-use mathlib.Core.List.{List, [], _∷_, _++_}
+use mathlib.Core.List.{[], _∷_, _++_}
 use lib.ListN.{length, length-append}
 use lib.IntN.{pos, negsuc}
 use lib.Ieee.{Float, binary64, toBits}
@@ -12,7 +12,7 @@ use Rattle.quote.specs.declared.Price.the-variants.{At, Absent}
 use Rattle.quote.specs.declared.GlftQuotes.{GlftQuotes}
 use Rattle.quote.specs.declared.ExactQuotes.{ExactQuotes}
 use Rattle.quote.specs.declared.ExactQuotes.the-variants as ExactQuotes
-use Rattle.sheet.specs.Lines.{digits, places, count, price, side, hex, joined, quotesLine, capLine, refusalLine, answerLine}
+use Rattle.sheet.specs.Lines.{digits, count, price, side, hex, joined, quotesLine, capLine, refusalLine, answerLine}
 use Rattle.sheet.proofs.Digits.{places-most, length-digits, length-count}
 
 -- ---- fields

@@ -1,6 +1,6 @@
 -- What the crate's own functions hand each other. No public contract cites this file. Definitions only.
 use mathlib.Core.Path.{_≡_}
-use Prim.Native.Nat.{ℕ, _+_, _*_, _<_, _≤_}
+use Prim.Native.Nat.{ℕ, _<_, _≤_}
 use mathlib.Core.Bool.{Bool, true, false}
 use mathlib.Core.List.{List}
 use lib.ListN.{length, drop}
@@ -12,13 +12,8 @@ use Rattle.sheet.specs.declared.record.Numbers.{Numbers}
 
 -- the number at a place, and the place after it
 unfoldable pub NumberIs : List ℕ → ℕ → Number → Type 0
-NumberIs s at (Number.Value n next) = (number (drop at s) ≡ taken n (drop next s)) × (at < next) × (next ≤ length s)
+NumberIs s at (Number.Value n next) = (number (drop at s) ≡ taken n (drop next s)) × (next ≤ length s)
 NumberIs s at (Number.Refused k) = (number (drop at s) ≡ refused k) × (0 < k)
-
--- a number whose groups so far make a, the next being worth u
-unfoldable pub scaled : ℕ → ℕ → Read ℕ → Read ℕ
-scaled a u (taken n r) = taken (a + u * n) r
-scaled a u (refused k) = refused k
 
 -- several numbers, by their kind: 0, or the refusal
 unfoldable pub readBy : Bool → ℕ → List ℕ → List ℕ → Read (List ℕ)

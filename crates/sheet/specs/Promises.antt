@@ -1,11 +1,15 @@
 -- What holds of every sheet, as named statements. Each is proved once, in proofs/. Definitions only.
 use mathlib.Core.Path.{_≡_}
 use Prim.Native.Nat.{ℕ, _<_, _≤_}
-use mathlib.Core.List.{List, [], _++_}
+use mathlib.Core.List.{List, [], _∷_, _++_}
 use lib.IntN.{ℤ}
 use lib.ListN.{length}
-use Rattle.sheet.specs.Record.{stored, holding}
+use Rattle.sheet.specs.Record.{taken, number, stored, holding}
 use Rattle.sheet.specs.Sheet.{leastRoom, line, end, lineAt, printed}
+
+-- ---- the paper's example: 1,000,000,000 is hex 80 94 EB DC 03
+abbrev pub BillionRead : Type 0
+BillionRead = number (0x80 ∷ 0x94 ∷ 0xEB ∷ 0xDC ∷ 0x03 ∷ []) ≡ taken 1_000_000_000 []
 
 -- ---- every holding is stored as one number, and every number stores one holding
 abbrev pub HoldingsStored : Type 0
@@ -22,7 +26,7 @@ LinesMove = (s : List ℕ) (at : ℕ) (t : List ℕ) (next : ℕ) → lineAt s a
 -- ---- the steps make the whole: lines taken one after the other from a place until the end, and their bytes
 pub data Followed (s : List ℕ) : ℕ → List ℕ → Type 0 where
   ended : {at : ℕ} → lineAt s at ≡ end → Followed s at []
-  taken : {at next : ℕ} {t u : List ℕ} → lineAt s at ≡ line t next → Followed s next u → Followed s at (t ++ u)
+  stepped : {at next : ℕ} {t u : List ℕ} → lineAt s at ≡ line t next → Followed s next u → Followed s at (t ++ u)
 
 abbrev pub StepsMakeTheWhole : Type 0
 StepsMakeTheWhole = (s : List ℕ) → Followed s 0 (printed s)

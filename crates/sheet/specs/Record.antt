@@ -31,7 +31,7 @@ group true true b l r = refused malformed
 group true false b l r = taken b l
 group false z b l r = r
 
--- the groups from here on, of which so many may come; have there been others before
+-- the groups from here on, of which so many may come; have there been others before. Where none may come, the last byte's top bit asked for one too many.
 unfoldable pub groups : ℕ → Bool → List ℕ → Read ℕ
 groups zero later l = refused malformed
 groups (suc k) later [] = refused cutShort

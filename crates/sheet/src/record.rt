@@ -1,8 +1,9 @@
 // Reads a record: eleven numbers in groups of seven bits.
 ghost use mathlib.Core.Path.{_≡_};
-ghost use Prim.Native.Nat.{_+_, _*_, _<_, _≤_};
+ghost use Prim.Native.Nat.{_*_, _≤_};
 ghost use lib.ListN.{length};
 ghost use lib.Dec.{T};
+ghost use Rattle.quote.specs.Configuration.{amountLimit};
 ghost use Rattle.sheet.specs.Record.{holding, recordOf, recordOk, readRecord};
 ghost use Rattle.sheet.specs.Inner.{NumberIs, NumbersAre};
 use quote::GLFTConfig;
@@ -119,7 +120,7 @@ fn within_limits(v: [u64; 11]) -> bool
 
 // A stored holding: 2h, or -2h - 1 where it is negative.
 fn holding_of(stored: u64) -> i64
-    requires { ⌜ stored ≤ 18000000000000000 ⌝ }
+    requires { ⌜ stored ≤ 2 * amountLimit ⌝ }
     ensures { λ r. ⌜ r ≡ holding stored ⌝ }
 {
     let half = (stored / 2) as i64;

@@ -1,15 +1,15 @@
 -- `sheet::line::write_side` meets its contract: a price is positive, so the cast keeps it. Assumes nothing.
-use mathlib.Core.Path.{_≡_, refl, sym, ap, _∙_, subst}
-use Prim.Native.Nat.{ℕ, _≤_}
+use mathlib.Core.Path.{_≡_, refl, ap, _∙_, subst}
+use Prim.Native.Nat.{ℕ}
 use native.Mathlib.Omega.{arith}
 use mathlib.Core.List.{[], _∷_}
-use lib.IntN.{ℤ, pos, negsuc, natAbs}
+use lib.IntN.{ℤ, pos, negsuc}
 use denote.Ref.{now}
 use mir.Syntax.{w64}
 use mir.Val.{SFits, Fits, toZ, ofZ}
 use mir.Facts.{toZ-ofZ}
 use Rattle.quote.specs.Replies.{PriceKept}
-use Rattle.quote.specs.declared.Price.the-variants.{At, Absent}
+use Rattle.quote.specs.declared.Price.the-variants.{At}
 use Rattle.sheet.specs.Lines.{side, price}
 use Rattle.sheet.proofs.Texts.{wrote-none, wrote-byte}
 use borrow.Author.Needs.{needs}

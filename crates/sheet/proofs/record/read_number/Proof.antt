@@ -63,7 +63,7 @@ unfolding NumberIs
 returns-3 c =
     let k = c .before .before .before in
     rw (c .wide .ensures)
-    (group-last _ _ _ _ _ (k .before .before .before .loop .inv) (k .before .before .loop-test .taken) _ (k .before .if1 .left) refl (c .before .before .if2 .taken) (c .before .if3 .left), omega arith, omega arith)
+    (group-last _ _ _ _ _ (k .before .before .before .loop .inv) (k .before .before .loop-test .taken) _ (k .before .if1 .left) refl (c .before .before .if2 .taken) (c .before .if3 .left), omega arith)
 
 wide-requires-2 : tie.Need-wide-requires-2 Inv-loop μ-loop
 wide-requires-2 c κs = search needs

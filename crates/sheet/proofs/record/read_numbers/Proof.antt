@@ -52,7 +52,7 @@ unfolding NumberIs
 loop-again c =
     let k = c .before .before .before in
     let r = rw (c .before .v .given .1) at (k .read-number .ensures) in
-    passed-more _ _ _ _ _ _ _ (k .before .before .loop .inv) (k .before .loop-test .taken) (r .0) (r .2)
+    passed-more _ _ _ _ _ _ _ (k .before .before .loop .inv) (k .before .loop-test .taken) (r .0) (r .1)
 
 returns-2 : tie.Need-returns-2 Inv-loop μ-loop
 unfolding readBy
