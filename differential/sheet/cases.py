@@ -1,0 +1,118 @@
+"""Writes crates/sheetrun/stdin: the sheets of the gate.
+
+    python3 cases.py > SHEETS
+
+A case is a sheet and, where document 01's text tells the lines, those; sheet.py is held to them. The
+stored output is sheet.py's. Nothing of the library takes part.
+"""
+import sys
+
+import sheet
+from quoting import BILLION as ONE
+from quoting import MOST_AMOUNT, MOST_TIME, Desk
+from sheet import MOST_BYTES, groups, packed
+
+USUAL = Desk(100 * ONE, 0, ONE, ONE, ONE, ONE, 1, ONE, 1000, 1000, 0)
+# glft.rs's own example, twelve seconds before its end
+EXAMPLE = Desk(1000 * ONE, 0, 1684700000000, ONE // 100, 3 * ONE // 10, 9 * ONE // 10, 30, ONE, 600000, 588000, 0)
+BEYOND = b"\xff" * 7 + b"\x7f"  # 8 groups, beyond every limit
+QUOTE = "Q 99.306852819 100.693147181 0\n"
+
+
+def changed(**changes):
+    return packed(USUAL._replace(**changes))
+
+
+def numbers(changes):
+    """The usual record, with other bytes for the numbers at some places."""
+    fields = [groups(2 * x if name == "holding" else x) for name, x in zip(Desk._fields, USUAL)]
+    for place, number in changes.items():
+        fields[place] = number
+    return b"".join(fields)
+
+
+def document():
+    """Document 01's own sheet, and the empty one."""
+    records = (changed(), changed(holding=ONE), changed(holding=-ONE), changed(min_spread=2 * ONE),
+               changed(holding=3 * ONE // 2), changed(bound=201))
+    yield b"".join(records), (
+        QUOTE
+        + "Q - 100.693147181 0\n"
+        + "Q 99.306852819 - 0\n"
+        + "Q 99.000000000 101.000000000 0\n"
+        + "R 4\n"
+        + "R 1\n")
+    yield b"", ""
+
+
+def refusals():
+    """Every refusal of a record that is read, each twice; reading goes on after it."""
+    cases = (
+        (2, {"mid": MOST_AMOUNT + 1}), (2, {"holding": MOST_AMOUNT + 1}), (2, {"holding": -MOST_AMOUNT - 1}),
+        (2, {"min_spread": MOST_AMOUNT + 1}), (2, {"terminal": MOST_TIME + 1}), (2, {"current": MOST_TIME + 1}),
+        (2, {"bound": 2**32}), (1, {"bound": 2**32 - 1}), (1, {"bound": 0}), (1, {"risk_aversion": 0}),
+        (1, {"k": 0}), (1, {"a": 0}), (1, {"lot_size": 0}), (1, {"terminal": 0}), (1, {"mid": 0, "bound": 0}),
+        (3, {"mid": 0}), (3, {"volatility": 0}), (4, {"holding": 2 * ONE}), (4, {"holding": -2 * ONE}),
+        (13, {"risk_aversion": 1, "k": 1}), (13, {"mid": MOST_AMOUNT}), (14, {"mid": ONE // 2}),
+        (14, {"min_spread": 200 * ONE}))
+    told = ["R %d\n" % number for number, _ in cases]
+    yield b"".join(changed(**changes) for _, changes in cases), "".join(told)
+    yield b"".join(changed(**changes) + changed() for _, changes in cases), "".join(line + QUOTE for line in told)
+
+
+def runs():
+    """Lines with steps: quotes of a run, and the cap."""
+    yield b"".join(packed(EXAMPLE._replace(holding=q * ONE)) for q in (0, 1, -1, 30, -30)), None
+    yield packed(EXAMPLE._replace(bound=200, terminal=MOST_TIME, current=0)), None
+    yield changed(terminal=MOST_TIME, current=0) + changed(), None
+
+
+def cuts():
+    """A record that ends inside itself at each of its bytes, and alike after a whole one."""
+    record = packed(EXAMPLE)
+    for at in range(1, len(record)):
+        yield record[:at], "R 6\n"
+    yield changed() + record[:7], QUOTE + "R 6\n"
+
+
+def lengths():
+    """Numbers of 8 groups, of 9, and with a zero last group, in each place; nothing is read after 7."""
+    nine = b"\xff" * 8 + b"\x01"
+    for place in range(11):
+        yield numbers({place: BEYOND}) + changed(), "R 2\n" + QUOTE
+        yield numbers({place: nine}) + changed(), "R 7\n"
+        yield numbers({place: b"\x80\x00"}) + changed(), "R 7\n"
+    yield numbers({0: groups(2**49)}), None  # 8 groups and within the limit
+    yield numbers({8: b"\x80\x80\x80\x80\x80\x80\x80\x01"}), None
+    yield numbers({9: b"\x00", 8: b"\x01"}), None  # a zero of one group
+    yield numbers({0: b"\x80" * 7 + b"\x00"}), "R 7\n"
+    # of 6 and 7 the first met decides
+    yield b"\xff" * 7, "R 6\n"
+    yield b"\xff" * 8, "R 7\n"
+    yield b"\x80", "R 6\n"
+    yield b"\x80\x00", "R 7\n"
+    yield changed() + b"\xff" * 8 + changed(), QUOTE + "R 7\n"
+
+
+def long():
+    """The longest sheet, whose last record ends at its last byte, and one byte more."""
+    wide = numbers({place: BEYOND for place in range(11)})
+    big = 2**49
+    last = changed(mid=2**52, volatility=big, risk_aversion=big, k=big, a=big, lot_size=big, current=2**21, min_spread=big)
+    longest = wide * (MOST_BYTES // len(wide)) + last
+    assert len(longest) == MOST_BYTES
+    yield longest, "R 2\n" * (MOST_BYTES // len(wide)) + "".join(sheet.lines(last))
+    yield longest + b"\0", "R 9\n"
+
+
+def main():
+    for kind in (document, refusals, runs, cuts, lengths, long):
+        for record, told in kind():
+            lines = "".join(sheet.lines(record))
+            if told is not None and lines != told:
+                sys.exit("cases.py: sheet.py does not give what document 01 tells:\n%s\n%s" % (lines[:200], told[:200]))
+            sys.stdout.buffer.write(sheet.framed(record))
+
+
+if __name__ == "__main__":
+    main()
