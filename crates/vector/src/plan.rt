@@ -16,6 +16,12 @@ pub(crate) enum Planned {
     Refused,
 }
 
+// The factors by reference.
+pub(crate) struct Factors<'a> {
+    pub(crate) left: &'a [f64],
+    pub(crate) right: &'a [f64],
+}
+
 // The largest row sum.
 fn norm_of(diag_s: &[f64], eta: f64, left: &[f64], right: &[f64]) -> f64
     requires { ⌜ (length (now left) ≡ length (now «diag_s»)) × (length (now right) ≡ length (now «diag_s»)) ⌝ }
@@ -53,13 +59,13 @@ fn plan_for(size: f64, tau: f64, budget: u32) -> Planned
     Planned::OverCap(need)
 }
 
-// The plan for tau, with so many steps of the budget left.
-pub(crate) fn plan(
+// The work of `plan`, over the factors' slices.
+fn plan_over<'a>(
     tau: f64,
     diag_s: &[f64],
     eta: f64,
-    left: &[f64],
-    right: &[f64],
+    left: &'a [f64],
+    right: &'a [f64],
     budget: u32,
 ) -> Planned
     requires { ⌜ (length (now left) ≡ length (now «diag_s»)) × (length (now right) ≡ length (now «diag_s»)) ⌝ }
@@ -70,4 +76,33 @@ pub(crate) fn plan(
         return plan_for(size, tau, budget);
     }
     Planned::Refused
+}
+
+// The plan for tau, with so many steps of the budget left.
+pub(crate) fn plan<'a>(
+    tau: f64,
+    diag_s: &[f64],
+    eta: f64,
+    factors: Factors<'a>,
+    budget: u32,
+) -> Planned
+    requires { ⌜ (length (now (factors .left)) ≡ length (now «diag_s»)) × (length (now (factors .right)) ≡ length (now «diag_s»)) ⌝ }
+    ensures { λ r. ⌜ r ≡ planOf (fixedOver (length (now («diag_s» .entry))) (now («diag_s» .entry)) eta) budget (now (factors .entry .left)) (now (factors .entry .right)) tau ⌝ }
+{
+    plan_over(tau, diag_s, eta, factors.left, factors.right, budget)
+}
+
+// The same for a caller that holds the factors as two slices.
+pub(crate) fn plan_with<'a>(
+    tau: f64,
+    diag_s: &[f64],
+    eta: f64,
+    left: &'a [f64],
+    right: &'a [f64],
+    budget: u32,
+) -> Planned
+    requires { ⌜ (length (now left) ≡ length (now «diag_s»)) × (length (now right) ≡ length (now «diag_s»)) ⌝ }
+    ensures { λ r. ⌜ r ≡ planOf (fixedOver (length (now («diag_s» .entry))) (now («diag_s» .entry)) eta) budget (now (left .entry)) (now (right .entry)) tau ⌝ }
+{
+    plan(tau, diag_s, eta, Factors { left, right }, budget)
 }

@@ -140,7 +140,7 @@ fn start(
         r (fill (length (now (o .entry))) 1ᶠ) (now (o .entry)) (now (left .exit)) (now (right .exit)) (now (diag .exit)) ⌝ }
 {
     if crate::operator::set_factors(o, left, right) {
-        match crate::plan::plan(rest, diag_s, eta, left, right, budget) {
+        match crate::plan::plan_with(rest, diag_s, eta, left, right, budget) {
             Planned::Steps(steps, dt) => {
                 crate::operator::scale_diagonal(diag_s, dt, diag);
                 return Progress::Next(Pace {

@@ -8,8 +8,8 @@ use Rattle.vector.proofs.run.start.Tie as tie
 set-factors-requires : tie.Need-set-factors-requires
 set-factors-requires c κs = search needs
 
-plan-requires : tie.Need-plan-requires
-plan-requires c κs = search needs
+plan-with-requires : tie.Need-plan-with-requires
+plan-with-requires c κs = search needs
 
 enum-known-steps : tie.Need-enum-known-steps
 enum-known-steps c = search needs
@@ -31,7 +31,7 @@ returns c =
     let p = c .before .before .before .before .before .before .before in
     let f = p .before .before .before .before .before .before .before .before .set-factors .ensures in
     let n = p .before .before .before .before .before .before .before .before .before .before .before .before .before .before .before .before .pre .diag-n in
-    begun _ _ _ _ _ _ _ _ _ (f .0) (f .1 .0) (f .1 .1) (p .before .before .before .if1 .taken) (Planned.Steps _ _) (sym (c .before .before .before .before .before .steps .given .1) ∙ rw n at (p .plan .ensures)) (rw n at (c .before .before .scale-diagonal .ensures))
+    begun _ _ _ _ _ _ _ _ _ (f .0) (f .1 .0) (f .1 .1) (p .before .before .before .if1 .taken) (Planned.Steps _ _) (sym (c .before .before .before .before .before .steps .given .1) ∙ rw n at (p .plan-with .ensures)) (rw n at (c .before .before .scale-diagonal .ensures))
 
 enum-known-need : tie.Need-enum-known-need
 enum-known-need c = search needs
@@ -47,7 +47,7 @@ returns-2 c =
     let p = c .before .before .before in
     let f = p .before .before .before .before .before .before .before .before .set-factors .ensures in
     let n = p .before .before .before .before .before .before .before .before .before .before .before .before .before .before .before .before .pre .diag-n in
-    begun _ _ _ _ _ _ _ _ _ (f .0) (f .1 .0) (f .1 .1) (p .before .before .before .if1 .taken) (Planned.OverCap _) (sym (c .before .need .given .1) ∙ rw n at (p .plan .ensures)) tt
+    begun _ _ _ _ _ _ _ _ _ (f .0) (f .1 .0) (f .1 .1) (p .before .before .before .if1 .taken) (Planned.OverCap _) (sym (c .before .need .given .1) ∙ rw n at (p .plan-with .ensures)) tt
 
 enum-told : tie.Need-enum-told
 enum-told c = search needs
@@ -63,7 +63,7 @@ returns-3 c =
     let p = c .before .before in
     let f = p .before .before .before .before .before .before .before .before .set-factors .ensures in
     let n = p .before .before .before .before .before .before .before .before .before .before .before .before .before .before .before .before .pre .diag-n in
-    begun _ _ _ _ _ _ _ _ _ (f .0) (f .1 .0) (f .1 .1) (p .before .before .before .if1 .taken) Planned.Refused (sym (c .enum-told .given .1) ∙ rw n at (p .plan .ensures)) tt
+    begun _ _ _ _ _ _ _ _ _ (f .0) (f .1 .0) (f .1 .1) (p .before .before .before .if1 .taken) Planned.Refused (sym (c .enum-told .given .1) ∙ rw n at (p .plan-with .ensures)) tt
 
 same-length-8 : tie.Need-same-length-8
 same-length-8 c = search needs
@@ -81,7 +81,7 @@ start-spec =
     tie.close
     (tie.spec
     set-factors-requires
-    plan-requires
+    plan-with-requires
     enum-known-steps
     scale-diagonal-requires
     same-length
