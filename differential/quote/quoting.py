@@ -29,7 +29,7 @@ SIGNED = "mid holding volatility risk_aversion k a lot_size min_spread".split()
 Desk = collections.namedtuple("Desk", FIELDS)
 Model = collections.namedtuple("Model", "k gamma a sigma2 alpha eta base bound")
 RECORD = struct.Struct("<12Q")
-EXACT, WRAPPER, CLOSED_FORM = 0, 1, 2
+EXACT, WRAPPER, CLOSED_FORM, CONFIGURATION, MODEL = range(5)
 
 
 class Refused(Exception):
@@ -258,10 +258,22 @@ def prices(bid, ask):
     return "Q %s %s" % tuple("-" if x is None else x for x in (bid, ask))
 
 
+def new_configuration(desk):
+    """The configuration's own numbers alone."""
+    check_limits(desk._replace(mid=0, holding=0, volatility=0), 0)
+    check_configuration(desk)
+
+
 def line(desk, entry, most=math.inf):
     try:
         need(desk.bound < 2**32, 2)
-        if entry not in (EXACT, WRAPPER):
+        if entry == CONFIGURATION:
+            new_configuration(desk)
+            return "P"
+        if entry == MODEL:
+            model, q = model_of(desk)
+            return "M %s %d %d" % (" ".join("%016x" % elementary.bits_of(x) for x in model[:7]), model.bound, q)
+        if entry == CLOSED_FORM:
             return prices(*closed_form_quotes(desk))
         (bid, ask), steps = exact_quotes(desk, most)
         return "%s %d" % (prices(bid, ask), steps)

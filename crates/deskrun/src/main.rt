@@ -1,19 +1,23 @@
 // Reads desks from standard input, twelve words of eight bytes each, lowest first: mid, holding,
 // volatility, risk aversion, k, A, bound, lot size, terminal, current, min spread, and the entry: 0
-// for `exact_quotes`, 1 for `calculate_optimal_quotes`, any other for `closed_form_quotes`. An
-// amount is a count of billionths in two's complement. Writes a line for each: `Q`, bid and ask in
-// billionths (`-` if absent) and the steps, which the closed form has none of; `C`, the steps needed
-// as a float's 16 hex digits, the budget left and the steps spent; or `R` and a refusal's number. A
-// bound that 32 bits do not hold is refused by 2, and a record that ends inside itself, the last, by
-// 6.
+// for `exact_quotes`, 1 for `calculate_optimal_quotes`, 2 for `closed_form_quotes`, 3 for
+// `GLFTConfig::new`, any other for `Model::new`. An amount is a count of billionths in two's
+// complement. Writes a line for each: `Q`, bid and ask in billionths (`-` if absent) and the steps,
+// which the closed form has none of; `C`, the steps needed as a float's 16 hex digits, the budget left
+// and the steps spent; `P` for a configuration that passes; `M`, a model's seven floats, its bound and
+// the holding in lots; or `R` and a refusal's number. A bound that 32 bits do not hold is refused by
+// 2, and a record that ends inside itself, the last, by 6.
 ghost use Prim.Native.Nat.{_+_, _<_, _≤_};
 ghost use mathlib.Core.Path.{_≡_};
 ghost use lib.ListN.{length};
 use quote::ClosedFormQuotes;
+use quote::ConfigAnswer;
 use quote::ExactQuotes;
 use quote::GLFTConfig;
 use quote::GLFTStrategy;
 use quote::GlftQuotes;
+use quote::Model;
+use quote::ModelAnswer;
 use quote::OptimalQuotes;
 use quote::Price;
 
@@ -36,7 +40,7 @@ fn say_number(n: u64) {
     io::print_decimal(libc::STDOUT_FILENO, n);
 }
 
-// A float's bits. No report holds a NaN, whose bits cannot be read.
+// A float's bits. No report and no model holds a NaN, whose bits cannot be read.
 fn say_float(x: f64) {
     say(b" ");
     if x == x {
@@ -45,11 +49,30 @@ fn say_float(x: f64) {
 }
 
 // The size of a number, 0 for a negative one. No quote has a negative price.
-fn size_of(x: i64) -> u64 {
+fn size_of(x: i64) -> u64
+    ensures { λ r. ⌜ r < 9223372036854775808 ⌝ }
+{
     if x < 0 {
         return 0;
     }
     x as u64
+}
+
+// How far a negative number is below -1.
+fn below(x: i64) -> i64 {
+    if x < 0 {
+        return -1 - x;
+    }
+    0
+}
+
+fn say_lots(q: i64) {
+    if q < 0 {
+        say(b" -");
+        io::print_decimal(libc::STDOUT_FILENO, size_of(below(q)) + 1);
+    } else {
+        say_number(size_of(q));
+    }
 }
 
 fn say_price(p: Price) {
@@ -105,6 +128,35 @@ fn say_closed_form(a: ClosedFormQuotes) {
     }
 }
 
+fn say_config(a: ConfigAnswer) {
+    match a {
+        ConfigAnswer::Config(_) => say(b"P"),
+        ConfigAnswer::Refused(number) => say_refusal(number),
+    }
+}
+
+fn say_floats(m: Model) {
+    say_float(m.k);
+    say_float(m.gamma);
+    say_float(m.a);
+    say_float(m.sigma2);
+    say_float(m.alpha);
+    say_float(m.eta);
+    say_float(m.base);
+}
+
+fn say_model(a: ModelAnswer) {
+    match a {
+        ModelAnswer::Model(m, q) => {
+            say(b"M");
+            say_floats(m);
+            say_number(m.q_max as u64);
+            say_lots(q);
+        }
+        ModelAnswer::Refused(number) => say_refusal(number),
+    }
+}
+
 fn wide(b: u8) -> u64
     ensures { λ r. ⌜ r < 256 ⌝ }
 {
@@ -157,6 +209,30 @@ fn config_at(s: &[u8], at: usize, bound: u32) -> GLFTConfig
     }
 }
 
+// The configuration anew, by its constructor.
+fn renewed(c: GLFTConfig) -> ConfigAnswer {
+    GLFTConfig::new(
+        c.risk_aversion,
+        c.order_intensity_k,
+        c.intensity_scale_a,
+        c.max_inventory_lots,
+        c.lot_size,
+        c.terminal_time,
+        c.min_spread,
+    )
+}
+
+// What an entry without a current time answers.
+fn say_untimed(entry: u64, mid: i64, holding: i64, c: GLFTConfig, volatility: i64) {
+    if entry == 2 {
+        say_closed_form(GLFTStrategy::closed_form_quotes(mid, holding, c, volatility));
+    } else if entry == 3 {
+        say_config(renewed(c));
+    } else {
+        say_model(Model::new(mid, holding, c, volatility));
+    }
+}
+
 // What the entry answers to the record at a place, whose configuration is c.
 fn say_answer(s: &[u8], at: usize, c: GLFTConfig)
     requires { ⌜ at + 96 ≤ length (now s) ⌝ }
@@ -171,7 +247,7 @@ fn say_answer(s: &[u8], at: usize, c: GLFTConfig)
     } else if entry == 1 {
         say_optimal(GLFTStrategy::calculate_optimal_quotes(mid, holding, c, volatility, current));
     } else {
-        say_closed_form(GLFTStrategy::closed_form_quotes(mid, holding, c, volatility));
+        say_untimed(entry, mid, holding, c, volatility);
     }
 }
 

@@ -18,8 +18,8 @@ use Rattle.elementary.specs.Float.{count, finite, positive, hex}
 use Rattle.elementary.specs.Inner.{SplitOf}
 use Rattle.elementary.proofs.Count.{size-gt, count-value, count-exact, lt-count, positive-is}
 use Rattle.elementary.proofs.Parts.{normal-parts}
-use Rattle.quote.specs.Configuration.{amountLimit, amountOk}
-use Rattle.quote.specs.Rounding.{billion, rounded, billionths}
+use Rattle.quote.specs.Configuration.{billion, amountLimit, amountOk}
+use Rattle.quote.specs.Rounding.{rounded, billionths}
 use Rattle.quote.specs.Inner.{roundedBy, RoundedIs}
 use Rattle.quote.specs.declared.rounding.Rounded.{Rounded}
 use Rattle.quote.specs.declared.rounding.Rounded.the-variants as Rounded

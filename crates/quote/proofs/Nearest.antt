@@ -7,7 +7,8 @@ use mathlib.Core.Bool.{not}
 use lib.Dec.{T, isLe, isEq, leb→le, nleb→lt, eqb, eqb→eq, eqb-refl}
 use lib.Ieee.{up, down, nearest}
 use lib.Ieee.Fits.{down-pos}
-use Rattle.quote.specs.Rounding.{billion, rounded, billionths, Nearest, RoundingIsRight}
+use Rattle.quote.specs.Configuration.{billion}
+use Rattle.quote.specs.Rounding.{rounded, billionths, Nearest, RoundingIsRight}
 
 -- ---- w is the whole part of a fraction over d, and r the remainder
 -- a remainder of a half, b being what w % 2 is

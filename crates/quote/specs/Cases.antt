@@ -17,7 +17,7 @@ use Rattle.vector.specs.declared.Answer.{Answer}
 use Rattle.vector.specs.declared.Answer.the-variants as Answer
 use Rattle.vector.specs.declared.FloatAnswer.{FloatAnswer}
 use Rattle.quote.specs.Model.{newModel, tauOf}
-use Rattle.quote.specs.Configuration.{newConfig}
+use Rattle.quote.specs.Configuration.{billion, newConfig}
 use Rattle.quote.specs.Quotes.{exactQuotes, optimalQuotes, closedFormQuotes}
 use Rattle.quote.specs.declared.GLFTConfig.{GLFTConfig}
 use Rattle.quote.specs.declared.ConfigAnswer.{ConfigAnswer}
@@ -61,7 +61,7 @@ case mid holding volatility risk k a bound lot terminal current spread =
 
 -- the amount n
 abbrev pub units : ℕ → ℤ
-units n = pos (n * 1_000_000_000)
+units n = pos (n * billion)
 
 -- mid 100, volatility, risk aversion, k, A and lot size 1, bound 1, holding 0, min spread 0, terminal and current time 1000 ms
 abbrev pub default : Case

@@ -14,6 +14,9 @@ use Rattle.quote.specs.declared.ConfigAnswer.{ConfigAnswer}
 use Rattle.quote.specs.declared.ConfigAnswer.the-variants as ConfigAnswer
 
 -- ---- amounts: signed counts of billionths
+abbrev pub billion : ℕ
+billion = 1_000_000_000
+
 abbrev pub amountLimit : ℕ
 amountLimit = 9_000_000_000_000_000
 
@@ -32,7 +35,7 @@ above0 z = ltZ (pos 0) z
 
 -- an amount as a float: the count, exact, divided by 10 ^ 9
 unfoldable pub toFloat : ℤ → Float
-toFloat z = whole z ⊘ whole (pos 1_000_000_000)
+toFloat z = whole z ⊘ whole (pos billion)
 
 -- ---- the configuration
 -- every amount and the time within their limits, or 2

@@ -3,11 +3,12 @@ use Prim.Native.Nat.{ℕ, _-_}
 use mathlib.Core.Bool.{Bool, true, false, _&&_}
 use lib.IntN.{ℤ, pos, natAbs}
 use lib.Signed.{quotZ, remZ}
-use lib.Dec.{leb, eqb}
+use lib.Dec.{eqb}
 use lib.Ieee.{Float, neg}
 use Rattle.elementary.specs.Float.{_⊕_, _⊗_, _⊘_, whole, 1ᶠ, 2ᶠ, positive}
 use Rattle.elementary.specs.Elementary.{LN1P, EXP, outside, orNan}
 use Rattle.vector.specs.Refusals.{configuration, holding}
+use Rattle.vector.specs.Run.{within}
 use Rattle.quote.specs.Refusals.{limits, market}
 use Rattle.quote.specs.Configuration.{amountOk, above0, toFloat, configLimits, configOk}
 use Rattle.quote.specs.declared.GLFTConfig.{GLFTConfig}
@@ -21,7 +22,7 @@ lots h c = quotZ h (c .«lot_size»)
 
 -- a whole number of lots, and no more than the bound in magnitude, or 4
 unfoldable pub holdingOk : ℤ → GLFTConfig → Bool
-holdingOk h c = eqb (natAbs (remZ h (c .«lot_size»))) 0 && leb (natAbs (lots h c)) (c .«max_inventory_lots»)
+holdingOk h c = eqb (natAbs (remZ h (c .«lot_size»))) 0 && within (c .«max_inventory_lots») (lots h c)
 
 -- mid and volatility positive, or 3
 unfoldable pub marketOk : ℤ → ℤ → Bool

@@ -4,9 +4,7 @@ use Prim.Native.Nat.{ℕ, _+_, _*_, _/_, _%_, _≤_, compare}
 use mathlib.Core.Bool.{true, false}
 use lib.IntN.{ℤ, pos, negℤ}
 use lib.Ieee.{Float, nan, inf, fin, up, down, nearest}
-
-abbrev pub billion : ℕ
-billion = 1_000_000_000
+use Rattle.quote.specs.Configuration.{billion}
 
 -- n / d to the nearest whole number, ties to even
 unfoldable pub rounded : ℕ → ℕ → ℕ

@@ -6,7 +6,8 @@ ghost use lib.IntN.{pos};
 ghost use lib.Dec.{T};
 ghost use lib.Ieee.{neg, lt};
 ghost use Rattle.elementary.specs.Float.{positive, hex};
-ghost use Rattle.quote.specs.Rounding.{billion, rounded, billionths};
+ghost use Rattle.quote.specs.Configuration.{billion};
+ghost use Rattle.quote.specs.Rounding.{rounded, billionths};
 ghost use Rattle.quote.specs.Inner.{RoundedIs};
 use crate::GLFTConfig;
 

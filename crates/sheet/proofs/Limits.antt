@@ -10,7 +10,7 @@ use lib.ListN.{getD}
 use lib.Dec.{T, leb, eqb, leb→le}
 use Rattle.quote.specs.Configuration.{amountLimit, timeLimit, amountOk, timeOk, configLimits}
 use Rattle.quote.specs.Model.{modelLimits}
-use Rattle.sheet.specs.Record.{holdingBy, holding, recordOf, recordOk}
+use Rattle.sheet.specs.Record.{holdingBy, holding, recordOf, mostBound, recordOk}
 
 -- two bounds that hold together
 same-bound : (a b x y : ℕ) → (a ≤ b → x ≤ y) → (b < a → y < x) → leb a b ≡ leb x y
@@ -37,7 +37,7 @@ pub record Bounds (v : List ℕ) : Type 0 where
   pub risk : getD v 3 0 ≤ amountLimit
   pub k : getD v 4 0 ≤ amountLimit
   pub scale : getD v 5 0 ≤ amountLimit
-  pub bound : getD v 6 0 ≤ 4_294_967_295
+  pub bound : getD v 6 0 ≤ mostBound
   pub lot : getD v 7 0 ≤ amountLimit
   pub terminal : getD v 8 0 ≤ timeLimit
   pub current : getD v 9 0 ≤ timeLimit
@@ -62,7 +62,7 @@ pub bounds : (v : List ℕ) → T (recordOk (recordOf v)) → Bounds v
 unfolding recordOk recordOf modelLimits amountOk timeOk configLimits
 bounds v h =
     let small : ℕ → Bool = λ i. leb (getD v i 0) amountLimit in
-    let p = all-pass (small 0) (leb (natAbs (holding (getD v 1 0))) amountLimit) (small 2) (small 3) (small 4) (small 5) (small 7) (small 10) (small 8) (small 9) (leb (getD v 6 0) 4_294_967_295) h in
+    let p = all-pass (small 0) (leb (natAbs (holding (getD v 1 0))) amountLimit) (small 2) (small 3) (small 4) (small 5) (small 7) (small 10) (small 8) (small 9) (leb (getD v 6 0) mostBound) h in
     record {
       mid = leb→le _ _ (p .0);
       holds = leb→le (getD v 1 0) (2 * amountLimit) (subst T (holding-limit (getD v 1 0) amountLimit) (p .1));

@@ -6,6 +6,7 @@ use lib.IntN.{natAbs}
 use lib.ListN.{length, drop}
 use lib.Dec.{ltb}
 use lib.Ieee.{Float, binary64, toBits}
+use Rattle.quote.specs.Configuration.{billion}
 use Rattle.quote.specs.declared.Price.{Price}
 use Rattle.quote.specs.declared.Price.the-variants.{At, Absent}
 use Rattle.quote.specs.declared.GlftQuotes.{GlftQuotes}
@@ -38,7 +39,7 @@ count n = digits 10 (places n) n
 
 -- billionths with nine decimals, after a `.`
 unfoldable pub price : ℕ → List ℕ
-price n = count (n / 1_000_000_000) ++ (46 ∷ digits 10 9 n)
+price n = count (n / billion) ++ (46 ∷ digits 10 9 n)
 
 -- a side: its price, which is positive, or `-`
 unfoldable pub side : Price → List ℕ

@@ -4,12 +4,13 @@ use Prim.Native.Nat.{ℕ, _<_, _≤_}
 use mathlib.Core.List.{List, [], _∷_, _++_}
 use lib.IntN.{ℤ}
 use lib.ListN.{length}
+use Rattle.quote.specs.Configuration.{billion}
 use Rattle.sheet.specs.Record.{taken, number, stored, holding}
 use Rattle.sheet.specs.Sheet.{leastRoom, line, end, lineAt, printed}
 
 -- ---- the paper's example: 1,000,000,000 is hex 80 94 EB DC 03
 abbrev pub BillionRead : Type 0
-BillionRead = number (0x80 ∷ 0x94 ∷ 0xEB ∷ 0xDC ∷ 0x03 ∷ []) ≡ taken 1_000_000_000 []
+BillionRead = number (0x80 ∷ 0x94 ∷ 0xEB ∷ 0xDC ∷ 0x03 ∷ []) ≡ taken billion []
 
 -- ---- every holding is stored as one number, and every number stores one holding
 abbrev pub HoldingsStored : Type 0

@@ -78,10 +78,14 @@ recordOf v =
       «current_time» = getD v 9 0;
     }
 
--- every amount and time within its limit, and the bound at most 2 ^ 32 - 1, or 2
+-- the largest bound that is read, 2 ^ 32 - 1
+abbrev pub mostBound : ℕ
+mostBound = 4_294_967_295
+
+-- every amount and time within its limit, and the bound too, or 2
 unfoldable pub recordOk : Record → Bool
 recordOk r =
-    modelLimits (r .«mid_price») (r .inventory) (r .config) (r .volatility) && timeOk (r .«current_time») && leb (r .config .«max_inventory_lots») 4_294_967_295
+    modelLimits (r .«mid_price») (r .inventory) (r .config) (r .volatility) && timeOk (r .«current_time») && leb (r .config .«max_inventory_lots») mostBound
 
 -- ---- the record at a place of a sheet, and the next place; past the end there is no byte
 unfoldable pub recordIf : Bool → Record → ℕ → RecordAnswer

@@ -3,13 +3,13 @@ use Prim.Native.Nat.{ℕ, zero, suc, _+_, _-_, _/_}
 use mathlib.Core.Bool.{Bool, true, false, _&&_}
 use mathlib.Core.List.{List, _++_}
 use lib.IntN.{ℤ, pos, natAbs, _+ℤ_}
-use lib.Dec.{ltb, leb, eqb}
+use lib.Dec.{ltb, eqb}
 use lib.Ieee.{Float}
 use Rattle.elementary.specs.Float.{_⊕_, _⊖_, _⊘_, 0ᶠ, finite, positive}
 use Rattle.elementary.specs.Elementary.{LN, outside, orNan}
 use Rattle.vector.specs.Refusals.{configuration, holding, numerical}
 use Rattle.vector.specs.Vectors.{at, fill}
-use Rattle.vector.specs.Run.{Ended, vector, overCap, failed, cap, boundOk, rows, run, spent}
+use Rattle.vector.specs.Run.{Ended, vector, overCap, failed, cap, boundOk, rows, within, run, spent}
 use Rattle.vector.specs.declared.ValueVector.{ValueVector}
 use Rattle.vector.specs.declared.Outcome.{Outcome}
 use Rattle.vector.specs.declared.Outcome.the-variants as Outcome
@@ -95,7 +95,7 @@ distancesIf true true true v k base s z = exactAt v k base s (place (v .n / 2) z
 
 unfoldable pub exactDistances : ValueVector → Float → Float → ℕ → ℤ → Answer
 exactDistances v k base s q =
-    distancesIf (positive k && positive base) (boundOk (v .n / 2) && eqb (v .n) (rows (v .n / 2))) (leb (natAbs q) (v .n / 2)) v k base s q
+    distancesIf (positive k && positive base) (boundOk (v .n / 2) && eqb (v .n) (rows (v .n / 2))) (within (v .n / 2) q) v k base s q
 
 -- ---- the float entry
 unfoldable pub refusedEntry : ℕ → FloatAnswer
@@ -123,7 +123,7 @@ unfoldable pub floatsOk : Float → Float → Float → Float → Float → Bool
 floatsOk k alpha eta base tau = positive k && positive alpha && positive eta && positive base && finite tau
 
 unfoldable pub floatEntry : Float → Float → Float → Float → ℕ → Float → ℤ → FloatAnswer
-floatEntry k alpha eta base bound tau q = entryIf (floatsOk k alpha eta base tau) (boundOk bound) (leb (natAbs q) bound) k alpha eta base bound tau q
+floatEntry k alpha eta base bound tau q = entryIf (floatsOk k alpha eta base tau) (boundOk bound) (within bound q) k alpha eta base bound tau q
 
 -- the finished steps of the run that the entry defines, under a refusal too: none where no run begins
 unfoldable pub stepsIf : Bool → Bool → Bool → Float → Float → ℕ → Float → ℕ
@@ -133,4 +133,4 @@ stepsIf true true false alpha eta bound tau = 0
 stepsIf true true true alpha eta bound tau = spent (run bound alpha eta tau)
 
 unfoldable pub floatSteps : Float → Float → Float → Float → ℕ → Float → ℤ → ℕ
-floatSteps k alpha eta base bound tau q = stepsIf (floatsOk k alpha eta base tau) (boundOk bound) (leb (natAbs q) bound) alpha eta bound tau
+floatSteps k alpha eta base bound tau q = stepsIf (floatsOk k alpha eta base tau) (boundOk bound) (within bound q) alpha eta bound tau

@@ -8,9 +8,7 @@ mod run;
 mod series;
 
 ghost use mathlib.Core.Path.{_≡_};
-ghost use Rattle.vector.specs.Run.{rebalances};
-ghost use lib.IntN.{natAbs};
-ghost use lib.Dec.{leb};
+ghost use Rattle.vector.specs.Run.{within, rebalances};
 ghost use Rattle.vector.specs.Distances.{fine, valueVector, exactDistances, floatEntry};
 
 // v_i is proportional to w_i exp(log_offset_i), over the first n entries; the rest is 0.0.
@@ -63,7 +61,7 @@ pub fn must_rebalance(smallest: f64, steps: u32) -> bool
 
 // Whether q lots are within a bound.
 pub fn within(q: i64, bound: u32) -> bool
-    ensures { λ r. ⌜ r ≡ leb (natAbs q) bound ⌝ }
+    ensures { λ r. ⌜ r ≡ within bound q ⌝ }
 {
     let b = bound as i64;
     (0 - b <= q) & (q <= b)

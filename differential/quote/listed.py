@@ -1,20 +1,20 @@
-"""Writes crates/quote_cases/stdout: what document 01 says of every case that the program runs.
+"""Writes the listed desks of the gate: document 01's cases, and a sweep of the refusals.
 
-    python3 expected.py > LINES
+    python3 listed.py > DESKS
+    python3 listed.py names
 
-A case here is a name, what it changes of the usual desk, and, where document 01's text tells the
-answer of `exact_quotes`, that: a refusal's number, or bid and ask in billionths. The lines
-themselves are reckoned by quoting.py, which is held to what is told. Nothing of the library takes
-part.
+A case is a name, what it changes of the usual desk, and, where document 01's text tells the answer
+of `exact_quotes`, that: a refusal's number, or bid and ask in billionths; quoting.py is held to it.
+Each desk is written five times, once for each entry; with `names`, a line shows a case's name and
+the five answers by quoting.py. Nothing of the library takes part.
 """
-import math
 import sys
 
 import quoting
 from quoting import BILLION as ONE
 from quoting import MOST_AMOUNT as LIMIT
 from quoting import MOST_TIME as LAST
-from quoting import Desk, elementary
+from quoting import CLOSED_FORM, CONFIGURATION, EXACT, MODEL, WRAPPER, Desk
 
 MILLION = 10**6 * ONE
 LARGEST, LEAST = 2**63 - 1, -(2**63)
@@ -24,7 +24,7 @@ USUAL = Desk(100 * ONE, 0, ONE, ONE, ONE, ONE, 1, ONE, 1000, 1000, 0)
 EXAMPLE = Desk(1000 * ONE, 0, 1684700000000, ONE // 100, 3 * ONE // 10, 9 * ONE // 10, 30, ONE, 600000, 0, 0)
 STEEP = Desk(4 * MILLION, 0, 8 * ONE, MILLION, 100000, 1, 8, 100000 * ONE, 5000, 0, 0)
 NAMES = {"risk_aversion": "risk aversion", "a": "A", "lot_size": "lot size", "min_spread": "min spread"}
-CONFIGURATION = ("risk_aversion", "k", "a", "lot_size", "min_spread")
+ENTRIES = (CONFIGURATION, MODEL, EXACT, WRAPPER, CLOSED_FORM)
 
 
 def around(distance):
@@ -233,40 +233,16 @@ def runs():
     yield "the example of glft.rs", EXAMPLE, None
     yield "the example with 5 lots", EXAMPLE._replace(holding=5 * ONE), None
     yield "the example with minus 30 lots", EXAMPLE._replace(holding=-30 * ONE), None
+    yield "lots of 0.7 at bound 200", {"lot_size": 7 * ONE // 10, "bound": 200}, None
 
 
 TABLES = (document, at_the_limit, beyond_the_limit, configurations, markets, fractions, bounds, caps, too_far,
           widened_too_far, one_side_too_far, crossed, same_price, two_faults, prices, halfway, runs)
 
 
-def refused(ask, *arguments):
-    """What is answered, or `R` and a refusal's number."""
-    try:
-        return ask(*arguments)
-    except quoting.Refused as refusal:
-        return "R %d" % refusal.number
-
-
-def new_configuration(desk):
-    usual = USUAL._replace(**{name: getattr(desk, name) for name in CONFIGURATION}, terminal=desk.terminal)
-    quoting.check_limits(usual, 0)
-    quoting.check_configuration(desk)
-    return "passes"
-
-
-def lots(desk):
-    return "%d" % quoting.model_of(desk)[1]
-
-
-def line(name, desk):
-    fields = [refused(new_configuration, desk), refused(lots, desk)]
-    entries = (quoting.EXACT, quoting.WRAPPER, quoting.CLOSED_FORM)
-    return name + ": " + " | ".join(fields + [quoting.line(desk, entry) for entry in entries])
-
-
 def hold(name, desk, told):
     """The reckoning against what document 01's text tells."""
-    exact = quoting.line(desk, quoting.EXACT)
+    exact = quoting.line(desk, EXACT)
     if told is None:
         return
     if told == CAP:
@@ -276,102 +252,23 @@ def hold(name, desk, told):
     else:
         agrees = exact == quoting.prices(*told) + " 0"
     if not agrees:
-        sys.exit("expected.py: %s: %s, and not %s" % (name, exact, told))
+        sys.exit("listed.py: %s: %s, and not %s" % (name, exact, told))
 
 
-def amounts():
+def cases():
     for table in TABLES:
         for name, changes, told in table():
             desk = changes if isinstance(changes, Desk) else USUAL._replace(**changes)
             hold(name, desk, told)
-            yield line(name, desk)
-
-
-def models():
-    desks = {
-        "the usual desk": USUAL,
-        "the example": EXAMPLE,
-        "the steep desk": STEEP,
-        "lots of 0.7 at bound 200": USUAL._replace(lot_size=7 * ONE // 10, bound=200),
-    }
-    for name, desk in desks.items():
-        model, _ = quoting.model_of(desk)
-        yield "model of %s: %s %d" % (name, " ".join(map(bits, model[:7])), model.bound)
-
-
-# ---- the cases in floats
-def bits(x):
-    return "%016x" % elementary.bits_of(x)
-
-
-def floats(name, k=1.0, alpha=1.0, eta=1.0, base=1.0, bound=1, tau=1.0, q=0, told=None):
-    try:
-        distances, steps = quoting.float_entry(k, alpha, eta, base, bound, tau, q)
-        answer = " ".join(["-" if d is None else bits(d) for d in distances] + ["%d" % steps])
-    except quoting.OverCap as report:
-        answer = "C %s %d %d" % (bits(report.needed), report.budget, report.steps)
-    except quoting.Refused as refusal:
-        answer = "R %d" % refusal.number
-    if told is not None and answer != "R %d" % told:
-        sys.exit("expected.py: floats, %s: %s, and not %d" % (name, answer, told))
-    return "floats, %s: %s" % (name, answer)
-
-
-def unfit():
-    yield floats("all 1")
-    yield floats("k 0", k=0.0, told=5)
-    yield floats("k -1", k=-1.0, told=5)
-    yield floats("k infinite", k=math.inf, told=5)
-    yield floats("k no number", k=math.nan, told=5)
-    for name in ("alpha", "eta", "base"):
-        yield floats(name + " 0", told=5, **{name: 0.0})
-        yield floats(name + " infinite", told=5, **{name: math.inf})
-        yield floats(name + " no number", told=5, **{name: math.nan})
-    yield floats("tau infinite", tau=math.inf, told=5)
-    yield floats("tau minus infinite", tau=-math.inf, told=5)
-    yield floats("tau no number", tau=math.nan, told=5)
-    yield floats("tau -1", tau=-1.0)
-    yield floats("bound 0", bound=0, told=1)
-    yield floats("bound 201", bound=201, told=1)
-    yield floats("bound 0 and tau no number", bound=0, tau=math.nan, told=5)
-    yield floats("bound 0 and q 1", bound=0, q=1, told=1)
-    yield floats("q 2", q=2, told=4)
-    yield floats("q -2", q=-2, told=4)
-    yield floats("q the least", q=LEAST, told=4)
-    yield floats("q 2 and tau infinite", q=2, tau=math.inf, told=5)
-    yield floats("q 2 over the cap", q=2, tau=1e10, told=4)
-    yield floats("over the cap", q=1, tau=1e10)
-
-
-def numerical():
-    yield floats("the norm times tau infinite", alpha=1e300, tau=1e300, told=11)
-    yield floats("the norm itself infinite", alpha=1e308, bound=2, tau=1e-300, told=11)
-    yield floats("the norm times tau zero", alpha=1e-300, eta=1e-300, tau=1e-300, told=11)
-    yield floats("a factor infinite", alpha=1e100, eta=1e-300, tau=1e-97, told=11)
-    yield floats("the same with fewer steps", alpha=1e100, eta=1e-300, tau=9e-98)
-    yield floats("a distance infinite", k=1e-308, alpha=1e10, tau=1e-8, told=11)
-    yield floats("a distance not infinite", k=1e-300, alpha=1e10, tau=1e-8)
-
-
-def functions():
-    cases = (
-        ("LN 0", elementary.ln, 0.0), ("LN -1", elementary.ln, -1.0), ("LN infinite", elementary.ln, math.inf),
-        ("LN1P 0", elementary.ln_1p, 0.0), ("LN1P -0.5", elementary.ln_1p, -0.5),
-        ("LN1P no number", elementary.ln_1p, math.nan), ("EXP infinite", elementary.exp, math.inf),
-        ("EXP no number", elementary.exp, math.nan), ("root of -1", elementary.sqrt, -1.0),
-        ("root infinite", elementary.sqrt, math.inf), ("rounding up infinite", elementary.ceil, math.inf),
-        ("rounding up no number", elementary.ceil, math.nan),
-    )
-    for name, function, argument in cases:
-        if function(argument) is not elementary.REFUSED:
-            sys.exit("expected.py: " + name)
-        yield name + ": R 5"
+            yield name, desk
 
 
 def main():
-    for part in (amounts, models, unfit, numerical, functions):
-        for text in part():
-            print(text)
+    for name, desk in cases():
+        if "names" in sys.argv[1:]:
+            print(name + ": " + " | ".join(quoting.line(desk, entry) for entry in ENTRIES))
+        else:
+            sys.stdout.buffer.write(b"".join(quoting.pack(desk, entry) for entry in ENTRIES))
 
 
 if __name__ == "__main__":

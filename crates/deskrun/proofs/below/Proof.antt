@@ -1,4 +1,4 @@
--- `say::below` is safe: minus one less a negative number is a signed number. Assumes nothing.
+-- `deskrun::below` is safe: minus one less a negative number is a signed number. Assumes nothing.
 use Prim.Native.Nat.{ℕ, suc, _-_, _^_, _<_}
 use mathlib.Core.Path.{sym, subst}
 use mathlib.Core.Bool.{Bool, true, false, cond}
@@ -10,8 +10,8 @@ use lib.Signed.{ltZ}
 use mir.Syntax.{w64}
 use mir.Val.{SFits}
 use mir.Facts.{toZ-ofZ}
-use Rattle.quote_cases.proofs.say.below.Statement.{statement}
-use Rattle.quote_cases.proofs.say.below.Tie as tie
+use Rattle.deskrun.proofs.below.Statement.{statement}
+use Rattle.deskrun.proofs.below.Tie as tie
 
 by-test : (b : Bool) (n : ℕ) → n < 2 ^ 63 → SFits w64 (cond b (negsuc (1 - suc (suc n))) (pos (suc n - 1)))
 by-test true n h = record { sfits = omega arith }
