@@ -60,6 +60,9 @@ unfoldable pub holding : ℕ → ℤ
 holding n = holdingBy (eqb (n % 2) 0) (n / 2)
 
 -- ---- the record of eleven numbers: mid, holding, volatility, risk aversion, k, A, bound, lot size, terminal, current, min spread
+abbrev pub fields : ℕ
+fields = 11
+
 unfoldable pub recordOf : List ℕ → Record
 recordOf v =
     record {
@@ -98,4 +101,4 @@ recordFrom n (taken v rest) = let r = recordOf v in recordIf (recordOk r) r (n -
 recordFrom n (refused k) = RecordAnswer.Refused k
 
 unfoldable pub readRecord : List ℕ → ℕ → RecordAnswer
-readRecord s at = recordFrom (length s) (numbers 11 (drop at s))
+readRecord s at = recordFrom (length s) (numbers fields (drop at s))

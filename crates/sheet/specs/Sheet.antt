@@ -7,7 +7,7 @@ use lib.Dec.{ltb, leb}
 use Rattle.quote.specs.Refusals.{limits}
 use Rattle.quote.specs.Quotes.{exactQuotes}
 use Rattle.sheet.specs.Refusals.{smallBuffer, longSheet}
-use Rattle.sheet.specs.Record.{Read, taken, refused, numbers, recordOf, recordOk, readRecord}
+use Rattle.sheet.specs.Record.{Read, taken, refused, numbers, fields, recordOf, recordOk, readRecord}
 use Rattle.sheet.specs.Lines.{answerLine, refusalLine, over}
 use Rattle.sheet.specs.declared.record.Record.{Record}
 use Rattle.sheet.specs.declared.record.RecordAnswer.{RecordAnswer}
@@ -77,7 +77,7 @@ headBy (refused n) = last (refusalLine n)
 
 unfoldable pub headOf : List ℕ → Head
 headOf [] = none
-headOf (b ∷ l) = headBy (numbers 11 (b ∷ l))
+headOf (b ∷ l) = headBy (numbers fields (b ∷ l))
 
 -- the lines in order; a record takes a byte at least, so as many turns as bytes are enough
 unfoldable pub lines : ℕ → Head → List ℕ
