@@ -46,11 +46,14 @@ modelBy k gamma a sigma2 l bound =
 unfoldable pub modelFrom : Float → Float → Float → Float → ℕ → Model
 modelFrom k gamma a sigma2 bound = modelBy k gamma a sigma2 (orNan (LN1P (gamma ⊘ k))) bound
 
+abbrev pub secondsPerYear : ℕ
+secondsPerYear = 31_536_000
+
 -- gamma is risk aversion × lot size, sigma² is sigma × sigma / 31,536,000
 unfoldable pub modelOf : GLFTConfig → ℤ → Model
 modelOf c vol =
     let sigma = toFloat vol in
-    modelFrom (toFloat (c .«order_intensity_k»)) (toFloat (c .«risk_aversion») ⊗ toFloat (c .«lot_size»)) (toFloat (c .«intensity_scale_a»)) (sigma ⊗ sigma ⊘ whole (pos 31_536_000)) (c .«max_inventory_lots»)
+    modelFrom (toFloat (c .«order_intensity_k»)) (toFloat (c .«risk_aversion») ⊗ toFloat (c .«lot_size»)) (toFloat (c .«intensity_scale_a»)) (sigma ⊗ sigma ⊘ whole (pos secondsPerYear)) (c .«max_inventory_lots»)
 
 -- all seven floats finite and above zero, or 5
 unfoldable pub modelOk : Model → Bool

@@ -83,8 +83,11 @@ unfoldable pub divided : ℕ → List Float → List Float
 divided n v = let m = fold larger 0ᶠ v in tab n (λ i. at v i ⊘ m)
 
 -- rebalancing: steps remain and the smallest weight is below 1e-200
+abbrev pub floor : Float
+floor = hex 0x16687E92154EF7AC
+
 unfoldable pub rebalances : Float → ℕ → Bool
-rebalances smallest steps = ltb 0 steps && lt smallest (hex 0x16687E92154EF7AC)
+rebalances smallest steps = ltb 0 steps && lt smallest floor
 
 -- each weight, all of them positive, goes into its offset
 unfoldable pub rebalance : Bool → Fixed → ℕ → List Float → List Float → Float → Turn

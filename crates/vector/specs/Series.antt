@@ -50,8 +50,11 @@ unfoldable pub bothFinite : ℕ → List Float → List Float → Bool
 bothFinite n s t = every n (λ i. finite (at t i) && finite (at s i))
 
 -- a term is at most 1e-16 of its sum in magnitude, and so for every entry
+abbrev pub tolerance : Float
+tolerance = hex 0x3C9CD2B297D889BC
+
 unfoldable pub small : Float → Float → Bool
-small s t = le (abs t) (hex 0x3C9CD2B297D889BC ⊗ abs s)
+small s t = le (abs t) (tolerance ⊗ abs s)
 
 unfoldable pub converged : ℕ → List Float → List Float → Bool
 converged n s t = every n (λ i. small (at s i) (at t i))
@@ -81,5 +84,8 @@ series zero p eta j (summing t s) = refusal numerical
 series (suc k) p eta j (summing t s) = series k p eta (suc j) (nextTerm p eta j t s)
 
 -- the sum from v, term 0, within 100 terms
+abbrev pub mostTerms : ℕ
+mostTerms = 100
+
 unfoldable pub taylorStep : Operator → Float → List Float → Reply (List Float)
-taylorStep p eta v = series 100 p eta 1 (summing v v)
+taylorStep p eta v = series mostTerms p eta 1 (summing v v)
