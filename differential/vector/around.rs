@@ -1,4 +1,4 @@
-// What stands around the two glft.rs, for both oracles.
+// What stands around the two glft.rs, for every program over them.
 
 /// What glft.rs uses of its crate, as far as it is named there.
 mod types {
@@ -53,4 +53,24 @@ pub mod count {
 thread_local! {
     static STEPS: Cell<u32> = const { Cell::new(0) };
     static REBALANCINGS: Cell<u32> = const { Cell::new(0) };
+}
+
+/// What an oracle is asked: which glft.rs, where its notes go, and the records.
+struct Asked {
+    routed: bool,
+    notes: Option<BufWriter<std::fs::File>>,
+    input: Vec<u8>,
+}
+
+fn asked() -> Asked {
+    let arguments: Vec<String> = std::env::args().skip(1).collect();
+    let routed = match arguments.first().map(String::as_str) {
+        Some("routed") => true,
+        Some("platform") => false,
+        _ => panic!("oracle routed|platform [NOTES]"),
+    };
+    let notes = arguments.get(1).map(|p| BufWriter::new(std::fs::File::create(p).unwrap()));
+    let mut input = Vec::new();
+    std::io::stdin().read_to_end(&mut input).unwrap();
+    Asked { routed, notes, input }
 }

@@ -94,15 +94,7 @@ fn line_of(answer: &Answer) -> String {
 }
 
 fn main() {
-    let arguments: Vec<String> = std::env::args().skip(1).collect();
-    let routed = match arguments.first().map(String::as_str) {
-        Some("routed") => true,
-        Some("platform") => false,
-        _ => panic!("oracle routed|platform [NOTES]"),
-    };
-    let mut notes = arguments.get(1).map(|p| BufWriter::new(std::fs::File::create(p).unwrap()));
-    let mut input = Vec::new();
-    std::io::stdin().read_to_end(&mut input).unwrap();
+    let Asked { routed, mut notes, input } = asked();
     let mut out = BufWriter::with_capacity(1 << 16, std::io::stdout());
     for record in input.chunks(RECORD) {
         STEPS.set(0);
