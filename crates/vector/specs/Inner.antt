@@ -1,16 +1,17 @@
 -- What the crate's own functions hand each other. No public contract cites this file. Definitions only.
 use mathlib.Core.Path.{_≡_}
-use Prim.Native.Nat.{ℕ, _-_, _≤_}
+use Prim.Native.Nat.{ℕ, zero, suc, _+_, _-_, _≤_}
 use mathlib.Core.Bool.{Bool, true, false}
 use mathlib.Core.List.{List}
 use lib.IntN.{pos}
 use lib.ListN.{length}
 use lib.Ieee.{Float, inf, le, toUnsigned}
-use Rattle.elementary.specs.Float.{_⊗_, _⊘_, whole, finite, positive}
+use Rattle.elementary.specs.Float.{_⊕_, _⊖_, _⊗_, _⊘_, whole, 0ᶠ, 1ᶠ, finite, positive}
 use Rattle.elementary.specs.Reply.{Reply, value, refusal}
-use Rattle.vector.specs.Vectors.{tab, at, fold, smaller}
+use Rattle.elementary.specs.Elementary.{LN, orNan}
+use Rattle.vector.specs.Vectors.{tab, at, fill, every, fold, smaller}
 use Rattle.vector.specs.Series.{Operator, plus, bothFinite, converged}
-use Rattle.vector.specs.Run.{Ended, vector, overCap, failed, Fixed, Going, Turn, going, ended, cap, norm, needed, divided}
+use Rattle.vector.specs.Run.{Ended, vector, overCap, failed, Fixed, Going, going, cap, norm, needed, begin, rebalances, runOn}
 use Rattle.vector.specs.Distances.{blankVector, refusedVector}
 use Rattle.vector.specs.declared.ValueVector.{ValueVector}
 use Rattle.vector.specs.declared.VectorAnswer.{VectorAnswer}
@@ -18,8 +19,7 @@ use Rattle.vector.specs.declared.Outcome.{Outcome}
 use Rattle.vector.specs.declared.Outcome.the-variants as Outcome
 use Rattle.vector.specs.declared.plan.Planned.{Planned}
 use Rattle.vector.specs.declared.plan.Planned.the-variants as Planned
-use Rattle.vector.specs.declared.run.Progress.{Progress}
-use Rattle.vector.specs.declared.run.Progress.the-variants as Progress
+use Rattle.vector.specs.declared.run.Pace.{Pace}
 
 abbrev pub operatorOver : ℕ → List Float → List Float → List Float → Operator
 operatorOver n d l r = record { n = n; diagonal = d; left = l; right = r }
@@ -63,25 +63,62 @@ unfoldable pub planOf : Fixed → ℕ → List Float → List Float → Float �
 planOf p b left right rest =
     let size = rest ⊗ norm p left right in planBy (positive size) (le (needed size) (whole (pos b))) rest (needed size)
 
--- ---- a step's weights, divided, and the smallest of them; or no step
-unfoldable pub DividedIs : ℕ → Bool → Float → List Float → Reply (List Float) → Type 0
-DividedIs n good smallest w (value v) = (good ≡ true) × (w ≡ divided n v) × (smallest ≡ fold smaller (inf false) (divided n v))
-DividedIs n good smallest w (refusal k) = good ≡ false
+-- ---- the paces that the code makes
+abbrev pub pacedOf : ℕ → ℕ → Float → Float → Pace
+pacedOf s b rest dt = record { steps = s; budget = b; remaining = rest; dt = dt; ask = false; stop = Outcome.Done (cap - b) }
 
--- ---- what the slices hold and the code answers after a turn, b being the budget then
-unfoldable pub TurnIs : Fixed → ℕ → Turn → Progress → List Float → List Float → List Float → List Float → List Float → Type 0
-TurnIs p b (going g) r w o left right diag =
-    (r ≡ Progress.Next (record { steps = g .steps; budget = b; remaining = g .remaining; dt = g .dt })) × (1 ≤ g .steps) × (w ≡ g .w) × (o ≡ g .o) × (left ≡ g .left) × (right ≡ g .right)
-    × (diag ≡ tab (p .n) (λ i. at (p .diagonal) i ⊗ g .dt))
-TurnIs p b (ended (vector w′ o′ s)) r w o left right diag = (r ≡ Progress.Done) × (w ≡ w′) × (o ≡ o′) × (s ≡ cap - b)
-TurnIs p b (ended (overCap need b′)) r w o left right diag = (r ≡ Progress.OverCap need) × (b′ ≡ b)
-TurnIs p b (ended (failed s)) r w o left right diag = r ≡ Progress.Refused
+abbrev pub askedOf : ℕ → Float → Pace
+askedOf b rest = record { steps = 0; budget = b; remaining = rest; dt = 0ᶠ; ask = true; stop = Outcome.Refused 11 }
+
+abbrev pub stoppedOf : Outcome → Pace
+stoppedOf r = record { steps = 0; budget = 0; remaining = 0ᶠ; dt = 0ᶠ; ask = false; stop = r }
+
+unfoldable pub endBy : ℕ → Outcome → Outcome
+endBy zero r = r
+endBy (suc s) r = Outcome.Refused 11
 
 -- ---- the end of a run
 unfoldable pub EndIs : Ended → Outcome → List Float → List Float → Type 0
 EndIs (vector w′ o′ s) r w o = (r ≡ Outcome.Done s) × (w ≡ w′) × (o ≡ o′)
 EndIs (overCap need b) r w o = r ≡ Outcome.OverCap need b (cap - b)
 EndIs (failed s) r w o = r ≡ Outcome.Refused 11
+
+-- ---- after a step, w being its weights divided: was it good, is there rebalancing, is each weight positive
+unfoldable pub AfterBy : Bool → Bool → Bool → ℕ → Pace → List Float → List Float → Pace → List Float → List Float → Type 0
+AfterBy false c e n a w o r w′ o′ = r ≡ stoppedOf (Outcome.Refused 11)
+AfterBy true false e n a w o r w′ o′ = (r ≡ pacedOf (a .steps - 1) (a .budget - 1) (a .remaining ⊖ a .dt) (a .dt)) × (w′ ≡ w) × (o′ ≡ o)
+AfterBy true true false n a w o r w′ o′ = r ≡ stoppedOf (Outcome.Refused 11)
+AfterBy true true true n a w o r w′ o′ = (r ≡ askedOf (a .budget - 1) (a .remaining ⊖ a .dt)) × (w′ ≡ fill n 1ᶠ) × (o′ ≡ tab n (λ i. at o i ⊕ orNan (LN (at w i))))
+
+abbrev pub AfterIs : Bool → ℕ → Pace → List Float → List Float → Pace → List Float → List Float → Type 0
+AfterIs good n a w o r w′ o′ = AfterBy good (rebalances (fold smaller (inf false) w) (a .steps - 1)) (every n (λ i. positive (at w i))) n a w o r w′ o′
+
+-- ---- a run that ends in r, by where it stands: it goes on, or asks for a plan, or is over
+pub record Standing (p : Fixed) (r : Ended) (w o left right diag : List Float) (a : Pace) : Type 0 where
+  pub within : a .budget ≤ cap
+  pub scaled : 1 ≤ a .steps → diag ≡ tab (p .n) (λ i. at (p .diagonal) i ⊗ a .dt)
+  pub goes : 1 ≤ a .steps → runOn (a .budget) p (going (goingOver w o left right (a .dt) (a .remaining) (a .steps))) ≡ r
+  pub asks : a .ask ≡ true → (w ≡ fill (p .n) 1ᶠ) × (runOn (a .budget) p (begin p (a .budget) (fill (p .n) 1ᶠ) o (a .remaining)) ≡ r)
+  pub stops : a .steps ≡ 0 → a .ask ≡ false → EndIs r (a .stop) w o
+
+-- the budget, and one more where a plan is asked for
+abbrev pub weightBy : Bool → ℕ → ℕ
+weightBy false b = b
+weightBy true b = b + 1
+
+abbrev pub weight : Pace → ℕ
+weight a = weightBy (a .ask) (a .budget)
+
+-- a plan for the rest of the time
+pub record BegunIs (p : Fixed) (b : ℕ) (rest : Float) (o left right diag : List Float) (a : Pace) : Type 0 where
+  pub stands : Standing p (runOn b p (begin p b (fill (p .n) 1ᶠ) o rest)) (fill (p .n) 1ᶠ) o left right diag a
+  pub less : weight a ≤ b
+
+-- after the steps of a plan, whatever the diagonal and the run's end
+pub record PlanSpent (eta : Float) (w o left right diag : List Float) (a : Pace) (w′ o′ : List Float) (a′ : Pace) : Type 0 where
+  pub keeps : (d : List Float) (r : Ended) → Standing (fixedOver (length w) d eta) r w o left right diag a → Standing (fixedOver (length w) d eta) r w′ o′ left right diag a′
+  pub spent : 1 ≤ a′ .steps → a′ .budget ≡ 0
+  pub less : weight a′ ≤ weight a
 
 -- ---- an outcome with the vector that its run left
 unfoldable pub outcomeWith : ValueVector → Outcome → VectorAnswer

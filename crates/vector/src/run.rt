@@ -9,10 +9,9 @@ ghost use mathlib.Core.Bool.{false};
 ghost use Rattle.elementary.specs.Float.{_⊕_, _⊗_, _⊘_, 0ᶠ, 1ᶠ, finite, positive};
 ghost use Rattle.elementary.specs.Elementary.{LN, orNan};
 ghost use Rattle.vector.specs.Vectors.{tab, at, fill, every, fold, larger, smaller};
-ghost use Rattle.vector.specs.Series.{taylorStep};
-ghost use Rattle.vector.specs.Run.{boundOk, rows, cap, run, runOn, begin, turn, next, rebalances, going};
+ghost use Rattle.vector.specs.Run.{boundOk, rows, cap, run, runOn, begin, divided};
 ghost use Rattle.vector.specs.Distances.{padded, blankVector, refusedVector, vectorBy};
-ghost use Rattle.vector.specs.Inner.{operatorOver, fixedOver, goingOver, outcomeWith, Sizes, DividedIs, TurnIs, EndIs};
+ghost use Rattle.vector.specs.Inner.{fixedOver, outcomeWith, pacedOf, askedOf, stoppedOf, endBy, Sizes, AfterIs, BegunIs, PlanSpent, EndIs};
 use crate::Outcome;
 use crate::ValueVector;
 use crate::VectorAnswer;
@@ -20,26 +19,84 @@ use crate::plan::Planned;
 
 const MAX_EXPM_STEPS: u32 = 11000;
 
-// Where a run stands: the steps planned, the budget left, the time left and the time of a step.
+// Where a run stands: the steps planned, the budget left, the time left and the time of a step;
+// whether it asks for a plan; and how it ends where no steps are planned.
 pub(crate) struct Pace {
     pub(crate) steps: u32,
     pub(crate) budget: u32,
     pub(crate) remaining: f64,
     pub(crate) dt: f64,
+    pub(crate) ask: bool,
+    pub(crate) stop: Outcome,
 }
 
-// What a step leads to: the next, the end, a plan over the cap, or refusal 11.
-pub(crate) enum Progress {
-    Next(Pace),
-    Done,
-    OverCap(f64),
-    Refused,
+// The steps of a plan; with none left the run is done.
+fn paced(steps: u32, budget: u32, remaining: f64, dt: f64) -> Pace
+    requires { ⌜ budget ≤ cap ⌝ }
+    ensures { λ r. ⌜ r ≡ pacedOf steps budget remaining dt ⌝ }
+{
+    Pace {
+        steps,
+        budget,
+        remaining,
+        dt,
+        ask: false,
+        stop: Outcome::Done(MAX_EXPM_STEPS - budget),
+    }
 }
 
-// A step's outcome: whether there was one, and the smallest weight after it.
-struct Step {
-    good: bool,
-    smallest: f64,
+// A run that asks for a plan.
+fn asking(budget: u32, remaining: f64) -> Pace
+    ensures { λ r. ⌜ r ≡ askedOf budget remaining ⌝ }
+{
+    Pace {
+        steps: 0,
+        budget,
+        remaining,
+        dt: 0.0,
+        ask: true,
+        stop: Outcome::Refused(11),
+    }
+}
+
+// A run that is over.
+fn stopped(stop: Outcome) -> Pace
+    ensures { λ r. ⌜ r ≡ stoppedOf stop ⌝ }
+{
+    Pace {
+        steps: 0,
+        budget: 0,
+        remaining: 0.0,
+        dt: 0.0,
+        ask: false,
+        stop,
+    }
+}
+
+fn refused() -> Pace
+    ensures { λ r. ⌜ r ≡ stoppedOf (Outcome.Refused 11) ⌝ }
+{
+    stopped(Outcome::Refused(11))
+}
+
+// A plan that needs more steps than the budget has left.
+fn over_cap(need: f64, budget: u32) -> Pace
+    requires { ⌜ budget ≤ cap ⌝ }
+    ensures { λ r. ⌜ r ≡ stoppedOf (Outcome.OverCap need budget (cap - budget)) ⌝ }
+{
+    stopped(Outcome::OverCap(need, budget, MAX_EXPM_STEPS - budget))
+}
+
+// How a run ends: with steps planned, its budget is spent.
+fn end_of(pace: Pace) -> Outcome
+    ensures { λ r. ⌜ r ≡ endBy (pace .steps) (pace .stop) ⌝ }
+{
+    let steps = pace.steps;
+    let stop = pace.stop;
+    if 0 < steps {
+        return Outcome::Refused(11);
+    }
+    stop
 }
 
 fn largest(w: &[f64]) -> f64
@@ -94,36 +151,29 @@ fn rebalance(w: &mut [f64], o: &mut [f64]) -> bool
     all
 }
 
-// One step: the series, and the division by the largest weight.
-fn step_weights(
-    w: &mut [f64],
-    diag: &[f64],
-    eta_dt: f64,
-    left: &[f64],
-    right: &[f64],
-    term: &mut [f64],
-    next: &mut [f64],
-) -> Step
-    requires { ⌜ 2 ≤ length (now w) ⌝ }
-    requires { ⌜ Sizes (length (now w)) (now diag) (now left) (now right) (now term) (now next) ⌝ }
-    ensures { λ r. ⌜ DividedIs (length (now (w .entry))) (r .good) (r .smallest) (now (w .exit))
-        (taylorStep (operatorOver (length (now (w .entry))) (now (diag .entry)) (now (left .entry)) (now (right .entry))) «eta_dt» (now (w .entry))) ⌝ }
+// After a Taylor step, good or not: the next of the plan, or a plan to ask for, or the end.
+fn after_step(w: &mut [f64], o: &mut [f64], pace: Pace, good: bool) -> Pace
+    requires { ⌜ (length (now o) ≡ length (now w)) × (1 ≤ pace .steps) × (1 ≤ pace .budget) × (pace .budget ≤ cap) ⌝ }
+    ensures { λ r. ⌜ AfterIs good (length (now (w .entry))) pace (divided (length (now (w .entry))) (now (w .entry))) (now (o .entry)) r (now (w .exit)) (now (o .exit)) ⌝ }
 {
-    if crate::series::taylor_step(w, diag, eta_dt, left, right, term, next) {
-        let max = largest(w);
-        let smallest = divide(w, max);
-        return Step {
-            good: true,
-            smallest,
-        };
+    if !good {
+        return refused();
     }
-    Step {
-        good: false,
-        smallest: 0.0,
+    let max = largest(w);
+    let smallest = divide(w, max);
+    let steps = pace.steps - 1;
+    let budget = pace.budget - 1;
+    let remaining = pace.remaining - pace.dt;
+    if crate::must_rebalance(smallest, steps) {
+        if rebalance(w, o) {
+            return asking(budget, remaining);
+        }
+        return refused();
     }
+    paced(steps, budget, remaining, pace.dt)
 }
 
-// New factors for the offsets, and a plan for the rest of the time with its diagonal.
+// New factors for the offsets, a plan for the rest of the time, and its diagonal.
 fn start(
     o: &[f64],
     diag_s: &[f64],
@@ -133,145 +183,52 @@ fn start(
     eta: f64,
     rest: f64,
     budget: u32,
-) -> Progress
+) -> Pace
+    requires { ⌜ budget ≤ cap ⌝ }
     requires { ⌜ Sizes (length (now o)) (now «diag_s») (now diag) (now left) (now right) (now right) ⌝ }
-    ensures { λ r. ⌜ TurnIs (fixedOver (length (now (o .entry))) (now («diag_s» .entry)) eta) budget
-        (begin (fixedOver (length (now (o .entry))) (now («diag_s» .entry)) eta) budget (fill (length (now (o .entry))) 1ᶠ) (now (o .entry)) rest)
-        r (fill (length (now (o .entry))) 1ᶠ) (now (o .entry)) (now (left .exit)) (now (right .exit)) (now (diag .exit)) ⌝ }
+    ensures { λ r. ⌜ BegunIs (fixedOver (length (now (o .entry))) (now («diag_s» .entry)) eta) budget rest (now (o .entry)) (now (left .exit)) (now (right .exit)) (now (diag .exit)) r ⌝ }
 {
     if crate::operator::set_factors(o, left, right) {
         match crate::plan::plan_with(rest, diag_s, eta, left, right, budget) {
             Planned::Steps(steps, dt) => {
                 crate::operator::scale_diagonal(diag_s, dt, diag);
-                return Progress::Next(Pace {
-                    steps,
-                    budget,
-                    remaining: rest,
-                    dt,
-                });
+                return paced(steps, budget, rest, dt);
             }
             Planned::OverCap(need) => {
-                return Progress::OverCap(need);
+                return over_cap(need, budget);
             }
             Planned::Refused => {}
         }
     }
-    Progress::Refused
+    refused()
 }
 
-// After a step, b steps of the budget left: the next of the plan, the end, or a new plan.
-fn go_on(
+// The steps of a plan, until there is another to make or the run is over.
+fn plan_steps(
     w: &mut [f64],
     o: &mut [f64],
-    diag_s: &[f64],
-    diag: &mut [f64],
-    left: &mut [f64],
-    right: &mut [f64],
-    eta: f64,
-    pace: Pace,
-    smallest: f64,
-) -> Progress
-    requires { ⌜ (1 ≤ pace .steps) × (1 ≤ pace .budget) ⌝ }
-    requires { ⌜ Sizes (length (now w)) (now o) (now «diag_s») (now diag) (now left) (now right) ⌝ }
-    requires { ⌜ now diag ≡ tab (length (now w)) (λ i. at (now «diag_s») i ⊗ pace .dt) ⌝ }
-    ensures { λ r. ⌜ TurnIs (fixedOver (length (now (w .entry))) (now («diag_s» .entry)) eta) (pace .budget - 1)
-        (next (pace .steps - 1) (rebalances smallest (pace .steps - 1)) (fixedOver (length (now (w .entry))) (now («diag_s» .entry)) eta) (pace .budget - 1)
-        (goingOver (now (w .entry)) (now (o .entry)) (now (left .entry)) (now (right .entry)) (pace .dt) (pace .remaining) (pace .steps)) (now (w .entry)))
-        r (now (w .exit)) (now (o .exit)) (now (left .exit)) (now (right .exit)) (now (diag .exit)) ⌝ }
-{
-    let steps = pace.steps - 1;
-    if steps == 0 {
-        return Progress::Done;
-    }
-    let budget = pace.budget - 1;
-    let remaining = pace.remaining - pace.dt;
-    if crate::must_rebalance(smallest, steps) {
-        if rebalance(w, o) {
-            return start(o, diag_s, diag, left, right, eta, remaining, budget);
-        }
-        return Progress::Refused;
-    }
-    Progress::Next(Pace {
-        steps,
-        budget,
-        remaining,
-        dt: pace.dt,
-    })
-}
-
-// One step of a run.
-fn advance(
-    w: &mut [f64],
-    o: &mut [f64],
-    diag_s: &[f64],
-    diag: &mut [f64],
-    left: &mut [f64],
-    right: &mut [f64],
-    term: &mut [f64],
-    next: &mut [f64],
-    eta: f64,
-    pace: Pace,
-) -> Progress
-    requires { ⌜ (2 ≤ length (now w)) × (1 ≤ pace .steps) × (1 ≤ pace .budget) ⌝ }
-    requires { ⌜ Sizes (length (now w)) (now o) (now «diag_s») (now diag) (now left) (now right) ⌝ }
-    requires { ⌜ (length (now term) ≡ length (now w)) × (length (now next) ≡ length (now w)) ⌝ }
-    requires { ⌜ now diag ≡ tab (length (now w)) (λ i. at (now «diag_s») i ⊗ pace .dt) ⌝ }
-    ensures { λ r. ⌜ TurnIs (fixedOver (length (now (w .entry))) (now («diag_s» .entry)) eta) (pace .budget - 1)
-        (turn (fixedOver (length (now (w .entry))) (now («diag_s» .entry)) eta) (pace .budget - 1)
-        (goingOver (now (w .entry)) (now (o .entry)) (now (left .entry)) (now (right .entry)) (pace .dt) (pace .remaining) (pace .steps)))
-        r (now (w .exit)) (now (o .exit)) (now (left .exit)) (now (right .exit)) (now (diag .exit)) ⌝ }
-{
-    let step = step_weights(w, diag, eta * pace.dt, left, right, term, next);
-    if step.good {
-        return go_on(w, o, diag_s, diag, left, right, eta, pace, step.smallest);
-    }
-    Progress::Refused
-}
-
-// The steps of a run, from its first plan.
-fn run_steps(
-    w: &mut [f64],
-    o: &mut [f64],
-    diag_s: &[f64],
-    diag: &mut [f64],
-    left: &mut [f64],
-    right: &mut [f64],
+    diag: &[f64],
+    left: &[f64],
+    right: &[f64],
     term: &mut [f64],
     next: &mut [f64],
     eta: f64,
     first: Pace,
-) -> Outcome
-    requires { ⌜ (2 ≤ length (now w)) × (1 ≤ first .steps) × (first .budget ≤ cap) ⌝ }
-    requires { ⌜ Sizes (length (now w)) (now o) (now «diag_s») (now diag) (now left) (now right) ⌝ }
-    requires { ⌜ (length (now term) ≡ length (now w)) × (length (now next) ≡ length (now w)) ⌝ }
-    requires { ⌜ now diag ≡ tab (length (now w)) (λ i. at (now «diag_s») i ⊗ first .dt) ⌝ }
-    ensures { λ r. ⌜ EndIs (runOn (first .budget) (fixedOver (length (now (w .entry))) (now («diag_s» .entry)) eta)
-        (going (goingOver (now (w .entry)) (now (o .entry)) (now (left .entry)) (now (right .entry)) (first .dt) (first .remaining) (first .steps))))
-        r (now (w .exit)) (now (o .exit)) ⌝ }
+) -> Pace
+    requires { ⌜ (2 ≤ length (now w)) × (length (now o) ≡ length (now w)) × (first .budget ≤ cap) ⌝ }
+    requires { ⌜ Sizes (length (now w)) (now diag) (now left) (now right) (now term) (now next) ⌝ }
+    ensures { λ r. ⌜ PlanSpent eta (now (w .entry)) (now (o .entry)) (now (left .entry)) (now (right .entry)) (now (diag .entry)) first (now (w .exit)) (now (o .exit)) r ⌝ }
 {
     let mut pace = first;
-    while 0 < pace.budget {
-        let budget = pace.budget - 1;
-        match advance(w, o, diag_s, diag, left, right, term, next, eta, pace) {
-            Progress::Next(p) => {
-                pace = p;
-            }
-            Progress::Done => {
-                return Outcome::Done(MAX_EXPM_STEPS - budget);
-            }
-            Progress::OverCap(need) => {
-                return Outcome::OverCap(need, budget, MAX_EXPM_STEPS - budget);
-            }
-            Progress::Refused => {
-                return Outcome::Refused(11);
-            }
-        }
+    while (0 < pace.steps) & (0 < pace.budget) {
+        let good = crate::series::taylor_step(w, diag, eta * pace.dt, left, right, term, next);
+        pace = after_step(w, o, pace, good);
     }
-    Outcome::Refused(11)
+    pace
 }
 
-// The run over a time above zero, from weights of 1.0: its first plan, and the steps.
-fn run_over(
+// The run over a time above zero, from weights of 1.0: plan after plan.
+fn run_plans(
     w: &mut [f64],
     o: &mut [f64],
     diag_s: &[f64],
@@ -290,12 +247,21 @@ fn run_over(
         (begin (fixedOver (length (now (w .entry))) (now («diag_s» .entry)) eta) cap (fill (length (now (w .entry))) 1ᶠ) (now (o .entry)) tau))
         r (now (w .exit)) (now (o .exit)) ⌝ }
 {
-    match start(o, diag_s, diag, left, right, eta, tau, MAX_EXPM_STEPS) {
-        Progress::Next(pace) => run_steps(w, o, diag_s, diag, left, right, term, next, eta, pace),
-        Progress::OverCap(need) => Outcome::OverCap(need, MAX_EXPM_STEPS, 0),
-        Progress::Done => Outcome::Refused(11),
-        Progress::Refused => Outcome::Refused(11),
+    let mut pace = asking(MAX_EXPM_STEPS, tau);
+    while pace.ask {
+        let first = start(
+            o,
+            diag_s,
+            diag,
+            left,
+            right,
+            eta,
+            pace.remaining,
+            pace.budget,
+        );
+        pace = plan_steps(w, o, diag, left, right, term, next, eta, first);
     }
+    end_of(pace)
 }
 
 // The same with room for what the steps work on.
@@ -309,7 +275,7 @@ fn run_later(w: &mut [f64], o: &mut [f64], diag_s: &[f64], eta: f64, tau: f64, n
     let mut right = blank();
     let mut term = blank();
     let mut next = blank();
-    run_over(
+    run_plans(
         w,
         o,
         diag_s,

@@ -27,35 +27,35 @@ blank-requires-5 c κs = search needs
 array-borrow-prefix-diag : tie.Need-array-borrow-prefix-diag
 array-borrow-prefix-diag c = search needs
 
-slice-aggregate-run-over : tie.Need-slice-aggregate-run-over
-slice-aggregate-run-over c = sym (blank-length _ _ (c .before .before .before .before .before .before .before .blank .ensures) (c .before .before .before .before .before .before .before .before .before .before .before .pre .1))
+slice-aggregate-run-plans : tie.Need-slice-aggregate-run-plans
+slice-aggregate-run-plans c = sym (blank-length _ _ (c .before .before .before .before .before .before .before .blank .ensures) (c .before .before .before .before .before .before .before .before .before .before .before .pre .1))
 
 array-borrow-prefix-left : tie.Need-array-borrow-prefix-left
 array-borrow-prefix-left c = search needs
 
-slice-aggregate-run-over-2 : tie.Need-slice-aggregate-run-over-2
-slice-aggregate-run-over-2 c = sym (blank-length _ _ (c .before .before .before .before .before .before .before .blank2 .ensures) (c .before .before .before .before .before .before .before .before .before .before .before .before .pre .1))
+slice-aggregate-run-plans-2 : tie.Need-slice-aggregate-run-plans-2
+slice-aggregate-run-plans-2 c = sym (blank-length _ _ (c .before .before .before .before .before .before .before .blank2 .ensures) (c .before .before .before .before .before .before .before .before .before .before .before .before .pre .1))
 
 array-borrow-prefix-right : tie.Need-array-borrow-prefix-right
 array-borrow-prefix-right c = search needs
 
-slice-aggregate-run-over-3 : tie.Need-slice-aggregate-run-over-3
-slice-aggregate-run-over-3 c = sym (blank-length _ _ (c .before .before .before .before .before .before .before .blank3 .ensures) (c .before .before .before .before .before .before .before .before .before .before .before .before .before .pre .1))
+slice-aggregate-run-plans-3 : tie.Need-slice-aggregate-run-plans-3
+slice-aggregate-run-plans-3 c = sym (blank-length _ _ (c .before .before .before .before .before .before .before .blank3 .ensures) (c .before .before .before .before .before .before .before .before .before .before .before .before .before .pre .1))
 
 array-borrow-prefix-term : tie.Need-array-borrow-prefix-term
 array-borrow-prefix-term c = search needs
 
-slice-aggregate-run-over-4 : tie.Need-slice-aggregate-run-over-4
-slice-aggregate-run-over-4 c = sym (blank-length _ _ (c .before .before .before .before .before .before .before .blank4 .ensures) (c .before .before .before .before .before .before .before .before .before .before .before .before .before .before .pre .1))
+slice-aggregate-run-plans-4 : tie.Need-slice-aggregate-run-plans-4
+slice-aggregate-run-plans-4 c = sym (blank-length _ _ (c .before .before .before .before .before .before .before .blank4 .ensures) (c .before .before .before .before .before .before .before .before .before .before .before .before .before .before .pre .1))
 
 array-borrow-prefix-next : tie.Need-array-borrow-prefix-next
 array-borrow-prefix-next c = search needs
 
-slice-aggregate-run-over-5 : tie.Need-slice-aggregate-run-over-5
-slice-aggregate-run-over-5 c = sym (blank-length _ _ (c .before .before .before .before .before .before .before .blank5 .ensures) (c .before .before .before .before .before .before .before .before .before .before .before .before .before .before .before .pre .1))
+slice-aggregate-run-plans-5 : tie.Need-slice-aggregate-run-plans-5
+slice-aggregate-run-plans-5 c = sym (blank-length _ _ (c .before .before .before .before .before .before .before .blank5 .ensures) (c .before .before .before .before .before .before .before .before .before .before .before .before .before .before .before .pre .1))
 
-run-over-requires : tie.Need-run-over-requires
-run-over-requires c κs =
+run-plans-requires : tie.Need-run-plans-requires
+run-plans-requires c κs =
     let p = c .before .before .before .before .before .before .before .before .before .before .before .before .before .before .before .pre in
     let part : (l : List Float) → l ≡ fill 401 0ᶠ → length (take (c .before .before .before .before .before .before .before .before .before .before .before .before .before .before .before .args .n) l) ≡ c .before .before .before .before .before .before .before .before .before .before .before .before .before .before .before .args .n = λ l e. blank-length _ l e (p .1) in
     rw (ap length (p .2) ∙ length-replicate (c .before .before .before .before .before .before .before .before .before .before .before .before .before .before .before .args .n) 1ᶠ) (
@@ -73,7 +73,7 @@ same-length-2 : tie.Need-same-length-2
 same-length-2 c = search needs
 
 returns : tie.Need-returns
-returns c = rw (ap length (c .before .before .before .before .before .before .before .before .before .before .before .before .before .before .before .before .before .before .before .before .before .before .before .before .before .pre .2) ∙ length-replicate (c .before .before .before .before .before .before .before .before .before .before .before .before .before .before .before .before .before .before .before .before .before .before .before .before .before .args .n) 1ᶠ) at (c .before .before .before .before .before .before .before .before .before .run-over .ensures)
+returns c = rw (ap length (c .before .before .before .before .before .before .before .before .before .before .before .before .before .before .before .before .before .before .before .before .before .before .before .before .before .pre .2) ∙ length-replicate (c .before .before .before .before .before .before .before .before .before .before .before .before .before .before .before .before .before .before .before .before .before .before .before .before .before .args .n) 1ᶠ) at (c .before .before .before .before .before .before .before .before .before .run-plans .ensures)
 
 pub run-later-spec : {M : Type 1} → statement M
 run-later-spec =
@@ -85,16 +85,16 @@ run-later-spec =
     blank-requires-4
     blank-requires-5
     array-borrow-prefix-diag
-    slice-aggregate-run-over
+    slice-aggregate-run-plans
     array-borrow-prefix-left
-    slice-aggregate-run-over-2
+    slice-aggregate-run-plans-2
     array-borrow-prefix-right
-    slice-aggregate-run-over-3
+    slice-aggregate-run-plans-3
     array-borrow-prefix-term
-    slice-aggregate-run-over-4
+    slice-aggregate-run-plans-4
     array-borrow-prefix-next
-    slice-aggregate-run-over-5
-    run-over-requires
+    slice-aggregate-run-plans-5
+    run-plans-requires
     same-length
     same-length-2
     returns)

@@ -1,4 +1,5 @@
 use mathlib.Core.Path.{sym, _∙_}
+use mathlib.Core.Logic.{⊎-elim}
 use borrow.Author.Needs.{needs}
 use Rattle.vector.specs.declared.plan.Planned.the-variants as Planned
 use Rattle.vector.proofs.RunLaws.{begun, not-begun}
@@ -6,75 +7,81 @@ use Rattle.vector.proofs.run.start.Statement.{statement}
 use Rattle.vector.proofs.run.start.Tie as tie
 
 set-factors-requires : tie.Need-set-factors-requires
-set-factors-requires c κs = search needs
+set-factors-requires c κs =
+    let s = c .before .before .before .before .before .before .before .pre .1 in
+    (s .right-n, s .term-n)
 
 plan-with-requires : tie.Need-plan-with-requires
-plan-with-requires c κs = search needs
+plan-with-requires c κs =
+    let s = c .before .before .before .before .before .before .before .before .before .before .before .before .before .before .before .pre .1 in
+    let k = c .before .before .before .before .before .before .before .set-factors .kept in
+    (k .1 .0 ∙ s .right-n ∙ sym (s .diag-n), k .1 .1 .0 ∙ s .term-n ∙ sym (s .diag-n))
 
 enum-known-steps : tie.Need-enum-known-steps
 enum-known-steps c = search needs
 
 scale-diagonal-requires : tie.Need-scale-diagonal-requires
-scale-diagonal-requires c κs = search needs
+scale-diagonal-requires c κs =
+    let s = c .before .before .before .before .before .before .before .before .before .before .before .before .before .before .before .before .before .before .before .before .pre .1 in
+    s .left-n ∙ sym (s .diag-n)
+
+paced-requires : tie.Need-paced-requires
+paced-requires c κs = c .before .before .before .before .before .before .before .before .before .before .before .before .before .before .before .before .before .before .before .before .before .before .before .pre .0
 
 same-length : tie.Need-same-length
-same-length c = search needs
+same-length c = c .before .before .before .scale-diagonal .kept .1 .1 .0
 
 same-length-2 : tie.Need-same-length-2
-same-length-2 c = search needs
+same-length-2 c = c .before .before .before .before .before .before .before .before .before .before .before .before .before .before .before .before .set-factors .kept .1 .0
 
 same-length-3 : tie.Need-same-length-3
-same-length-3 c = search needs
+same-length-3 c = c .before .before .before .before .before .before .before .before .before .before .before .before .before .before .before .before .set-factors .kept .1 .1 .0
 
 returns : tie.Need-returns
 returns c =
-    let p = c .before .before .before .before .before .before .before in
-    let f = p .before .before .before .before .before .before .before .before .set-factors .ensures in
-    let n = p .before .before .before .before .before .before .before .before .before .before .before .before .before .before .before .before .pre .diag-n in
-    begun _ _ _ _ _ _ _ _ _ (f .0) (f .1 .0) (f .1 .1) (p .before .before .before .if1 .taken) (Planned.Steps _ _) (sym (c .before .before .before .before .before .steps .given .1) ∙ rw n at (p .plan-with .ensures)) (rw n at (c .before .before .scale-diagonal .ensures))
+    let f = c .before .before .before .before .before .before .before .before .before .before .before .before .before .before .before .before .set-factors .ensures in
+    let s = c .before .before .before .before .before .before .before .before .before .before .before .before .before .before .before .before .before .before .before .before .before .before .before .before .pre in
+    let n = s .1 .diag-n in
+    begun _ _ _ _ _ _ _ (s .0) _ (f .0) (f .1 .0) (f .1 .1) _ (c .before .before .before .before .before .before .before .before .before .before .before .if1 .taken) (Planned.Steps _ _) (sym (c .before .before .before .before .before .before .steps .given .1) ∙ rw n at (c .before .before .before .before .before .before .before .before .plan-with .ensures)) (rw n at (c .before .before .before .scale-diagonal .ensures)) (c .paced .ensures)
 
 enum-known-need : tie.Need-enum-known-need
 enum-known-need c = search needs
 
+over-cap-requires : tie.Need-over-cap-requires
+over-cap-requires c κs = c .before .before .before .before .before .before .before .before .before .before .before .before .before .before .before .before .before .before .before .pre .0
+
 same-length-4 : tie.Need-same-length-4
-same-length-4 c = search needs
+same-length-4 c = c .before .before .before .before .before .before .before .before .before .before .before .before .set-factors .kept .1 .0
 
 same-length-5 : tie.Need-same-length-5
-same-length-5 c = search needs
+same-length-5 c = c .before .before .before .before .before .before .before .before .before .before .before .before .set-factors .kept .1 .1 .0
 
 returns-2 : tie.Need-returns-2
 returns-2 c =
-    let p = c .before .before .before in
-    let f = p .before .before .before .before .before .before .before .before .set-factors .ensures in
-    let n = p .before .before .before .before .before .before .before .before .before .before .before .before .before .before .before .before .pre .diag-n in
-    begun _ _ _ _ _ _ _ _ _ (f .0) (f .1 .0) (f .1 .1) (p .before .before .before .if1 .taken) (Planned.OverCap _) (sym (c .before .need .given .1) ∙ rw n at (p .plan-with .ensures)) tt
+    let f = c .before .before .before .before .before .before .before .before .before .before .before .before .set-factors .ensures in
+    let s = c .before .before .before .before .before .before .before .before .before .before .before .before .before .before .before .before .before .before .before .before .pre in
+    begun _ _ _ _ _ _ _ (s .0) _ (f .0) (f .1 .0) (f .1 .1) _ (c .before .before .before .before .before .before .before .if1 .taken) (Planned.OverCap _) (sym (c .before .before .need .given .1) ∙ rw (s .1 .diag-n) at (c .before .before .before .before .plan-with .ensures)) tt (c .over-cap .ensures)
 
 enum-told : tie.Need-enum-told
 enum-told c = search needs
 
+refused-requires : tie.Need-refused-requires
+refused-requires c κs = tt
+
 same-length-6 : tie.Need-same-length-6
-same-length-6 c = search needs
+same-length-6 c = c .before .before .before .before .before .before .set-factors .kept .1 .0
 
 same-length-7 : tie.Need-same-length-7
-same-length-7 c = search needs
+same-length-7 c = c .before .before .before .before .before .before .set-factors .kept .1 .1 .0
 
 returns-3 : tie.Need-returns-3
 returns-3 c =
-    let p = c .before .before in
-    let f = p .before .before .before .before .before .before .before .before .set-factors .ensures in
-    let n = p .before .before .before .before .before .before .before .before .before .before .before .before .before .before .before .before .pre .diag-n in
-    begun _ _ _ _ _ _ _ _ _ (f .0) (f .1 .0) (f .1 .1) (p .before .before .before .if1 .taken) Planned.Refused (sym (c .enum-told .given .1) ∙ rw n at (p .plan-with .ensures)) tt
-
-same-length-8 : tie.Need-same-length-8
-same-length-8 c = search needs
-
-same-length-9 : tie.Need-same-length-9
-same-length-9 c = search needs
-
-returns-4 : tie.Need-returns-4
-returns-4 c =
-    let f = c .before .before .before .before .before .set-factors .ensures in
-    not-begun _ _ _ _ _ _ _ _ _ (f .0) (f .1 .0) (f .1 .1) (c .if1 .left)
+    let f = c .before .before .before .before .before .before .set-factors .ensures in
+    let s = c .before .before .before .before .before .before .before .before .before .before .before .before .before .before .pre in
+    ⊎-elim
+    (λ t. begun _ _ _ _ _ _ _ (s .0) _ (f .0) (f .1 .0) (f .1 .1) _ (t .0 .taken) Planned.Refused (sym (t .5 .given .1) ∙ rw (s .1 .diag-n) at (t .3 .ensures)) tt (c .refused .ensures))
+    (λ t. not-begun _ _ _ _ _ _ _ (s .0) _ (f .0) (f .1 .0) (f .1 .1) _ (t .left) (c .refused .ensures))
+    (c .before .if1 .came)
 
 pub start-spec : {M : Type 1} → statement M
 start-spec =
@@ -84,18 +91,18 @@ start-spec =
     plan-with-requires
     enum-known-steps
     scale-diagonal-requires
+    paced-requires
     same-length
     same-length-2
     same-length-3
     returns
     enum-known-need
+    over-cap-requires
     same-length-4
     same-length-5
     returns-2
     enum-told
+    refused-requires
     same-length-6
     same-length-7
-    returns-3
-    same-length-8
-    same-length-9
-    returns-4)
+    returns-3)
