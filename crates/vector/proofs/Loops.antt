@@ -48,10 +48,6 @@ pub filled-all : (f : ℕ → Float) (l out : List Float) (i n : ℕ) → i ≡ 
 unfolding filled
 filled-all f l out i n h k e = e ∙ rw (← k, h, drop-length l, append-nil)
 
-pub length-filled : (f : ℕ → Float) (l : List Float) (i : ℕ) → i ≤ length l → length (filled f l i) ≡ length l
-unfolding filled
-length-filled f l i h = simp (length-append, length-drop, length-tab) (omega arith)
-
 -- what has not been stored yet
 pub at-filled : (f : ℕ → Float) (l : List Float) (i j : ℕ) → i ≤ j → at (filled f l i) j ≡ at l j
 unfolding filled

@@ -9,6 +9,7 @@ use lib.Ieee.{Float, inf, le, toUnsigned}
 use Rattle.elementary.specs.Float.{_⊕_, _⊖_, _⊗_, _⊘_, whole, 0ᶠ, 1ᶠ, finite, positive}
 use Rattle.elementary.specs.Reply.{Reply, value, refusal}
 use Rattle.elementary.specs.Elementary.{LN, orNan}
+use Rattle.vector.specs.Refusals.{numerical}
 use Rattle.vector.specs.Vectors.{tab, at, fill, every, fold, smaller}
 use Rattle.vector.specs.Series.{Operator, plus, bothFinite, converged}
 use Rattle.vector.specs.Run.{Ended, vector, overCap, failed, Fixed, Going, going, cap, norm, needed, begin, rebalances, runOn}
@@ -68,26 +69,29 @@ abbrev pub pacedOf : ℕ → ℕ → Float → Float → Pace
 pacedOf s b rest dt = record { steps = s; budget = b; remaining = rest; dt = dt; ask = false; stop = Outcome.Done (cap - b) }
 
 abbrev pub askedOf : ℕ → Float → Pace
-askedOf b rest = record { steps = 0; budget = b; remaining = rest; dt = 0ᶠ; ask = true; stop = Outcome.Refused 11 }
+askedOf b rest = record { steps = 0; budget = b; remaining = rest; dt = 0ᶠ; ask = true; stop = Outcome.Refused numerical }
 
 abbrev pub stoppedOf : Outcome → Pace
 stoppedOf r = record { steps = 0; budget = 0; remaining = 0ᶠ; dt = 0ᶠ; ask = false; stop = r }
 
+abbrev pub refusedPace : Pace
+refusedPace = stoppedOf (Outcome.Refused numerical)
+
 unfoldable pub endBy : ℕ → Outcome → Outcome
 endBy zero r = r
-endBy (suc s) r = Outcome.Refused 11
+endBy (suc s) r = Outcome.Refused numerical
 
 -- ---- the end of a run
 unfoldable pub EndIs : Ended → Outcome → List Float → List Float → Type 0
 EndIs (vector w′ o′ s) r w o = (r ≡ Outcome.Done s) × (w ≡ w′) × (o ≡ o′)
 EndIs (overCap need b) r w o = r ≡ Outcome.OverCap need b (cap - b)
-EndIs (failed s) r w o = r ≡ Outcome.Refused 11
+EndIs (failed s) r w o = r ≡ Outcome.Refused numerical
 
 -- ---- after a step, w being its weights divided: was it good, is there rebalancing, is each weight positive
 unfoldable pub AfterBy : Bool → Bool → Bool → ℕ → Pace → List Float → List Float → Pace → List Float → List Float → Type 0
-AfterBy false c e n a w o r w′ o′ = r ≡ stoppedOf (Outcome.Refused 11)
+AfterBy false c e n a w o r w′ o′ = r ≡ refusedPace
 AfterBy true false e n a w o r w′ o′ = (r ≡ pacedOf (a .steps - 1) (a .budget - 1) (a .remaining ⊖ a .dt) (a .dt)) × (w′ ≡ w) × (o′ ≡ o)
-AfterBy true true false n a w o r w′ o′ = r ≡ stoppedOf (Outcome.Refused 11)
+AfterBy true true false n a w o r w′ o′ = r ≡ refusedPace
 AfterBy true true true n a w o r w′ o′ = (r ≡ askedOf (a .budget - 1) (a .remaining ⊖ a .dt)) × (w′ ≡ fill n 1ᶠ) × (o′ ≡ tab n (λ i. at o i ⊕ orNan (LN (at w i))))
 
 abbrev pub AfterIs : Bool → ℕ → Pace → List Float → List Float → Pace → List Float → List Float → Type 0

@@ -11,7 +11,7 @@ ghost use Rattle.elementary.specs.Elementary.{LN, orNan};
 ghost use Rattle.vector.specs.Vectors.{tab, at, fill, every, fold, larger, smaller};
 ghost use Rattle.vector.specs.Run.{boundOk, rows, cap, run, runOn, begin, divided};
 ghost use Rattle.vector.specs.Distances.{padded, blankVector, refusedVector, vectorBy};
-ghost use Rattle.vector.specs.Inner.{fixedOver, outcomeWith, pacedOf, askedOf, stoppedOf, endBy, Sizes, AfterIs, BegunIs, PlanSpent, EndIs};
+ghost use Rattle.vector.specs.Inner.{fixedOver, outcomeWith, pacedOf, askedOf, stoppedOf, refusedPace, endBy, Sizes, AfterIs, BegunIs, PlanSpent, EndIs};
 use crate::Outcome;
 use crate::ValueVector;
 use crate::VectorAnswer;
@@ -74,7 +74,7 @@ fn stopped(stop: Outcome) -> Pace
 }
 
 fn refused() -> Pace
-    ensures { λ r. ⌜ r ≡ stoppedOf (Outcome.Refused 11) ⌝ }
+    ensures { λ r. ⌜ r ≡ refusedPace ⌝ }
 {
     stopped(Outcome::Refused(11))
 }
