@@ -4,7 +4,7 @@ ghost use mathlib.Core.Path.{_≡_};
 ghost use Prim.Native.Nat.{_<_, _≤_};
 ghost use mathlib.Core.Bool.{_&&_};
 ghost use lib.ListN.{length};
-ghost use Rattle.elementary.specs.Float.{_⊗_, finite};
+ghost use Rattle.elementary.specs.Float.{_⊕_, _⊖_, _⊗_, finite};
 ghost use Rattle.vector.specs.Vectors.{tab, at, every};
 ghost use Rattle.vector.specs.Series.{diagonalAt, leftAt, rightAt, applied};
 ghost use Rattle.vector.specs.Run.{rows};
@@ -78,6 +78,23 @@ pub(crate) fn set_factors(o: &[f64], left: &mut [f64], right: &mut [f64]) -> boo
     all
 }
 
+// Row i of B x, from the entries of x beside row i.
+fn row_at(
+    x: &[f64],
+    diag: &[f64],
+    eta_dt: f64,
+    left: &[f64],
+    right: &[f64],
+    i: usize,
+    lower: f64,
+    upper: f64,
+) -> f64
+    requires { ⌜ (i < length (now x)) × (i < length (now diag)) × (i < length (now left)) × (i < length (now right)) ⌝ }
+    ensures { λ r. ⌜ r ≡ «eta_dt» ⊗ (at (now (left .entry)) i ⊗ lower ⊕ at (now (right .entry)) i ⊗ upper) ⊖ at (now (diag .entry)) i ⊗ at (now (x .entry)) i ⌝ }
+{
+    eta_dt * (left[i] * lower + right[i] * upper) - diag[i] * x[i]
+}
+
 // out = B x. The two end rows stand apart, so that the rows between them read both neighbours.
 pub(crate) fn apply_operator(
     x: &[f64],
@@ -90,12 +107,11 @@ pub(crate) fn apply_operator(
     requires { ⌜ (2 ≤ length (now x)) × (length (now diag) ≡ length (now x)) × (length (now left) ≡ length (now x)) × (length (now right) ≡ length (now x)) × (length (now out) ≡ length (now x)) ⌝ }
     ensures { λ _. ⌜ now (out .exit) ≡ applied (operatorOver (length (now (x .entry))) (now (diag .entry)) (now (left .entry)) (now (right .entry))) «eta_dt» (now (x .entry)) ⌝ }
 {
-    let last = x.len() - 1;
-    out[0] = eta_dt * (left[0] * 0.0 + right[0] * x[1]) - diag[0] * x[0];
+    out[0] = row_at(x, diag, eta_dt, left, right, 0, 0.0, x[1]);
     let mut i: usize = 1;
-    while i < last {
-        out[i] = eta_dt * (left[i] * x[i - 1] + right[i] * x[i + 1]) - diag[i] * x[i];
+    while i + 1 < x.len() {
+        out[i] = row_at(x, diag, eta_dt, left, right, i, x[i - 1], x[i + 1]);
         i += 1;
     }
-    out[last] = eta_dt * (left[last] * x[last - 1] + right[last] * 0.0) - diag[last] * x[last];
+    out[i] = row_at(x, diag, eta_dt, left, right, i, x[i - 1], 0.0);
 }
