@@ -31,6 +31,9 @@ module _ (n : ℕ) (a : List Float) (e : a ≡ fill room 0ᶠ) (h : n ≤ room) 
       let k : room ≡ n + (room - n) = omega arith in
       e ∙ ap (λ (m : ℕ). fill m 0ᶠ) k ∙ sym (replicate-append-replicate n (room - n) 0ᶠ)
 
+  pub blank-room : n ≤ length a
+  blank-room = rw (ap length e ∙ length-replicate room 0ᶠ) h
+
   pub blank-length : length (take n a) ≡ n
   blank-length = length-lent n a (fill n 0ᶠ) blank-padded (length-replicate n 0ᶠ)
 

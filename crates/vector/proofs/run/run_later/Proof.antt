@@ -2,54 +2,53 @@ use mathlib.Core.Path.{_≡_, sym, ap, _∙_}
 use mathlib.Core.List.{List}
 use lib.ListN.{length, take, length-replicate}
 use lib.Ieee.{Float}
-use borrow.Author.Needs.{needs}
 use Rattle.elementary.specs.Float.{0ᶠ, 1ᶠ}
 use Rattle.vector.specs.Vectors.{fill}
-use Rattle.vector.proofs.Room.{blank-length}
+use Rattle.vector.proofs.Room.{blank-room, blank-length}
 use Rattle.vector.proofs.run.run_later.Statement.{statement}
 use Rattle.vector.proofs.run.run_later.Tie as tie
 
 blank-requires : tie.Need-blank-requires
-blank-requires c κs = search needs
+blank-requires c κs = tt
 
 blank-requires-2 : tie.Need-blank-requires-2
-blank-requires-2 c κs = search needs
+blank-requires-2 c κs = tt
 
 blank-requires-3 : tie.Need-blank-requires-3
-blank-requires-3 c κs = search needs
+blank-requires-3 c κs = tt
 
 blank-requires-4 : tie.Need-blank-requires-4
-blank-requires-4 c κs = search needs
+blank-requires-4 c κs = tt
 
 blank-requires-5 : tie.Need-blank-requires-5
-blank-requires-5 c κs = search needs
+blank-requires-5 c κs = tt
 
 array-borrow-prefix-diag : tie.Need-array-borrow-prefix-diag
-array-borrow-prefix-diag c = search needs
+array-borrow-prefix-diag c = blank-room _ _ (c .before .before .before .before .before .before .blank .ensures) (c .before .before .before .before .before .before .before .before .before .before .pre .1)
 
 slice-aggregate-run-plans : tie.Need-slice-aggregate-run-plans
 slice-aggregate-run-plans c = sym (blank-length _ _ (c .before .before .before .before .before .before .before .blank .ensures) (c .before .before .before .before .before .before .before .before .before .before .before .pre .1))
 
 array-borrow-prefix-left : tie.Need-array-borrow-prefix-left
-array-borrow-prefix-left c = search needs
+array-borrow-prefix-left c = blank-room _ _ (c .before .before .before .before .before .before .blank2 .ensures) (c .before .before .before .before .before .before .before .before .before .before .before .pre .1)
 
 slice-aggregate-run-plans-2 : tie.Need-slice-aggregate-run-plans-2
 slice-aggregate-run-plans-2 c = sym (blank-length _ _ (c .before .before .before .before .before .before .before .blank2 .ensures) (c .before .before .before .before .before .before .before .before .before .before .before .before .pre .1))
 
 array-borrow-prefix-right : tie.Need-array-borrow-prefix-right
-array-borrow-prefix-right c = search needs
+array-borrow-prefix-right c = blank-room _ _ (c .before .before .before .before .before .before .blank3 .ensures) (c .before .before .before .before .before .before .before .before .before .before .before .before .pre .1)
 
 slice-aggregate-run-plans-3 : tie.Need-slice-aggregate-run-plans-3
 slice-aggregate-run-plans-3 c = sym (blank-length _ _ (c .before .before .before .before .before .before .before .blank3 .ensures) (c .before .before .before .before .before .before .before .before .before .before .before .before .before .pre .1))
 
 array-borrow-prefix-term : tie.Need-array-borrow-prefix-term
-array-borrow-prefix-term c = search needs
+array-borrow-prefix-term c = blank-room _ _ (c .before .before .before .before .before .before .blank4 .ensures) (c .before .before .before .before .before .before .before .before .before .before .before .before .before .pre .1)
 
 slice-aggregate-run-plans-4 : tie.Need-slice-aggregate-run-plans-4
 slice-aggregate-run-plans-4 c = sym (blank-length _ _ (c .before .before .before .before .before .before .before .blank4 .ensures) (c .before .before .before .before .before .before .before .before .before .before .before .before .before .before .pre .1))
 
 array-borrow-prefix-next : tie.Need-array-borrow-prefix-next
-array-borrow-prefix-next c = search needs
+array-borrow-prefix-next c = blank-room _ _ (c .before .before .before .before .before .before .blank5 .ensures) (c .before .before .before .before .before .before .before .before .before .before .before .before .before .before .pre .1)
 
 slice-aggregate-run-plans-5 : tie.Need-slice-aggregate-run-plans-5
 slice-aggregate-run-plans-5 c = sym (blank-length _ _ (c .before .before .before .before .before .before .before .blank5 .ensures) (c .before .before .before .before .before .before .before .before .before .before .before .before .before .before .before .pre .1))
@@ -67,10 +66,10 @@ run-plans-requires c κs =
     )
 
 same-length : tie.Need-same-length
-same-length c = search needs
+same-length c = c .before .before .before .before .before .before .before .before .before .run-plans .kept .0
 
 same-length-2 : tie.Need-same-length-2
-same-length-2 c = search needs
+same-length-2 c = c .before .before .before .before .before .before .before .before .before .run-plans .kept .1 .0
 
 returns : tie.Need-returns
 returns c = rw (ap length (c .before .before .before .before .before .before .before .before .before .before .before .before .before .before .before .before .before .before .before .before .before .before .before .before .before .pre .2) ∙ length-replicate (c .before .before .before .before .before .before .before .before .before .before .before .before .before .before .before .before .before .before .before .before .before .before .before .before .before .args .n) 1ᶠ) at (c .before .before .before .before .before .before .before .before .before .run-plans .ensures)
