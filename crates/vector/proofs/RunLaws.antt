@@ -103,7 +103,7 @@ module _ (p : Fixed) (r : Ended) (w o left right diag : List Float) (a : Pace) (
   unfolding AfterBy EndIs next rebalance
   next-by zero true e v es ez ee h k = never (cc (ez refl))
   next-by zero false e v es ez ee h k =
-      rw (h .0, h .1, h .2, es) (paced-on p r v o left right diag 0 b _ _ (omega arith) d (λ x. absurd (omega arith)) (λ _. rw (← k, on-ended p b (vector v o (cap - b))) (refl, refl, refl)))
+      rw (h .0, h .1, h .2, es) (paced-on p r v o left right diag 0 b _ _ (omega arith) d (λ x. absurd (omega arith)) (λ _. rw (← k, on-ended) (refl, refl, refl)))
   next-by (suc s) false e v es ez ee h k =
       rw (h .0, h .1, h .2, es) (paced-on p r v o left right diag (suc s) b _ _ (omega arith) d (λ _. k) (λ x. absurd (omega arith)))
   next-by (suc s) true false v es ez ee h k = rw h (failed-over p r w′ o′ left right diag b (cap - b) (rw (← ee) at k))
