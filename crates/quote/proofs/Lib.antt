@@ -4,7 +4,6 @@ pub mod Mirrors
 pub mod Pairs
 pub mod Refusing
 pub mod Nearest
-pub mod Cases
 pub mod Replies
 pub mod Limits
 pub mod Sizes

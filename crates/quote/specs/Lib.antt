@@ -7,4 +7,3 @@ pub mod Quotes
 pub mod Inner
 pub mod Promises
 pub mod Replies
-pub mod Cases

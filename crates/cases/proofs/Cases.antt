@@ -8,11 +8,11 @@ use Rattle.vector.specs.Vectors.{from, everyFrom, fold, larger}
 use Rattle.vector.specs.Series.{diagonalAt, leftAt, rightAt}
 use Rattle.vector.specs.Run.{norm, needed, start, begin, runOn, fixed, runFor, run}
 use Rattle.vector.specs.Distances.{padded, vectorOf, place, distance, bidAt, askAt, fine, sides, exactAt, withVector, answerBy, entryIf, floatsOk, floatEntry}
 use Rattle.quote.specs.Configuration.{amountOk, timeOk, above0, toFloat, configLimits, configOk, configIf, newConfig}
 use Rattle.quote.specs.Model.{lots, holdingOk, marketOk, modelBy, modelFrom, modelOf, modelOk, tauOf, modelIf, modelLimits, newModel}
 use Rattle.quote.specs.Rounding.{rounded, billionths}
 use Rattle.quote.specs.Quotes.{side, halfUp, widening, bidPrice, askPrice, each, inOrder, judgeIf, judge, quotesBy, buildQuotes, exactFrom, exactIf, exactAnswer, closedFrom, closedAnswer, withSteps, exactBy, exactQuotes, wrapped, optimalQuotes, closedBy, closedFormQuotes}
-use Rattle.quote.specs.Cases.{ofConfig, ofModel, ofExact, ofOptimal, ofClosed, ofAnswer, ofFloats, reckonedFrom, ofTurn, reply, configurationCases, holdingCases, vectorCases, quoteCases, table, Cases}
+use Rattle.cases.specs.Cases.{ofConfig, ofModel, ofExact, ofOptimal, ofClosed, ofAnswer, ofFloats, reckonedFrom, ofTurn, reply, configurationCases, holdingCases, vectorCases, quoteCases, table, Cases}
 
 -- the definitions that a row is reckoned with, crate by crate
 pub cases : Cases
