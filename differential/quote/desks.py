@@ -323,12 +323,16 @@ SHARES = {
 }
 
 
+def drawn(desks):
+    """A desk of some kind, by the shares."""
+    return desks.rng.choices(list(SHARES), list(SHARES.values()))[0](desks)
+
+
 def main():
     seed, count, *most = map(int, sys.argv[1:])
     desks = Desks(seed, *most)
-    kinds, shares = list(SHARES), list(SHARES.values())
     for _ in range(count):
-        desk = desks.rng.choices(kinds, shares)[0](desks)
+        desk = drawn(desks)
         sys.stdout.buffer.write(quoting.pack(desk, desks.entry()))
     sys.stdout.buffer.write(quoting.pack(desks.plain(), EXACT)[: desks.whole(1, 95)])
 

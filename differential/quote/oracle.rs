@@ -153,26 +153,20 @@ fn note_of(answer: &Answer, rebalancings: u32, distances: Distances) -> String {
     note
 }
 
-fn main() {
-    let Asked { routed, mut notes, input } = asked();
-    let mut out = BufWriter::with_capacity(1 << 16, std::io::stdout());
-    for record in input.chunks(RECORD) {
-        STEPS.set(0);
-        REBALANCINGS.set(0);
-        let (line, note) = if record.len() < RECORD {
-            ("R 6".to_string(), "0 . . the record ends inside itself".to_string())
-        } else if let Some(desk) = Desk::new(record) {
-            let (answer, (steps, rebalancings), distances) =
-                if routed { ask!(routed, &desk) } else { ask!(platform, &desk) };
-            let line = line_of(&answer, desk.words[11] < 2, steps);
-            (line, note_of(&answer, rebalancings, distances))
-        } else {
-            ("R 2".to_string(), "0 . . the bound has no u32".to_string())
-        };
-        writeln!(out, "{line}").unwrap();
-        if let Some(notes) = &mut notes {
-            writeln!(notes, "{note}").unwrap();
-        }
+/// A record's line and note.
+fn answer(routed: bool, record: &[u8]) -> (String, String) {
+    if record.len() < RECORD {
+        return ("R 6".to_string(), "0 . . the record ends inside itself".to_string());
     }
-    out.flush().unwrap();
+    let Some(desk) = Desk::new(record) else {
+        return ("R 2".to_string(), "0 . . the bound has no u32".to_string());
+    };
+    let (answer, (steps, rebalancings), distances) =
+        if routed { ask!(routed, &desk) } else { ask!(platform, &desk) };
+    let line = line_of(&answer, desk.words[11] < 2, steps);
+    (line, note_of(&answer, rebalancings, distances))
+}
+
+fn main() {
+    answer_all(RECORD, answer);
 }

@@ -27,8 +27,7 @@ class Sheets:
 
     def desk(self):
         """A desk with no negative number but the holding, which a record cannot say."""
-        kinds, shares = list(desks.SHARES), list(desks.SHARES.values())
-        desk = self.rng.choices(kinds, shares)[0](self.desks)
+        desk = desks.drawn(self.desks)
         return sheet.Desk(*(x if name == "holding" else abs(x) for name, x in zip(desk._fields, desk)))
 
     # ---- damage

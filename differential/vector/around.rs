@@ -55,22 +55,27 @@ thread_local! {
     static REBALANCINGS: Cell<u32> = const { Cell::new(0) };
 }
 
-/// What an oracle is asked: which glft.rs, where its notes go, and the records.
-struct Asked {
-    routed: bool,
-    notes: Option<BufWriter<std::fs::File>>,
-    input: Vec<u8>,
-}
-
-fn asked() -> Asked {
+/// An oracle's run: `oracle routed|platform [NOTES]`. For each record of so many bytes, the last one
+/// perhaps cut short, `answer` gives its line and its note; it is told whether glft.rs is routed.
+fn answer_all(size: usize, answer: impl Fn(bool, &[u8]) -> (String, String)) {
     let arguments: Vec<String> = std::env::args().skip(1).collect();
     let routed = match arguments.first().map(String::as_str) {
         Some("routed") => true,
         Some("platform") => false,
         _ => panic!("oracle routed|platform [NOTES]"),
     };
-    let notes = arguments.get(1).map(|p| BufWriter::new(std::fs::File::create(p).unwrap()));
+    let mut notes = arguments.get(1).map(|p| BufWriter::new(std::fs::File::create(p).unwrap()));
     let mut input = Vec::new();
     std::io::stdin().read_to_end(&mut input).unwrap();
-    Asked { routed, notes, input }
+    let mut out = BufWriter::with_capacity(1 << 16, std::io::stdout());
+    for record in input.chunks(size) {
+        STEPS.set(0);
+        REBALANCINGS.set(0);
+        let (line, note) = answer(routed, record);
+        writeln!(out, "{line}").unwrap();
+        if let Some(notes) = &mut notes {
+            writeln!(notes, "{note}").unwrap();
+        }
+    }
+    out.flush().unwrap();
 }

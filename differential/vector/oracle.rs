@@ -89,29 +89,24 @@ fn line_of(answer: &Answer) -> String {
         }
         Answer::Refused { number, .. } => write!(line, "R {number}").unwrap(),
     }
-    line.push('\n');
     line
 }
 
+fn note_of(answer: &Answer) -> String {
+    let words = match answer {
+        Answer::Refused { words, .. } => words.as_str(),
+        Answer::Vector { .. } | Answer::OverCap { .. } => "",
+    };
+    format!("{} {} {words}", REBALANCINGS.get(), STEPS.get())
+}
+
 fn main() {
-    let Asked { routed, mut notes, input } = asked();
-    let mut out = BufWriter::with_capacity(1 << 16, std::io::stdout());
-    for record in input.chunks(RECORD) {
-        STEPS.set(0);
-        REBALANCINGS.set(0);
+    answer_all(RECORD, |routed, record| {
         let answer = if record.len() == RECORD {
             answer(routed, record)
         } else {
             refused(6, "the record ends inside itself")
         };
-        out.write_all(line_of(&answer).as_bytes()).unwrap();
-        if let Some(notes) = &mut notes {
-            let words = match &answer {
-                Answer::Refused { words, .. } => words.as_str(),
-                Answer::Vector { .. } | Answer::OverCap { .. } => "",
-            };
-            writeln!(notes, "{} {} {words}", REBALANCINGS.get(), STEPS.get()).unwrap();
-        }
-    }
-    out.flush().unwrap();
+        (line_of(&answer), note_of(&answer))
+    });
 }
