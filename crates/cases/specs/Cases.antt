@@ -103,7 +103,7 @@ with-spread x = case (units 100) (units 0) (units 1) (units 1) (units 1) (units 
 
 -- ---- questions and replies
 pub data Question : Type 0 where
-  -- the entries of this layer
+  -- the entries of the quote layer
   config model exact optimal closed : Case → Question
   -- the float entry, from a case: the value vector and the distances
   reckoning : Case → Question
