@@ -7,7 +7,9 @@ use Rattle.elementary.specs.Elementary.{horner, mantissa, exponent, odds, lnSum
 use Rattle.vector.specs.Vectors.{from, everyFrom, fold, larger}
 use Rattle.vector.specs.Series.{diagonalAt, leftAt, rightAt}
 use Rattle.vector.specs.Run.{norm, needed, start, begin, runOn, fixed, runFor, run}
-use Rattle.vector.specs.Distances.{padded, vectorOf, place, distance, bidAt, askAt, fine, sides, exactAt, withVector, answerBy, entryIf, floatsOk, floatEntry}
+use Rattle.vector.specs.Values.{padded, vectorOf}
+use Rattle.distances.specs.Distances.{place, distance, bidAt, askAt, fine, sides, exactAt}
+use Rattle.distances.specs.FloatEntry.{withVector, answerBy, entryIf, floatsOk, floatEntry}
 use Rattle.quote.specs.Configuration.{amountOk, timeOk, above0, toFloat, configLimits, configOk, configIf, newConfig}
 use Rattle.quote.specs.Model.{lots, holdingOk, marketOk, modelBy, modelFrom, modelOf, modelOk, tauOf, modelIf, modelLimits, newModel}
 use Rattle.quote.specs.Rounding.{rounded, billionths}

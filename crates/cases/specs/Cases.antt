@@ -9,13 +9,13 @@ use Rattle.elementary.specs.Elementary.{LN2}
 use Rattle.vector.specs.Refusals.{numerical}
 use Rattle.vector.specs.Vectors.{fill}
 use Rattle.vector.specs.Run.{Fixed, Turn, going, ended, vector, overCap, failed, cap, norm, begin, fixed}
-use Rattle.vector.specs.Distances.{floatEntry}
-use Rattle.vector.specs.declared.Distance.{Distance}
-use Rattle.vector.specs.declared.Distance.the-variants as Distance
+use Rattle.distances.specs.FloatEntry.{floatEntry}
+use Rattle.distances.specs.declared.Distance.{Distance}
+use Rattle.distances.specs.declared.Distance.the-variants as Distance
 use Rattle.vector.specs.declared.ValueVector.{ValueVector}
-use Rattle.vector.specs.declared.Answer.{Answer}
-use Rattle.vector.specs.declared.Answer.the-variants as Answer
-use Rattle.vector.specs.declared.FloatAnswer.{FloatAnswer}
+use Rattle.distances.specs.declared.Answer.{Answer}
+use Rattle.distances.specs.declared.Answer.the-variants as Answer
+use Rattle.distances.specs.declared.FloatAnswer.{FloatAnswer}
 use Rattle.quote.specs.Model.{newModel, tauOf}
 use Rattle.quote.specs.Configuration.{billion, newConfig}
 use Rattle.quote.specs.Quotes.{exactQuotes, optimalQuotes, closedFormQuotes}

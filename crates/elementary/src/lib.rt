@@ -10,6 +10,9 @@ ghost use mathlib.Core.Path.{_≡_};
 ghost use Rattle.elementary.specs.Float.{finite, positive};
 ghost use Rattle.elementary.specs.Elementary.{told, orNan, LN, LN1P, EXP, SQRT, CEIL};
 
+// The number of `Real::Refused`, which the layers above answer by.
+pub const OUTSIDE: u8 = 5;
+
 // The answer of an elementary function. `Refused` is refusal 5: the argument is outside its domain.
 pub enum Real {
     Value(f64),

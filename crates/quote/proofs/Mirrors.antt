@@ -13,12 +13,12 @@ use Rattle.elementary.specs.Float.{_⊕_, _⊖_, _⊗_, _⊘_, whole, 1ᶠ, 2�
 use Rattle.elementary.proofs.Signs.{mul-neg-left, div-neg-left, sub-neg}
 use Rattle.elementary.proofs.Exact.{twice-and-one, twice-less-one}
 use Rattle.vector.specs.Run.{cap, largestBound}
-use Rattle.vector.specs.Distances.{fine, sides}
-use Rattle.vector.specs.Promises.{Counted, exchanged}
-use Rattle.vector.specs.declared.Distance.{Distance}
-use Rattle.vector.specs.declared.Distance.the-variants.{At}
-use Rattle.vector.proofs.FloatMirror.{float-mirror}
-use Rattle.vector.proofs.Spent.{steps-counted}
+use Rattle.distances.specs.Distances.{fine, sides}
+use Rattle.distances.specs.Promises.{Counted, exchanged}
+use Rattle.distances.specs.declared.Distance.{Distance}
+use Rattle.distances.specs.declared.Distance.the-variants.{At}
+use Rattle.distances.proofs.FloatMirror.{float-mirror}
+use Rattle.distances.proofs.Counting.{steps-counted}
 use Rattle.quote.specs.Configuration.{amountOk, timeOk, configOk}
 use Rattle.quote.specs.Model.{lots, holdingOk, modelIf, modelLimits, newModel, tauOf}
 use Rattle.quote.specs.ClosedForm.{slope, formBid, formAsk, formIf, closedFormDistances}

@@ -4,10 +4,10 @@ use Prim.Native.Nat.{ℕ}
 use native.Mathlib.Omega.{arith}
 use mathlib.Core.Bool.{Bool, true, false}
 use lib.IntN.{ℤ, _+ℤ_, +ℤ-comm}
-use Rattle.vector.specs.Promises.{Counted, exchanged}
-use Rattle.vector.specs.declared.Distance.{Distance}
-use Rattle.vector.specs.declared.Answer.{Answer}
-use Rattle.vector.specs.declared.Answer.the-variants as Answer
+use Rattle.distances.specs.Promises.{Counted, exchanged}
+use Rattle.distances.specs.declared.Distance.{Distance}
+use Rattle.distances.specs.declared.Answer.{Answer}
+use Rattle.distances.specs.declared.Answer.the-variants as Answer
 use Rattle.quote.specs.Quotes.{side, widening, bidPrice, askPrice, Judged, quoted, refused, judgeIf, judge, quotesBy, buildQuotes, withSteps, exactBy, exactAnswer, exactQuotes, wrapped, optimalQuotes, ofJudged, closedBy, closedAnswer, closedFormQuotes, exactSteps}
 use Rattle.quote.specs.Promises.{Facing, Pair, ExactPairs, OptimalPairs, ClosedPairs}
 use Rattle.quote.specs.declared.Price.{Price}

@@ -16,7 +16,7 @@ use Rattle.elementary.proofs.Signs.{nonneg}
 use Rattle.elementary.proofs.Exact.{whole-value, div-one-f}
 use Rattle.elementary.proofs.Order.{round-nonneg, div-nonneg, div-number, div-anti, finite-below}
 use Rattle.vector.specs.Run.{largestBound, boundOk}
-use Rattle.vector.specs.Distances.{floatsOk}
+use Rattle.distances.specs.FloatEntry.{floatsOk}
 use Rattle.quote.specs.Configuration.{amountOk, timeLimit, timeOk, above0, configLimits, configOk}
 use Rattle.quote.specs.Model.{lots, holdingOk, modelIf, modelOk, modelLimits, tauOf}
 use Rattle.quote.specs.Promises.{Checked, by-2, by-1, by-3, by-4, by-5}

@@ -10,11 +10,12 @@ use lib.Ieee.{Float}
 use Rattle.elementary.specs.Float.{positive}
 use Rattle.vector.specs.Refusals.{numerical}
 use Rattle.vector.specs.Run.{Ended, vector, overCap, failed, run, boundOk}
-use Rattle.vector.specs.Distances.{sides, exactAt, refusedEntry, withVector, answerBy, entryIf, floatsOk, floatEntry}
+use Rattle.distances.specs.Distances.{sides, exactAt}
+use Rattle.distances.specs.FloatEntry.{refusedEntry, withVector, answerBy, entryIf, floatsOk, floatEntry}
 use Rattle.vector.specs.declared.ValueVector.{ValueVector}
-use Rattle.vector.specs.declared.Distance.{Distance}
-use Rattle.vector.specs.declared.Answer.{Answer}
-use Rattle.vector.specs.declared.Answer.the-variants as Answer
+use Rattle.distances.specs.declared.Distance.{Distance}
+use Rattle.distances.specs.declared.Answer.{Answer}
+use Rattle.distances.specs.declared.Answer.the-variants as Answer
 use Rattle.quote.specs.Refusals.{capped}
 use Rattle.quote.specs.Configuration.{timeOk, configOk}
 use Rattle.quote.specs.Model.{lots, marketOk, holdingOk, modelOk, modelOf, modelFrom, modelBy, modelIf, modelLimits, newModel, tauOf}

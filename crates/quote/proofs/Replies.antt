@@ -10,12 +10,13 @@ use lib.Dec.{T, leb}
 use lib.Ieee.{Float, nan, inf, fin, lt, isNan}
 use Rattle.elementary.specs.Float.{whole}
 use Rattle.vector.specs.Run.{Ended, vector, overCap, failed, cap, boundOk, run}
-use Rattle.vector.specs.Distances.{sides, exactAt, refusedEntry, withVector, answerBy, entryIf, floatsOk, floatEntry}
-use Rattle.vector.specs.Promises.{Counted}
+use Rattle.distances.specs.Distances.{sides, exactAt}
+use Rattle.distances.specs.FloatEntry.{refusedEntry, withVector, answerBy, entryIf, floatsOk, floatEntry}
+use Rattle.distances.specs.Promises.{Counted}
 use Rattle.vector.specs.declared.ValueVector.{ValueVector}
-use Rattle.vector.specs.declared.Distance.{Distance}
-use Rattle.vector.specs.declared.Answer.{Answer}
-use Rattle.vector.specs.declared.Answer.the-variants as Answer
+use Rattle.distances.specs.declared.Distance.{Distance}
+use Rattle.distances.specs.declared.Answer.{Answer}
+use Rattle.distances.specs.declared.Answer.the-variants as Answer
 use Rattle.vector.proofs.Spent.{cap-needs-plan}
 use Rattle.quote.specs.Refusals.{crossed}
 use Rattle.quote.specs.Configuration.{amountLimit, amountOk, above0, timeOk}

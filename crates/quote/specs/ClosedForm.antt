@@ -6,11 +6,11 @@ use lib.Ieee.{Float}
 use Rattle.elementary.specs.Float.{_⊕_, _⊖_, _⊗_, _⊘_, whole, 1ᶠ, 2ᶠ, positive}
 use Rattle.elementary.specs.Elementary.{LN1P, EXP, SQRT, orNan}
 use Rattle.vector.specs.Refusals.{numerical}
-use Rattle.vector.specs.Distances.{fine, sides}
-use Rattle.vector.specs.declared.Distance.{Distance}
-use Rattle.vector.specs.declared.Distance.the-variants.{At, Absent}
-use Rattle.vector.specs.declared.Answer.{Answer}
-use Rattle.vector.specs.declared.Answer.the-variants as Answer
+use Rattle.distances.specs.Distances.{fine, sides}
+use Rattle.distances.specs.declared.Distance.{Distance}
+use Rattle.distances.specs.declared.Distance.the-variants.{At, Absent}
+use Rattle.distances.specs.declared.Sides.{Sides}
+use Rattle.distances.specs.declared.Sides.the-variants as Sides
 use Rattle.quote.specs.declared.Model.{Model}
 
 -- the slope c; a NaN where an elementary function refuses
@@ -30,12 +30,12 @@ formAsk false base c q = Absent
 formAsk true base c q = At (base ⊖ (2ᶠ ⊗ q ⊖ 1ᶠ) ⊘ 2ᶠ ⊗ c)
 
 -- is the slope finite and positive, or 11
-unfoldable pub formIf : Bool → Float → Model → ℤ → Answer
-formIf false c m q = Answer.Refused numerical
+unfoldable pub formIf : Bool → Float → Model → ℤ → Sides
+formIf false c m q = Sides.Refused numerical
 formIf true c m q =
     let b = formBid (ltZ q (pos (m .«q_max»))) (m .base) c (whole q) in
     let a = formAsk (ltZ (negℤ (pos (m .«q_max»))) q) (m .base) c (whole q) in
-    sides (fine b && fine a) b a 0
+    sides (fine b && fine a) b a
 
-unfoldable pub closedFormDistances : Model → ℤ → Answer
+unfoldable pub closedFormDistances : Model → ℤ → Sides
 closedFormDistances m q = formIf (positive (slope m)) (slope m) m q

@@ -7,8 +7,9 @@ use lib.Dec.{eqb}
 use lib.Ieee.{Float, neg}
 use Rattle.elementary.specs.Float.{_⊕_, _⊗_, _⊘_, whole, 1ᶠ, 2ᶠ, positive}
 use Rattle.elementary.specs.Elementary.{LN1P, EXP, outside, orNan}
-use Rattle.vector.specs.Refusals.{configuration, holding}
-use Rattle.vector.specs.Run.{within}
+use Rattle.vector.specs.Refusals.{configuration}
+use Rattle.distances.specs.Refusals.{holding}
+use Rattle.distances.specs.Distances.{within}
 use Rattle.quote.specs.Refusals.{limits, market}
 use Rattle.quote.specs.Configuration.{amountOk, above0, toFloat, configLimits, configOk}
 use Rattle.quote.specs.declared.GLFTConfig.{GLFTConfig}

@@ -6,12 +6,13 @@ use mathlib.Core.Logic.{_⊎_, _↔_}
 use lib.IntN.{ℤ, negℤ, _+ℤ_}
 use lib.Ieee.{Float}
 use Rattle.elementary.specs.Elementary.{outside}
-use Rattle.vector.specs.Refusals.{configuration, holding, numerical}
+use Rattle.vector.specs.Refusals.{configuration, numerical}
+use Rattle.distances.specs.Refusals.{holding}
 use Rattle.vector.specs.Run.{cap}
-use Rattle.vector.specs.Promises.{exchanged}
-use Rattle.vector.specs.declared.Distance.{Distance}
-use Rattle.vector.specs.declared.Answer.{Answer}
-use Rattle.vector.specs.declared.Answer.the-variants as Answer
+use Rattle.distances.specs.Promises.{exchanged}
+use Rattle.distances.specs.declared.Distance.{Distance}
+use Rattle.distances.specs.declared.Answer.{Answer}
+use Rattle.distances.specs.declared.Answer.the-variants as Answer
 use Rattle.quote.specs.Refusals.{limits, market, capped, beyond, crossed}
 use Rattle.quote.specs.Configuration.{amountOk, above0, timeOk, configOk}
 use Rattle.quote.specs.Model.{modelLimits, marketOk, holdingOk, modelOk, modelOf}

@@ -4,11 +4,13 @@ use mathlib.Core.Bool.{Bool, true, false, _&&_}
 use lib.IntN.{ℤ, pos, negsuc, _+ℤ_, _-ℤ_}
 use lib.Signed.{ltZ}
 use lib.Ieee.{Float}
-use Rattle.vector.specs.Distances.{floatEntry, floatSteps}
-use Rattle.vector.specs.declared.Distance.{Distance}
-use Rattle.vector.specs.declared.Distance.the-variants as Distance
-use Rattle.vector.specs.declared.Answer.{Answer}
-use Rattle.vector.specs.declared.Answer.the-variants as Answer
+use Rattle.distances.specs.FloatEntry.{floatEntry, floatSteps}
+use Rattle.distances.specs.declared.Distance.{Distance}
+use Rattle.distances.specs.declared.Distance.the-variants as Distance
+use Rattle.distances.specs.declared.Sides.{Sides}
+use Rattle.distances.specs.declared.Sides.the-variants as Sides
+use Rattle.distances.specs.declared.Answer.{Answer}
+use Rattle.distances.specs.declared.Answer.the-variants as Answer
 use Rattle.quote.specs.Refusals.{limits, capped, beyond, crossed}
 use Rattle.quote.specs.Configuration.{amountOk, above0, timeOk}
 use Rattle.quote.specs.Model.{newModel, tauOf}
@@ -96,11 +98,11 @@ exactIf true mid h c vol t = exactFrom (newModel mid h c vol) (tauOf (c .«termi
 unfoldable pub exactAnswer : ℤ → ℤ → GLFTConfig → ℤ → ℕ → Answer
 exactAnswer mid h c vol t = exactIf (timeOk t) mid h c vol t
 
-unfoldable pub closedFrom : ModelAnswer → Answer
-closedFrom (ModelAnswer.Refused r) = Answer.Refused r
+unfoldable pub closedFrom : ModelAnswer → Sides
+closedFrom (ModelAnswer.Refused r) = Sides.Refused r
 closedFrom (ModelAnswer.Model m q) = closedFormDistances m q
 
-unfoldable pub closedAnswer : ℤ → ℤ → GLFTConfig → ℤ → Answer
+unfoldable pub closedAnswer : ℤ → ℤ → GLFTConfig → ℤ → Sides
 closedAnswer mid h c vol = closedFrom (newModel mid h c vol)
 
 -- ---- the entries
@@ -129,10 +131,9 @@ unfoldable pub ofJudged : Judged → ClosedFormQuotes
 ofJudged (quoted q) = ClosedFormQuotes.Quotes q
 ofJudged (refused r) = ClosedFormQuotes.Refused r
 
-unfoldable pub closedBy : ℤ → ℤ → Answer → ClosedFormQuotes
-closedBy mid least (Answer.Distances b a s) = ofJudged (buildQuotes mid least b a)
-closedBy mid least (Answer.OverCap need b s) = ClosedFormQuotes.Refused capped
-closedBy mid least (Answer.Refused r) = ClosedFormQuotes.Refused r
+unfoldable pub closedBy : ℤ → ℤ → Sides → ClosedFormQuotes
+closedBy mid least (Sides.Distances b a) = ofJudged (buildQuotes mid least b a)
+closedBy mid least (Sides.Refused r) = ClosedFormQuotes.Refused r
 
 unfoldable pub closedFormQuotes : ℤ → ℤ → GLFTConfig → ℤ → ClosedFormQuotes
 closedFormQuotes mid h c vol = closedBy mid (c .«min_spread») (closedAnswer mid h c vol)

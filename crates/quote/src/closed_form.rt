@@ -2,8 +2,8 @@
 ghost use mathlib.Core.Path.{_≡_};
 ghost use Rattle.quote.specs.ClosedForm.{slope, formBid, formAsk, closedFormDistances};
 use crate::Model;
-use vector::Answer;
-use vector::Distance;
+use distances::Distance;
+use distances::Sides;
 
 // The slope c, or a NaN.
 fn slope_of(m: Model) -> f64
@@ -33,7 +33,7 @@ fn ask_of(allowed: bool, base: f64, c: f64, q: f64) -> Distance
 }
 
 // The two distances at q lots: refused by 11.
-pub(crate) fn distances(m: Model, q: i64) -> Answer
+pub(crate) fn distances(m: Model, q: i64) -> Sides
     ensures { λ r. ⌜ r ≡ closedFormDistances m q ⌝ }
 {
     let c = slope_of(m);
@@ -42,9 +42,9 @@ pub(crate) fn distances(m: Model, q: i64) -> Answer
         let qf = std::num::nearest_i64_to_f64(q);
         let bid = bid_of(q < bound, m.base, c, qf);
         let ask = ask_of(0 - bound < q, m.base, c, qf);
-        if vector::is_fine(bid) & vector::is_fine(ask) {
-            return Answer::Distances(bid, ask, 0);
+        if distances::is_fine(bid) & distances::is_fine(ask) {
+            return Sides::Distances(bid, ask);
         }
     }
-    Answer::Refused(11)
+    Sides::Refused(11)
 }

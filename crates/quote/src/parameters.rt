@@ -47,7 +47,7 @@ fn holding_fits(inventory: i64, config: GLFTConfig) -> bool
     ensures { λ r. ⌜ r ≡ holdingOk inventory config ⌝ }
 {
     let q = lots_of(inventory, config);
-    (inventory % config.lot_size == 0) & vector::within(q, config.max_inventory_lots)
+    (inventory % config.lot_size == 0) & distances::within(q, config.max_inventory_lots)
 }
 
 // The model from its four given floats.

@@ -3,7 +3,7 @@ ghost use mathlib.Core.Path.{_≡_};
 ghost use Prim.Native.Nat.{_*_, _≤_};
 ghost use lib.IntN.{natAbs};
 ghost use lib.Dec.{T};
-ghost use Rattle.vector.specs.Distances.{floatEntry};
+ghost use Rattle.distances.specs.FloatEntry.{floatEntry};
 ghost use Rattle.quote.specs.Configuration.{amountLimit, amountOk};
 ghost use Rattle.quote.specs.Quotes.{side, halfUp, quotesBy, buildQuotes, exactBy, closedBy};
 ghost use Rattle.quote.specs.Inner.{sideOf, sideOk, builtOf, builtWith, stepsWith};
@@ -15,8 +15,9 @@ use crate::Price;
 use crate::amounts::amount_fits;
 use crate::amounts::is_positive;
 use crate::rounding::Rounded;
-use vector::Answer;
-use vector::Distance;
+use distances::Answer;
+use distances::Distance;
+use distances::Sides;
 
 // Quotes, or a refusal by 13 or 14.
 pub(crate) enum Built {
@@ -165,7 +166,7 @@ pub(crate) fn exact_of(mid: i64, least: i64, m: Model, q: i64, tau: f64) -> Exac
     requires { ⌜ T (amountOk mid) × T (amountOk least) ⌝ }
     ensures { λ r. ⌜ r ≡ exactBy mid least (floatEntry (m .k) (m .alpha) (m .eta) (m .base) (m .«q_max») tau q .answer) ⌝ }
 {
-    let r = vector::float_entry(m.k, m.alpha, m.eta, m.base, m.q_max, tau, q);
+    let r = distances::float_entry(m.k, m.alpha, m.eta, m.base, m.q_max, tau, q);
     let answer = r.answer;
     match answer {
         Answer::Distances(bid, ask, steps) => with_steps(build_quotes(mid, least, bid, ask), steps),
@@ -174,19 +175,18 @@ pub(crate) fn exact_of(mid: i64, least: i64, m: Model, q: i64, tau: f64) -> Exac
     }
 }
 
-// The quotes of the closed form's answer.
-pub(crate) fn closed_of(mid: i64, least: i64, answer: Answer) -> ClosedFormQuotes
+// The quotes of the closed form's distances.
+pub(crate) fn closed_of(mid: i64, least: i64, sides: Sides) -> ClosedFormQuotes
     requires { ⌜ T (amountOk mid) × T (amountOk least) ⌝ }
-    ensures { λ r. ⌜ r ≡ closedBy mid least answer ⌝ }
+    ensures { λ r. ⌜ r ≡ closedBy mid least sides ⌝ }
 {
-    match answer {
-        Answer::Distances(bid, ask, _) => {
+    match sides {
+        Sides::Distances(bid, ask) => {
             match build_quotes(mid, least, bid, ask) {
                 Built::Quotes(q) => ClosedFormQuotes::Quotes(q),
                 Built::Refused(number) => ClosedFormQuotes::Refused(number),
             }
         }
-        Answer::OverCap(_, _, _) => ClosedFormQuotes::Refused(12),
-        Answer::Refused(number) => ClosedFormQuotes::Refused(number),
+        Sides::Refused(number) => ClosedFormQuotes::Refused(number),
     }
 }

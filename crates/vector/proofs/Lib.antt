@@ -4,10 +4,9 @@ pub mod Terms
 pub mod Plans
 pub mod Room
 pub mod RunLaws
-pub mod Holdings
+pub mod Bounds
 pub mod Extremes
 pub mod Mirror
-pub mod FloatMirror
+pub mod OwnMirror
 pub mod Turns
 pub mod Spent
-pub mod AtEnd

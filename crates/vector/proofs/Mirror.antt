@@ -240,7 +240,7 @@ module _ (n : ℕ) (d d′ : List Float) (D : Mirror n d d′) (eta : Float) whe
   ends false tau = vectors (fill-facing n 1ᶠ) (fill-facing n 0ᶠ)
   ends true tau = runs cap (begins cap (fill n 1ᶠ) (fill n 1ᶠ) (fill n 0ᶠ) (fill n 0ᶠ) tau (fill-facing n 1ᶠ) (fill-facing n 0ᶠ))
 
-mirror-end : (n : ℕ) {e e′ : Ended} → Ends n e e′ → MirrorEnd n e e′
+pub mirror-end : (n : ℕ) {e e′ : Ended} → Ends n e e′ → MirrorEnd n e e′
 unfolding MirrorEnd
 mirror-end n (vectors W O) = (W .same, O .same, refl)
 mirror-end n reports = (refl, refl)

@@ -8,7 +8,7 @@ use lib.Seq.{take-at, drop-at}
 use lib.Ieee.{Float}
 use Rattle.elementary.specs.Float.{0ᶠ}
 use Rattle.vector.specs.Vectors.{tab, fill}
-use Rattle.vector.specs.Distances.{room, padded}
+use Rattle.vector.specs.Values.{room, padded}
 use Rattle.vector.proofs.Lists.{length-tab}
 
 module _ (n : ℕ) (a l : List Float) (e : a ≡ padded n l) (k : length l ≡ n) where

@@ -14,7 +14,7 @@ use Rattle.elementary.specs.Elementary.{LN, orNan}
 use Rattle.vector.specs.Vectors.{tab, at, fill, every, fold, larger, smaller}
 use Rattle.vector.specs.Series.{diagonalAt, leftAt, rightAt, taylorStep}
 use Rattle.vector.specs.Run.{Ended, vector, overCap, failed, Fixed, Going, Turn, going, ended, cap, rows, start, begin, divided, rebalances, rebalance, next, stepped, stepOperator, turn, runOn, fixed, runFor, run}
-use Rattle.vector.specs.Distances.{padded, vectorOf, vectorBy}
+use Rattle.vector.specs.Values.{padded, vectorOf, vectorBy}
 use Rattle.vector.specs.Inner.{operatorOver, fixedOver, goingOver, StepIs, planBy, planOf, pacedOf, askedOf, stoppedOf, endBy, AfterBy, AfterIs, Standing, weightBy, weight, BegunIs, EndIs, outcomeWith}
 use Rattle.vector.specs.declared.Outcome.{Outcome}
 use Rattle.vector.specs.declared.Outcome.the-variants as Outcome

@@ -1,19 +1,14 @@
--- A run spends at most the cap, a cap report is of more steps than the budget left, and a reply carries the steps of its run. Assumes nothing.
-use mathlib.Core.Path.{refl, subst}
+-- A run spends at most the cap, and a cap report is of more steps than the budget left. Assumes nothing.
+use mathlib.Core.Path.{subst}
 use Prim.Native.Nat.{ℕ, zero, suc, _≤_}
 use native.Mathlib.Nat.{le-refl, le-trans}
 use native.Mathlib.Omega.{arith}
 use mathlib.Core.Bool.{Bool, true, false}
 use mathlib.Core.List.{List}
-use lib.IntN.{ℤ, natAbs}
-use lib.Dec.{leb}
 use lib.Ieee.{Float, lt}
 use Rattle.elementary.specs.Float.{0ᶠ}
-use Rattle.vector.specs.Run.{Ended, vector, overCap, failed, Fixed, Turn, going, ended, cap, boundOk, turn, runOn, fixed, runFor, run, spent}
-use Rattle.vector.specs.Distances.{sides, exactAt, refusedEntry, withVector, answerBy, entryIf, floatsOk, floatEntry, stepsIf, floatSteps}
-use Rattle.vector.specs.Promises.{StepsWithin, Counted, StepsCounted, CapNeedsPlan, SumOf}
-use Rattle.vector.specs.declared.ValueVector.{ValueVector}
-use Rattle.vector.specs.declared.Distance.{Distance}
+use Rattle.vector.specs.Run.{Ended, vector, overCap, failed, Fixed, Turn, going, ended, cap, turn, runOn, fixed, runFor, run, spent}
+use Rattle.vector.specs.Promises.{StepsWithin, BudgetWithin, CapNeedsPlan, SumOf}
 use Rattle.vector.proofs.Turns.{EndOk, TurnOk, begin-ok, turn-ok}
 
 -- ---- the run, of whatever weights
@@ -52,24 +47,5 @@ steps-within bound alpha eta tau = spent-within (run bound alpha eta tau) (run-o
 pub cap-needs-plan : CapNeedsPlan
 cap-needs-plan bound alpha eta tau need b e = subst (EndOk cap Any) e (run-ok bound alpha eta tau) .1
 
--- ---- the reply
-sides-counted : (c : Bool) (v : ValueVector) (b a : Distance) (s : ℕ) → Counted (withVector v (sides c b a s) .answer) s
-unfolding Counted withVector sides refusedEntry
-sides-counted true v b a s = refl
-sides-counted false v b a s = tt
-
-counted : (bound : ℕ) (k base : Float) (q : ℤ) (r : Ended) → EndOk cap Any r → Counted (answerBy bound k base q r .answer) (spent r)
-unfolding Counted answerBy withVector refusedEntry exactAt spent
-counted bound k base q (vector w o s) e = sides-counted _ _ _ _ s
-counted bound k base q (overCap need b) e = (refl, omega arith)
-counted bound k base q (failed s) e = tt
-
-pub steps-counted : StepsCounted
-unfolding Counted floatEntry entryIf refusedEntry floatSteps stepsIf
-steps-counted k alpha eta base bound tau q = go (floatsOk k alpha eta base tau) (boundOk bound) (leb (natAbs q) bound)
-  where
-    go : (f b h : Bool) → Counted (entryIf f b h k alpha eta base bound tau q .answer) (stepsIf f b h alpha eta bound tau) × (stepsIf f b h alpha eta bound tau ≤ cap)
-    go false b h = (tt, omega arith)
-    go true false h = (tt, omega arith)
-    go true true false = (tt, omega arith)
-    go true true true = (counted bound k base q (run bound alpha eta tau) (run-ok bound alpha eta tau), steps-within bound alpha eta tau)
+pub budget-within : BudgetWithin
+budget-within bound alpha eta tau need b e = subst (EndOk cap Any) e (run-ok bound alpha eta tau) .0

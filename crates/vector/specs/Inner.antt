@@ -13,7 +13,7 @@ use Rattle.vector.specs.Refusals.{numerical}
 use Rattle.vector.specs.Vectors.{tab, at, fill, every, fold, smaller}
 use Rattle.vector.specs.Series.{Operator, plus, bothFinite, converged}
 use Rattle.vector.specs.Run.{Ended, vector, overCap, failed, Fixed, Going, going, cap, norm, needed, begin, rebalances, runOn}
-use Rattle.vector.specs.Distances.{blankVector, refusedVector}
+use Rattle.vector.specs.Values.{blankVector, refusedVector}
 use Rattle.vector.specs.declared.ValueVector.{ValueVector}
 use Rattle.vector.specs.declared.VectorAnswer.{VectorAnswer}
 use Rattle.vector.specs.declared.Outcome.{Outcome}

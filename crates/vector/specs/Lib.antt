@@ -2,6 +2,6 @@ pub mod Refusals
 pub mod Vectors
 pub mod Series
 pub mod Run
-pub mod Distances
+pub mod Values
 pub mod Inner
 pub mod Promises

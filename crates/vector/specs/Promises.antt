@@ -1,36 +1,30 @@
--- What holds of every run and of every reply of the float entry, as named statements. Each is proved once, in proofs/. Definitions only.
+-- What holds of every run, as named statements. Each is proved once, in proofs/. Definitions only.
 use mathlib.Core.Path.{_≡_}
-use Prim.Native.Nat.{ℕ, suc, _+_, _-_, _≤_}
-use mathlib.Core.Bool.{Bool, true, false}
+use Prim.Native.Nat.{ℕ, suc, _+_, _≤_}
+use mathlib.Core.Bool.{Bool}
 use mathlib.Core.List.{List}
-use lib.IntN.{ℤ, pos, negℤ, natAbs}
-use lib.Dec.{T, ltb}
-use lib.Ieee.{Float, binary64, lt, fits}
-use Rattle.elementary.specs.Float.{_⊕_, _⊗_, whole, 0ᶠ, 1ᶠ}
+use lib.IntN.{pos}
+use lib.Dec.{T}
+use lib.ListN.{length}
+use lib.Ieee.{Float, lt}
+use Rattle.elementary.specs.Float.{_⊕_, _⊗_, whole, 1ᶠ}
 use Rattle.elementary.specs.Reply.{value}
 use Rattle.elementary.specs.Elementary.{LN, orNan}
 use Rattle.vector.specs.Vectors.{at, tab, fill}
 use Rattle.vector.specs.Series.{taylorStep}
-use Rattle.vector.specs.Run.{Ended, vector, overCap, failed, Fixed, Going, going, ended, cap, boundOk, rows, run, runFor, turn, stepOperator, divided, spent}
-use Rattle.vector.specs.Distances.{place, vectorOf, floatsOk, floatEntry, floatSteps}
-use Rattle.vector.specs.declared.Distance.{Distance}
-use Rattle.vector.specs.declared.Distance.the-variants.{At, Absent}
-use Rattle.vector.specs.declared.Answer.{Answer}
-use Rattle.vector.specs.declared.Answer.the-variants.{Distances, OverCap, Refused}
+use Rattle.vector.specs.Run.{Ended, vector, overCap, failed, Fixed, Going, going, ended, cap, rows, run, runFor, turn, stepOperator, divided, spent}
 
--- ---- the steps: never more than 11,000, and in a cap report 11,000 less the budget left
+-- ---- the steps: never more than 11,000
 abbrev pub StepsWithin : Type 0
 StepsWithin = (bound : ℕ) (alpha eta tau : Float) → spent (run bound alpha eta tau) ≤ cap
 
--- the steps that a reply carries are those of the defined run
-unfoldable pub Counted : Answer → ℕ → Type 0
-Counted (Distances b a s) n = s ≡ n
-Counted (OverCap need b s) n = (s ≡ n) × (s + b ≡ cap)
-Counted (Refused r) n = Unit {0}
+-- a report leaves no more than the whole budget
+abbrev pub BudgetWithin : Type 0
+BudgetWithin = (bound : ℕ) (alpha eta tau need : Float) (b : ℕ) → run bound alpha eta tau ≡ overCap need b → b ≤ cap
 
-abbrev pub StepsCounted : Type 0
-StepsCounted = (k alpha eta base : Float) (bound : ℕ) (tau : Float) (q : ℤ)
-    → Counted (floatEntry k alpha eta base bound tau q .answer) (floatSteps k alpha eta base bound tau q) × (floatSteps k alpha eta base bound tau q ≤ cap)
+-- ---- a finished run has a weight and an offset for each row
+abbrev pub FullLength : Type 0
+FullLength = (bound : ℕ) (alpha eta tau : Float) (w o : List Float) (s : ℕ) → run bound alpha eta tau ≡ vector w o s → (length w ≡ rows bound) × (length o ≡ rows bound)
 
 -- ---- a cap report needs a plan above the budget
 abbrev pub CapNeedsPlan : Type 0
@@ -48,20 +42,6 @@ SumOf p g w′ o′ = (v : List Float) × (taylorStep (stepOperator p g) (p .eta
 abbrev pub OwnSum : Type 0
 OwnSum = (p : Fixed) (b : ℕ) (g : Going)
     → ((g′ : Going) → turn p b g ≡ going g′ → SumOf p g (g′ .w) (g′ .o)) × ((w o : List Float) (s : ℕ) → turn p b g ≡ ended (vector w o s) → SumOf p g w o)
-
--- ---- at or past the end: weights of 1.0, offsets of 0.0, no step, and each present distance is the base
-unfoldable pub baseBid : Bool → Float → Distance
-baseBid true base = At base
-baseBid false base = Absent
-
-abbrev pub AtTheEnd : Type 0
-AtTheEnd = (k alpha eta base : Float) (bound : ℕ) (tau : Float) (q : ℤ) → T (fits binary64 base)
-    → floatsOk k alpha eta base tau ≡ true → boundOk bound ≡ true → natAbs q ≤ bound → lt 0ᶠ tau ≡ false
-    → floatEntry k alpha eta base bound tau q
-    ≡ record {
-      answer = Distances (baseBid (ltb (suc (place bound q)) (rows bound)) base) (baseBid (ltb 0 (place bound q)) base) 0;
-      vector = vectorOf (rows bound) (fill (rows bound) 1ᶠ) (fill (rows bound) 0ᶠ);
-    }
 
 -- ---- the mirror: i and j are opposite places among n
 unfoldable pub Mirror : ℕ → List Float → List Float → Type 0
@@ -83,14 +63,6 @@ abbrev pub MirrorRuns : Type 0
 MirrorRuns = (n : ℕ) (d d′ : List Float) (eta : Float) → Mirror n d d′ → (later : Bool) (tau : Float)
     → MirrorEnd n (runFor later (record { n = n; diagonal = d; eta = eta }) tau) (runFor later (record { n = n; diagonal = d′; eta = eta }) tau)
 
--- the float entry at minus q is that at q with the sides exchanged, bit for bit, reports and refusals equal
-unfoldable pub exchanged : Answer → Answer
-exchanged (Distances b a s) = Distances a b s
-exchanged (OverCap need b s) = OverCap need b s
-exchanged (Refused r) = Refused r
-
-abbrev pub FloatMirror : Type 0
-FloatMirror = (k alpha eta base : Float) (bound : ℕ) (tau : Float) (q : ℤ)
-    → (floatEntry k alpha eta base bound tau (negℤ q) .answer ≡ exchanged (floatEntry k alpha eta base bound tau q .answer))
-    × (floatEntry k alpha eta base bound tau (negℤ q) .vector ≡ floatEntry k alpha eta base bound tau q .vector)
-    × (floatSteps k alpha eta base bound tau (negℤ q) ≡ floatSteps k alpha eta base bound tau q)
+-- the diagonal at q lots is that at minus q, so every run is its own mirror image
+abbrev pub OwnMirror : Type 0
+OwnMirror = (bound : ℕ) (alpha eta tau : Float) → MirrorEnd (rows bound) (run bound alpha eta tau) (run bound alpha eta tau)

@@ -5,10 +5,6 @@ use Prim.Native.Nat.{ℕ}
 abbrev pub configuration : ℕ
 configuration = 1
 
--- more lots than the bound in magnitude
-abbrev pub holding : ℕ
-holding = 4
-
--- the reckoning left the floats: a norm, term, sum, weight, factor or distance that does not do
+-- the reckoning left the floats: a norm, term, sum, weight, or factor that does not do
 abbrev pub numerical : ℕ
 numerical = 11

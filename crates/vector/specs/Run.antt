@@ -2,7 +2,7 @@
 use Prim.Native.Nat.{ℕ, zero, suc, _+_, _-_, _*_}
 use mathlib.Core.Bool.{Bool, true, false, _&&_}
 use mathlib.Core.List.{List}
-use lib.IntN.{ℤ, pos, natAbs}
+use lib.IntN.{pos}
 use lib.Dec.{ltb, leb}
 use lib.Ieee.{Float, inf, lt, le, toUnsigned}
 use Rattle.elementary.specs.Float.{_⊕_, _⊖_, _⊗_, _⊘_, hex, whole, 0ᶠ, 1ᶠ, 2ᶠ, finite, positive}
@@ -23,10 +23,6 @@ boundOk b = leb 1 b && leb b largestBound
 
 abbrev pub rows : ℕ → ℕ
 rows bound = 2 * bound + 1
-
--- q lots are no more than the bound in magnitude
-abbrev pub within : ℕ → ℤ → Bool
-within bound q = leb (natAbs q) bound
 
 -- The end of a run: weights, offsets and the steps spent; or the steps needed and the budget left; or refusal 11 after so many finished steps.
 pub data Ended : Type 0 where

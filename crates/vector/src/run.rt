@@ -10,14 +10,16 @@ ghost use Rattle.elementary.specs.Float.{_⊕_, _⊗_, _⊘_, 0ᶠ, 1ᶠ, finit
 ghost use Rattle.elementary.specs.Elementary.{LN, orNan};
 ghost use Rattle.vector.specs.Vectors.{tab, at, fill, every, fold, larger, smaller};
 ghost use Rattle.vector.specs.Run.{boundOk, rows, cap, run, runOn, begin, divided};
-ghost use Rattle.vector.specs.Distances.{padded, blankVector, refusedVector, vectorBy};
+ghost use Rattle.vector.specs.Values.{padded, blankVector, refusedVector, vectorBy};
 ghost use Rattle.vector.specs.Inner.{fixedOver, outcomeWith, pacedOf, askedOf, stoppedOf, refusedPace, endBy, Sizes, AfterIs, BegunIs, PlanSpent, EndIs};
+use crate::MAX_BOUND;
+use crate::MAX_ROWS;
+use crate::MAX_STEPS;
 use crate::Outcome;
 use crate::ValueVector;
 use crate::VectorAnswer;
 use crate::plan::Planned;
-
-const MAX_EXPM_STEPS: u32 = 11000;
+use crate::refusals::NUMERICAL;
 
 // Where a run stands: the steps planned, the budget left, the time left and the time of a step;
 // whether it asks for a plan; and how it ends where no steps are planned.
@@ -41,7 +43,7 @@ fn paced(steps: u32, budget: u32, remaining: f64, dt: f64) -> Pace
         remaining,
         dt,
         ask: false,
-        stop: Outcome::Done(MAX_EXPM_STEPS - budget),
+        stop: Outcome::Done(MAX_STEPS - budget),
     }
 }
 
@@ -55,7 +57,7 @@ fn asking(budget: u32, remaining: f64) -> Pace
         remaining,
         dt: 0.0,
         ask: true,
-        stop: Outcome::Refused(11),
+        stop: Outcome::Refused(NUMERICAL),
     }
 }
 
@@ -76,7 +78,7 @@ fn stopped(stop: Outcome) -> Pace
 fn refused() -> Pace
     ensures { λ r. ⌜ r ≡ refusedPace ⌝ }
 {
-    stopped(Outcome::Refused(11))
+    stopped(Outcome::Refused(NUMERICAL))
 }
 
 // A plan that needs more steps than the budget has left.
@@ -84,7 +86,7 @@ fn over_cap(need: f64, budget: u32) -> Pace
     requires { ⌜ budget ≤ cap ⌝ }
     ensures { λ r. ⌜ r ≡ stoppedOf (Outcome.OverCap need budget (cap - budget)) ⌝ }
 {
-    stopped(Outcome::OverCap(need, budget, MAX_EXPM_STEPS - budget))
+    stopped(Outcome::OverCap(need, budget, MAX_STEPS - budget))
 }
 
 // How a run ends: with steps planned, its budget is spent.
@@ -94,7 +96,7 @@ fn end_of(pace: Pace) -> Outcome
     let steps = pace.steps;
     let stop = pace.stop;
     if 0 < steps {
-        return Outcome::Refused(11);
+        return Outcome::Refused(NUMERICAL);
     }
     stop
 }
@@ -247,7 +249,7 @@ fn run_plans(
         (begin (fixedOver (length (now (w .entry))) (now («diag_s» .entry)) eta) cap (fill (length (now (w .entry))) 1ᶠ) (now (o .entry)) tau))
         r (now (w .exit)) (now (o .exit)) ⌝ }
 {
-    let mut pace = asking(MAX_EXPM_STEPS, tau);
+    let mut pace = asking(MAX_STEPS, tau);
     while pace.ask {
         let first = start(
             o,
@@ -270,11 +272,11 @@ fn run_later(w: &mut [f64], o: &mut [f64], diag_s: &[f64], eta: f64, tau: f64, n
     ensures { λ r. ⌜ EndIs (runOn cap (fixedOver n (now («diag_s» .entry)) eta) (begin (fixedOver n (now («diag_s» .entry)) eta) cap (fill n 1ᶠ) (now (o .entry)) tau))
         r (now (w .exit)) (now (o .exit)) ⌝ }
 {
-    let mut diag = blank();
-    let mut left = blank();
-    let mut right = blank();
-    let mut term = blank();
-    let mut next = blank();
+    let mut diag = zeros();
+    let mut left = zeros();
+    let mut right = zeros();
+    let mut term = zeros();
+    let mut next = zeros();
     run_plans(
         w,
         o,
@@ -290,18 +292,18 @@ fn run_later(w: &mut [f64], o: &mut [f64], diag_s: &[f64], eta: f64, tau: f64, n
 }
 
 // A name for the array keeps its 401 entries out of the goals.
-fn blank() -> [f64; 401]
+pub(crate) fn zeros() -> [f64; MAX_ROWS]
     ensures { λ r. ⌜ r ≡ fill 401 0ᶠ ⌝ }
 {
-    [0.0; 401]
+    [0.0; MAX_ROWS]
 }
 
 // 401 times 0.0, of which the first n become 1.0.
-fn ones(n: usize) -> [f64; 401]
-    requires { ⌜ n ≤ 401 ⌝ }
+fn ones(zeros: [f64; MAX_ROWS], n: usize) -> [f64; MAX_ROWS]
+    requires { ⌜ (zeros ≡ fill 401 0ᶠ) × (n ≤ 401) ⌝ }
     ensures { λ r. ⌜ r ≡ padded n (fill n 1ᶠ) ⌝ }
 {
-    let mut w = blank();
+    let mut w = zeros;
     let mut i: usize = 0;
     while i < n {
         w[i] = 1.0;
@@ -310,22 +312,12 @@ fn ones(n: usize) -> [f64; 401]
     w
 }
 
-pub(crate) fn blank_vector() -> ValueVector
-    ensures { λ r. ⌜ r ≡ blankVector ⌝ }
-{
-    ValueVector {
-        w: blank(),
-        log_offset: blank(),
-        n: 0,
-    }
-}
-
 pub(crate) fn refused_vector(number: u8) -> VectorAnswer
     ensures { λ r. ⌜ r ≡ refusedVector number ⌝ }
 {
     VectorAnswer {
         outcome: Outcome::Refused(number),
-        vector: blank_vector(),
+        vector: ValueVector::blank(),
     }
 }
 
@@ -340,7 +332,7 @@ fn answer_of(outcome: Outcome, vector: ValueVector) -> VectorAnswer
         },
         Outcome::OverCap(need, budget, steps) => VectorAnswer {
             outcome: Outcome::OverCap(need, budget, steps),
-            vector: blank_vector(),
+            vector: ValueVector::blank(),
         },
         Outcome::Refused(number) => refused_vector(number),
     }
@@ -359,20 +351,27 @@ pub(crate) fn floats_fit(alpha: f64, eta: f64, tau: f64) -> bool
 pub(crate) fn bound_fits(bound: u32) -> bool
     ensures { λ r. ⌜ r ≡ boundOk bound ⌝ }
 {
-    (1 <= bound) & (bound <= 200)
+    (1 <= bound) & (bound <= MAX_BOUND)
 }
 
-// The value vector of a bound from 1 to 200.
-pub(crate) fn run_vector(alpha: f64, eta: f64, bound: u32, tau: f64) -> VectorAnswer
-    requires { ⌜ (1 ≤ bound) × (bound ≤ 200) ⌝ }
+// Takes a blank vector to tau seconds before the end and hands it back filled.
+pub(crate) fn run_vector(
+    blank: ValueVector,
+    alpha: f64,
+    eta: f64,
+    bound: u32,
+    tau: f64,
+) -> VectorAnswer
+    requires { ⌜ (blank ≡ blankVector) × (1 ≤ bound) × (bound ≤ 200) ⌝ }
     ensures { λ r. ⌜ r ≡ vectorBy (rows bound) (run bound alpha eta tau) ⌝ }
 {
     let n = (2 * bound + 1) as usize;
-    let mut w = ones(n);
-    let mut o = blank();
+    let zeros = blank.w;
+    let mut w = ones(zeros, n);
+    let mut o = blank.log_offset;
     let mut outcome = Outcome::Done(0);
     if 0.0 < tau {
-        let mut diag_s = blank();
+        let mut diag_s = crate::run::zeros();
         crate::operator::fill_shifted_diagonal(alpha, eta, bound, &mut diag_s[..n]);
         outcome = run_later(&mut w[..n], &mut o[..n], &diag_s[..n], eta, tau, n);
     }

@@ -1,7 +1,7 @@
 use mathlib.Core.Path.{sym, _∙_}
 use borrow.Author.Needs.{needs}
-use Rattle.vector.specs.Distances.{valueVector, vectorIf}
-use Rattle.vector.proofs.Holdings.{bound-range}
+use Rattle.vector.specs.Values.{valueVector, vectorIf}
+use Rattle.vector.proofs.Bounds.{bound-range}
 use Rattle.vector.proofs.value_vector.Statement.{statement}
 use Rattle.vector.proofs.value_vector.Tie as tie
 
@@ -11,14 +11,21 @@ floats-fit-requires c κs = search needs
 bound-fits-requires : tie.Need-bound-fits-requires
 bound-fits-requires c κs = search needs
 
+blank-requires : tie.Need-blank-requires
+blank-requires c κs = search needs
+
 run-vector-requires : tie.Need-run-vector-requires
-run-vector-requires c κs = bound-range (c .before .before .before .before .args .bound) (sym (c .before .bound-fits .ensures) ∙ c .if2 .taken)
+run-vector-requires c κs =
+    let b = c .before .before in
+    let r = bound-range (b .before .before .before .args .bound) (sym (b .bound-fits .ensures) ∙ c .before .if2 .taken) in
+    (c .blank .ensures, r .0, r .1)
 
 returns : tie.Need-returns
 unfolding valueVector vectorIf
 returns c =
-    let f = c .before .before .before in
-    rw (← (f .before .floats-fit .ensures), f .if1 .taken, ← (c .before .before .bound-fits .ensures), c .before .if2 .taken, c .run-vector .ensures)
+    let b = c .before .before .before in
+    let f = b .before in
+    rw (← (f .before .floats-fit .ensures), f .if1 .taken, ← (b .bound-fits .ensures), c .before .before .if2 .taken, c .run-vector .ensures)
 
 refused-vector-requires : tie.Need-refused-vector-requires
 refused-vector-requires c κs = search needs
@@ -44,6 +51,7 @@ value-vector-spec =
     (tie.spec
     floats-fit-requires
     bound-fits-requires
+    blank-requires
     run-vector-requires
     returns
     refused-vector-requires

@@ -2,7 +2,7 @@ use mathlib.Core.Path.{_≡_, refl}
 use Prim.Native.Nat.{ℕ}
 use mir.Facts.{toZ-ofZ}
 use borrow.Author.Needs.{needs}
-use Rattle.vector.specs.Distances.{floatEntry}
+use Rattle.distances.specs.FloatEntry.{floatEntry}
 use Rattle.quote.specs.Quotes.{Judged, quoted, refused, withSteps, exactBy}
 use Rattle.quote.specs.Inner.{builtOf, stepsWith}
 use Rattle.quote.proofs.quotes.exact_of.Statement.{statement}

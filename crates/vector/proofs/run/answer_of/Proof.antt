@@ -9,8 +9,8 @@ enum-known-outcome c = search needs
 enum-known-outcome-2 : tie.Need-enum-known-outcome-2
 enum-known-outcome-2 c = search needs
 
-blank-vector-requires : tie.Need-blank-vector-requires
-blank-vector-requires c κs = search needs
+blank-requires : tie.Need-blank-requires
+blank-requires c κs = search needs
 
 enum-known-outcome-3 : tie.Need-enum-known-outcome-3
 enum-known-outcome-3 c = search needs
@@ -24,7 +24,7 @@ returns c = rw (c .before .outcome .given .1)
 
 returns-2 : tie.Need-returns-2
 unfolding outcomeWith
-returns-2 c = rw (c .before .before .outcome2 .given .1, c .blank-vector .ensures)
+returns-2 c = rw (c .before .before .outcome2 .given .1, c .blank .ensures)
 
 returns-3 : tie.Need-returns-3
 unfolding outcomeWith
@@ -36,7 +36,7 @@ answer-of-spec =
     (tie.spec
     enum-known-outcome
     enum-known-outcome-2
-    blank-vector-requires
+    blank-requires
     enum-known-outcome-3
     refused-vector-requires
     returns

@@ -5,7 +5,7 @@ use native.Mathlib.Omega.{arith}
 use lib.ListN.{length, length-set, length-replicate}
 use Rattle.elementary.specs.Float.{0ᶠ, 1ᶠ}
 use Rattle.vector.specs.Vectors.{fill}
-use Rattle.vector.specs.Distances.{room, padded}
+use Rattle.vector.specs.Values.{room, padded}
 use Rattle.vector.proofs.Loops.{filled, filled-zero, stored, filled-fill}
 use Rattle.vector.proofs.run.ones.Statement.{statement}
 use Rattle.vector.proofs.run.ones.Tie as tie
@@ -16,11 +16,8 @@ Inv-loop n w₀ i₀ w i = (i ≤ n) × (length w ≡ room) × (w ≡ filled (λ
 abbrev μ-loop : tie.MeasureT-loop
 μ-loop n w₀ i₀ w i = n - i
 
-blank-requires : tie.Need-blank-requires Inv-loop μ-loop
-blank-requires c κs = tt
-
 loop-holds : tie.Need-loop-holds Inv-loop μ-loop
-loop-holds c = (omega arith, ap length (c .blank .ensures) ∙ length-replicate room 0ᶠ, c .blank .ensures ∙ filled-zero _ _)
+loop-holds c = (omega arith, ap length (c .pre .0) ∙ length-replicate room 0ᶠ, c .pre .0 ∙ filled-zero _ _)
 
 mul-w : tie.Need-mul-w Inv-loop μ-loop
 mul-w c = omega arith
@@ -42,7 +39,7 @@ loop-again c =
 returns : tie.Need-returns Inv-loop μ-loop
 unfolding padded
 returns c =
-    let e : c .before .loop .i ≡ c .before .before .before .args .n = omega arith in
+    let e : c .before .loop .i ≡ c .before .before .args .n = omega arith in
     c .before .loop .inv .2 ∙ filled-fill room _ 1ᶠ 0ᶠ ∙ rw e
 
 pub ones-spec : {M : Type 1} → statement M
@@ -51,7 +48,6 @@ ones-spec =
     (tie.spec
     Inv-loop
     μ-loop
-    blank-requires
     loop-holds
     mul-w
     array-write-w

@@ -8,50 +8,50 @@ use Rattle.vector.proofs.Room.{blank-room, blank-length}
 use Rattle.vector.proofs.run.run_later.Statement.{statement}
 use Rattle.vector.proofs.run.run_later.Tie as tie
 
-blank-requires : tie.Need-blank-requires
-blank-requires c κs = tt
+zeros-requires : tie.Need-zeros-requires
+zeros-requires c κs = tt
 
-blank-requires-2 : tie.Need-blank-requires-2
-blank-requires-2 c κs = tt
+zeros-requires-2 : tie.Need-zeros-requires-2
+zeros-requires-2 c κs = tt
 
-blank-requires-3 : tie.Need-blank-requires-3
-blank-requires-3 c κs = tt
+zeros-requires-3 : tie.Need-zeros-requires-3
+zeros-requires-3 c κs = tt
 
-blank-requires-4 : tie.Need-blank-requires-4
-blank-requires-4 c κs = tt
+zeros-requires-4 : tie.Need-zeros-requires-4
+zeros-requires-4 c κs = tt
 
-blank-requires-5 : tie.Need-blank-requires-5
-blank-requires-5 c κs = tt
+zeros-requires-5 : tie.Need-zeros-requires-5
+zeros-requires-5 c κs = tt
 
 array-borrow-prefix-diag : tie.Need-array-borrow-prefix-diag
-array-borrow-prefix-diag c = blank-room _ _ (c .before .before .before .before .before .before .blank .ensures) (c .before .before .before .before .before .before .before .before .before .before .pre .1)
+array-borrow-prefix-diag c = blank-room _ _ (c .before .before .before .before .before .before .zeros .ensures) (c .before .before .before .before .before .before .before .before .before .before .pre .1)
 
 slice-aggregate-run-plans : tie.Need-slice-aggregate-run-plans
-slice-aggregate-run-plans c = sym (blank-length _ _ (c .before .before .before .before .before .before .before .blank .ensures) (c .before .before .before .before .before .before .before .before .before .before .before .pre .1))
+slice-aggregate-run-plans c = sym (blank-length _ _ (c .before .before .before .before .before .before .before .zeros .ensures) (c .before .before .before .before .before .before .before .before .before .before .before .pre .1))
 
 array-borrow-prefix-left : tie.Need-array-borrow-prefix-left
-array-borrow-prefix-left c = blank-room _ _ (c .before .before .before .before .before .before .blank2 .ensures) (c .before .before .before .before .before .before .before .before .before .before .before .pre .1)
+array-borrow-prefix-left c = blank-room _ _ (c .before .before .before .before .before .before .zeros2 .ensures) (c .before .before .before .before .before .before .before .before .before .before .before .pre .1)
 
 slice-aggregate-run-plans-2 : tie.Need-slice-aggregate-run-plans-2
-slice-aggregate-run-plans-2 c = sym (blank-length _ _ (c .before .before .before .before .before .before .before .blank2 .ensures) (c .before .before .before .before .before .before .before .before .before .before .before .before .pre .1))
+slice-aggregate-run-plans-2 c = sym (blank-length _ _ (c .before .before .before .before .before .before .before .zeros2 .ensures) (c .before .before .before .before .before .before .before .before .before .before .before .before .pre .1))
 
 array-borrow-prefix-right : tie.Need-array-borrow-prefix-right
-array-borrow-prefix-right c = blank-room _ _ (c .before .before .before .before .before .before .blank3 .ensures) (c .before .before .before .before .before .before .before .before .before .before .before .before .pre .1)
+array-borrow-prefix-right c = blank-room _ _ (c .before .before .before .before .before .before .zeros3 .ensures) (c .before .before .before .before .before .before .before .before .before .before .before .before .pre .1)
 
 slice-aggregate-run-plans-3 : tie.Need-slice-aggregate-run-plans-3
-slice-aggregate-run-plans-3 c = sym (blank-length _ _ (c .before .before .before .before .before .before .before .blank3 .ensures) (c .before .before .before .before .before .before .before .before .before .before .before .before .before .pre .1))
+slice-aggregate-run-plans-3 c = sym (blank-length _ _ (c .before .before .before .before .before .before .before .zeros3 .ensures) (c .before .before .before .before .before .before .before .before .before .before .before .before .before .pre .1))
 
 array-borrow-prefix-term : tie.Need-array-borrow-prefix-term
-array-borrow-prefix-term c = blank-room _ _ (c .before .before .before .before .before .before .blank4 .ensures) (c .before .before .before .before .before .before .before .before .before .before .before .before .before .pre .1)
+array-borrow-prefix-term c = blank-room _ _ (c .before .before .before .before .before .before .zeros4 .ensures) (c .before .before .before .before .before .before .before .before .before .before .before .before .before .pre .1)
 
 slice-aggregate-run-plans-4 : tie.Need-slice-aggregate-run-plans-4
-slice-aggregate-run-plans-4 c = sym (blank-length _ _ (c .before .before .before .before .before .before .before .blank4 .ensures) (c .before .before .before .before .before .before .before .before .before .before .before .before .before .before .pre .1))
+slice-aggregate-run-plans-4 c = sym (blank-length _ _ (c .before .before .before .before .before .before .before .zeros4 .ensures) (c .before .before .before .before .before .before .before .before .before .before .before .before .before .before .pre .1))
 
 array-borrow-prefix-next : tie.Need-array-borrow-prefix-next
-array-borrow-prefix-next c = blank-room _ _ (c .before .before .before .before .before .before .blank5 .ensures) (c .before .before .before .before .before .before .before .before .before .before .before .before .before .before .pre .1)
+array-borrow-prefix-next c = blank-room _ _ (c .before .before .before .before .before .before .zeros5 .ensures) (c .before .before .before .before .before .before .before .before .before .before .before .before .before .before .pre .1)
 
 slice-aggregate-run-plans-5 : tie.Need-slice-aggregate-run-plans-5
-slice-aggregate-run-plans-5 c = sym (blank-length _ _ (c .before .before .before .before .before .before .before .blank5 .ensures) (c .before .before .before .before .before .before .before .before .before .before .before .before .before .before .before .pre .1))
+slice-aggregate-run-plans-5 c = sym (blank-length _ _ (c .before .before .before .before .before .before .before .zeros5 .ensures) (c .before .before .before .before .before .before .before .before .before .before .before .before .before .before .before .pre .1))
 
 run-plans-requires : tie.Need-run-plans-requires
 run-plans-requires c κs =
@@ -60,8 +60,8 @@ run-plans-requires c κs =
     rw (ap length (p .2) ∙ length-replicate (c .before .before .before .before .before .before .before .before .before .before .before .before .before .before .before .args .n) 1ᶠ) (
       (p .0, p .2),
       (
-        record { diag-n = p .3; left-n = p .4; right-n = part _ (c .before .before .before .before .before .before .before .before .before .before .before .blank .ensures); term-n = part _ (c .before .before .before .before .before .before .before .before .before .before .blank2 .ensures); next-n = part _ (c .before .before .before .before .before .before .before .before .before .blank3 .ensures) },
-        (part _ (c .before .before .before .before .before .before .before .before .blank4 .ensures), part _ (c .before .before .before .before .before .before .before .blank5 .ensures)),
+        record { diag-n = p .3; left-n = p .4; right-n = part _ (c .before .before .before .before .before .before .before .before .before .before .before .zeros .ensures); term-n = part _ (c .before .before .before .before .before .before .before .before .before .before .zeros2 .ensures); next-n = part _ (c .before .before .before .before .before .before .before .before .before .zeros3 .ensures) },
+        (part _ (c .before .before .before .before .before .before .before .before .zeros4 .ensures), part _ (c .before .before .before .before .before .before .before .zeros5 .ensures)),
       ),
     )
 
@@ -78,11 +78,11 @@ pub run-later-spec : {M : Type 1} → statement M
 run-later-spec =
     tie.close
     (tie.spec
-    blank-requires
-    blank-requires-2
-    blank-requires-3
-    blank-requires-4
-    blank-requires-5
+    zeros-requires
+    zeros-requires-2
+    zeros-requires-3
+    zeros-requires-4
+    zeros-requires-5
     array-borrow-prefix-diag
     slice-aggregate-run-plans
     array-borrow-prefix-left

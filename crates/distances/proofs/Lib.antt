@@ -1,0 +1,4 @@
+pub mod Holdings
+pub mod AtEnd
+pub mod FloatMirror
+pub mod Counting

@@ -1,0 +1,138 @@
+use mathlib.Core.Path.{_≡_, refl, _∙_, ap}
+use Prim.Native.Nat.{ℕ}
+use native.Mathlib.Omega.{arith}
+use mathlib.Core.Bool.{Bool, true, false, _&&_}
+use lib.IntN.{ℤ}
+use lib.Ieee.{Float}
+use mir.Facts.{toZ-ofZ}
+use borrow.Author.Needs.{needs}
+use Rattle.elementary.specs.Float.{finite, positive}
+use Rattle.vector.specs.Run.{Ended, vector, overCap, failed, boundOk, rows, run}
+use Rattle.vector.specs.Values.{vectorOf, blankVector, refusedVector, vectorBy, vectorIf, valueVector}
+use Rattle.distances.specs.Distances.{place, exactAt}
+use Rattle.distances.specs.FloatEntry.{refusedEntry, withVector, answerBy, floatsOk}
+use Rattle.vector.specs.declared.ValueVector.{ValueVector}
+use Rattle.vector.specs.declared.Outcome.{Outcome}
+use Rattle.vector.specs.declared.Outcome.the-variants as Outcome
+use Rattle.distances.specs.declared.Answer.the-variants as Answer
+use Rattle.distances.specs.declared.FloatAnswer.{FloatAnswer}
+use Rattle.vector.proofs.Bounds.{bound-range}
+use Rattle.distances.proofs.Holdings.{place-most}
+use Rattle.distances.proofs.entry.entry_within.Statement.{statement}
+use Rattle.distances.proofs.entry.entry_within.Tie as tie
+
+-- ---- the answer at the end of a run, by the outcome and the vector that the code has of it
+module _ (b : ℕ) (k base : Float) (q : ℤ) where
+  unfoldable entry : Outcome → ValueVector → FloatAnswer
+  entry (Outcome.Done s) v = withVector v s (exactAt v k base (place b q))
+  entry (Outcome.OverCap need l s) v = record { answer = Answer.OverCap need l s; vector = blankVector }
+  entry (Outcome.Refused r) v = refusedEntry r
+
+  entry-is : (e : Ended) → answerBy b k base q e ≡ entry (vectorBy (rows b) e .outcome) (vectorBy (rows b) e .vector)
+  unfolding entry answerBy vectorBy refusedVector
+  entry-is (vector w o s) = refl
+  entry-is (overCap need l) = refl
+  entry-is (failed s) = refl
+
+-- the value vector where the checks pass
+inner : (k a e b t : Bool) → (k && a && e && b && t) ≡ true → (a && e && t) ≡ true
+inner false a e b t h = cc
+inner true false e b t h = cc
+inner true true false b t h = cc
+inner true true true false t h = cc
+inner true true true true t h = h
+
+vector-is : (k alpha eta base : Float) (bound : ℕ) (tau : Float) → floatsOk k alpha eta base tau ≡ true → boundOk bound ≡ true
+    → valueVector alpha eta bound tau ≡ vectorBy (rows bound) (run bound alpha eta tau)
+unfolding floatsOk valueVector vectorIf
+vector-is k alpha eta base bound tau f b = rw (inner (positive k) (positive alpha) (positive eta) (positive base) (finite tau) f, b)
+
+come : (c : tie.After-value-vector) → let a = c .before .args in c .value-vector .result ≡ vectorBy (rows (a .bound)) (run (a .bound) (a .alpha) (a .eta) (a .tau))
+come c = let s = c .before in c .value-vector .ensures ∙ vector-is (s .args .k) (s .args .alpha) (s .args .eta) (s .args .base) (s .args .bound) (s .args .tau) (s .pre .0) (s .pre .1)
+
+ended : (c : tie.After-value-vector) → let a = c .before .args in
+    answerBy (a .bound) (a .k) (a .base) (a .q) (run (a .bound) (a .alpha) (a .eta) (a .tau)) ≡ entry (a .bound) (a .k) (a .base) (a .q) (c .value-vector .result .outcome) (c .value-vector .result .vector)
+ended c =
+    let a = c .before .args in
+    rw (come c) (entry-is (a .bound) (a .k) (a .base) (a .q) (run (a .bound) (a .alpha) (a .eta) (a .tau)))
+
+-- a run that is done has a vector of full length
+done-length : (n s : ℕ) (e : Ended) → vectorBy n e .outcome ≡ Outcome.Done s → vectorBy n e .vector .n ≡ n
+unfolding vectorBy vectorOf refusedVector
+done-length n s (vector w o t) h = refl
+done-length n s (overCap need l) h = cc
+done-length n s (failed t) h = cc
+
+full : (c : tie.After-value-vector) (s : ℕ) → c .value-vector .result .outcome ≡ Outcome.Done s → c .value-vector .result .vector .n ≡ rows (c .before .args .bound)
+full c s h =
+    let a = c .before .args in
+    rw (come c) (done-length (rows (a .bound)) s (run (a .bound) (a .alpha) (a .eta) (a .tau)) (rw (come c) at h))
+
+value-vector-requires : tie.Need-value-vector-requires
+value-vector-requires c κs = search needs
+
+enum-known-outcome : tie.Need-enum-known-outcome
+enum-known-outcome c = search needs
+
+place-of-requires : tie.Need-place-of-requires
+place-of-requires c κs = search needs
+
+sides-at-requires : tie.Need-sides-at-requires
+sides-at-requires c κs =
+    let r = c .before .before .before .before .before in
+    let s = r .before in
+    let a = s .args in
+    let e : c .place-of .result ≡ place (a .bound) (a .q) = c .place-of .ensures ∙ ap (place (a .bound)) (toZ-ofZ (s .fits .q)) in
+    omega (arith, e, place-most (a .q) (a .bound) (s .pre .2), bound-range (a .bound) (s .pre .1), full r _ (c .before .before .outcome .given .1))
+
+with-vector-requires : tie.Need-with-vector-requires
+with-vector-requires c κs = search needs
+
+enum-known-outcome-2 : tie.Need-enum-known-outcome-2
+enum-known-outcome-2 c = search needs
+
+blank-requires : tie.Need-blank-requires
+blank-requires c κs = search needs
+
+enum-known-outcome-3 : tie.Need-enum-known-outcome-3
+enum-known-outcome-3 c = search needs
+
+refused-entry-requires : tie.Need-refused-entry-requires
+refused-entry-requires c κs = search needs
+
+returns : tie.Need-returns
+unfolding entry
+returns c =
+    let d = c .before in
+    let o = d .before .before .before in
+    let r = o .before .before .before in
+    rw (ended r, o .outcome .given .1, c .with-vector .ensures, d .sides-at .ensures, d .before .place-of .ensures, toZ-ofZ (r .before .fits .q))
+
+returns-2 : tie.Need-returns-2
+unfolding entry
+returns-2 c =
+    let o = c .before .before in
+    rw (ended (o .before .before .before), o .outcome2 .given .1, c .blank .ensures)
+
+returns-3 : tie.Need-returns-3
+unfolding entry
+returns-3 c =
+    let o = c .before .before in
+    rw (ended (o .before .before .before), o .outcome3 .given .1, c .refused-entry .ensures)
+
+pub entry-within-spec : {M : Type 1} → statement M
+entry-within-spec =
+    tie.close
+    (tie.spec
+    value-vector-requires
+    enum-known-outcome
+    place-of-requires
+    sides-at-requires
+    with-vector-requires
+    enum-known-outcome-2
+    blank-requires
+    enum-known-outcome-3
+    refused-entry-requires
+    returns
+    returns-2
+    returns-3)

@@ -1,0 +1,4 @@
+pub mod Refusals
+pub mod Distances
+pub mod FloatEntry
+pub mod Promises

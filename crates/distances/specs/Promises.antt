@@ -1,0 +1,60 @@
+-- What holds of every reply of the float entry, as named statements. Each is proved once, in proofs/. Definitions only.
+use mathlib.Core.Path.{_≡_}
+use Prim.Native.Nat.{ℕ, suc, _+_, _≤_}
+use mathlib.Core.Bool.{Bool, true, false}
+use lib.IntN.{ℤ, negℤ, natAbs}
+use lib.Dec.{T, ltb}
+use lib.Ieee.{Float, binary64, lt, fits}
+use Rattle.elementary.specs.Float.{0ᶠ, 1ᶠ}
+use Rattle.vector.specs.Vectors.{fill}
+use Rattle.vector.specs.Run.{cap, boundOk, rows}
+use Rattle.vector.specs.Values.{vectorOf}
+use Rattle.distances.specs.Distances.{place}
+use Rattle.distances.specs.FloatEntry.{floatsOk, floatEntry, floatSteps}
+use Rattle.distances.specs.declared.Distance.{Distance}
+use Rattle.distances.specs.declared.Distance.the-variants.{At, Absent}
+use Rattle.distances.specs.declared.Sides.{Sides}
+use Rattle.distances.specs.declared.Sides.the-variants as Sides
+use Rattle.distances.specs.declared.Answer.{Answer}
+use Rattle.distances.specs.declared.Answer.the-variants.{Distances, OverCap, Refused}
+
+-- ---- the steps that a reply carries are those of the defined run, at most 11,000; in a cap report they are 11,000 less the budget left
+unfoldable pub Counted : Answer → ℕ → Type 0
+Counted (Distances b a s) n = s ≡ n
+Counted (OverCap need b s) n = (s ≡ n) × (s + b ≡ cap)
+Counted (Refused r) n = Unit {0}
+
+abbrev pub StepsCounted : Type 0
+StepsCounted = (k alpha eta base : Float) (bound : ℕ) (tau : Float) (q : ℤ)
+    → Counted (floatEntry k alpha eta base bound tau q .answer) (floatSteps k alpha eta base bound tau q) × (floatSteps k alpha eta base bound tau q ≤ cap)
+
+-- ---- at or past the end: weights of 1.0, offsets of 0.0, no step, and each present distance is the base
+unfoldable pub baseBid : Bool → Float → Distance
+baseBid true base = At base
+baseBid false base = Absent
+
+abbrev pub AtTheEnd : Type 0
+AtTheEnd = (k alpha eta base : Float) (bound : ℕ) (tau : Float) (q : ℤ) → T (fits binary64 base)
+    → floatsOk k alpha eta base tau ≡ true → boundOk bound ≡ true → natAbs q ≤ bound → lt 0ᶠ tau ≡ false
+    → floatEntry k alpha eta base bound tau q
+    ≡ record {
+      answer = Distances (baseBid (ltb (suc (place bound q)) (rows bound)) base) (baseBid (ltb 0 (place bound q)) base) 0;
+      vector = vectorOf (rows bound) (fill (rows bound) 1ᶠ) (fill (rows bound) 0ᶠ);
+    }
+
+-- ---- the mirror: the sides exchanged, refusals and reports as they are
+unfoldable pub exchangedSides : Sides → Sides
+exchangedSides (Sides.Distances b a) = Sides.Distances a b
+exchangedSides (Sides.Refused r) = Sides.Refused r
+
+unfoldable pub exchanged : Answer → Answer
+exchanged (Distances b a s) = Distances a b s
+exchanged (OverCap need b s) = OverCap need b s
+exchanged (Refused r) = Refused r
+
+-- the float entry at minus q is that at q with the sides exchanged, bit for bit, reports and refusals equal
+abbrev pub FloatMirror : Type 0
+FloatMirror = (k alpha eta base : Float) (bound : ℕ) (tau : Float) (q : ℤ)
+    → (floatEntry k alpha eta base bound tau (negℤ q) .answer ≡ exchanged (floatEntry k alpha eta base bound tau q .answer))
+    × (floatEntry k alpha eta base bound tau (negℤ q) .vector ≡ floatEntry k alpha eta base bound tau q .vector)
+    × (floatSteps k alpha eta base bound tau (negℤ q) ≡ floatSteps k alpha eta base bound tau q)

@@ -1,0 +1,97 @@
+// The exact distances at a holding, from a value vector; and the float entry over both.
+mod entry;
+mod places;
+pub mod refusals;
+
+ghost use mathlib.Core.Path.{_≡_};
+ghost use Rattle.distances.specs.Distances.{within, fine, exactDistances};
+ghost use Rattle.distances.specs.FloatEntry.{floatEntry};
+use vector::ValueVector;
+use vector::refusals::CONFIGURATION;
+
+// A side's distance from the mid; at the bound one side is withheld.
+pub enum Distance {
+    At(f64),
+    Absent,
+}
+
+// The distances of bid and ask, or a refusal's number.
+pub enum Sides {
+    Distances(Distance, Distance),
+    Refused(u8),
+}
+
+// The distances of bid and ask with the steps spent; or the steps needed, the budget left and the
+// steps spent; or a refusal's number.
+pub enum Answer {
+    Distances(Distance, Distance, u32),
+    OverCap(f64, u32, u32),
+    Refused(u8),
+}
+
+// An answer, with the value vector beside it: the blank one, unless there are distances.
+pub struct FloatAnswer {
+    pub answer: Answer,
+    pub vector: ValueVector,
+}
+
+// Whether q lots are within a bound.
+pub fn within(q: i64, bound: u32) -> bool
+    ensures { λ r. ⌜ r ≡ within bound q ⌝ }
+{
+    let b = bound as i64;
+    (0 - b <= q) & (q <= b)
+}
+
+// Whether a side is absent or its distance finite.
+pub fn is_fine(d: Distance) -> bool
+    ensures { λ r. ⌜ r ≡ fine d ⌝ }
+{
+    match d {
+        Distance::At(x) => elementary::is_finite(x),
+        Distance::Absent => true,
+    }
+}
+
+// The distances at q lots from a vector: refused by 5, then 1, then 4, then 11.
+pub fn exact_distances(vector: ValueVector, k: f64, base: f64, q: i64) -> Sides
+    ensures { λ r. ⌜ r ≡ exactDistances vector k base q ⌝ }
+{
+    let n = vector.n;
+    if places::scale_fits(k, base) {
+        if places::length_fits(n) {
+            let bound = (n / 2) as u32;
+            if within(q, bound) {
+                return places::sides_at(vector, k, base, places::place_of(q, bound));
+            }
+            return Sides::Refused(refusals::HOLDING);
+        }
+        return Sides::Refused(CONFIGURATION);
+    }
+    Sides::Refused(elementary::OUTSIDE)
+}
+
+// The float entry: the value vector, the steps spent and the distances at q lots, or the cap report.
+// Refused by 5, then 1, then 4, then 11.
+pub fn float_entry(
+    k: f64,
+    alpha: f64,
+    eta: f64,
+    base: f64,
+    bound: u32,
+    tau: f64,
+    q: i64,
+) -> FloatAnswer
+    ensures { λ r. ⌜ r ≡ floatEntry k alpha eta base bound tau q ⌝ }
+{
+    if entry::floats_fit(k, alpha, eta, base, tau) {
+        if entry::bound_fits(bound) {
+            if within(q, bound) {
+                return entry::entry_within(k, alpha, eta, base, bound, tau, q);
+            }
+            return entry::refused_entry(refusals::HOLDING);
+        }
+        return entry::refused_entry(CONFIGURATION);
+    }
+    entry::refused_entry(elementary::OUTSIDE)
+}

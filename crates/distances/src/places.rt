@@ -1,0 +1,89 @@
+// The distances at one place of a value vector.
+ghost use mathlib.Core.Path.{_≡_};
+ghost use Prim.Native.Nat.{suc, _<_, _≤_};
+ghost use mathlib.Core.Bool.{_&&_};
+ghost use lib.IntN.{natAbs};
+ghost use lib.Dec.{ltb};
+ghost use Rattle.elementary.specs.Float.{_⊕_, _⊖_, _⊘_, positive};
+ghost use Rattle.elementary.specs.Elementary.{LN, orNan};
+ghost use Rattle.distances.specs.Distances.{lengthOk, place, bidAt, askAt, exactAt};
+use crate::Distance;
+use crate::Sides;
+use vector::MAX_BOUND;
+use vector::ValueVector;
+use vector::refusals::NUMERICAL;
+
+// Whether k and base are finite and above zero.
+pub(crate) fn scale_fits(k: f64, base: f64) -> bool
+    ensures { λ r. ⌜ r ≡ (positive k && positive base) ⌝ }
+{
+    elementary::is_positive_finite(k) & elementary::is_positive_finite(base)
+}
+
+// Whether a length is 2 * bound + 1 for a bound of 1 to 200.
+pub(crate) fn length_fits(n: usize) -> bool
+    ensures { λ r. ⌜ r ≡ lengthOk n ⌝ }
+{
+    let half = n / 2;
+    (1 <= half) & (half <= MAX_BOUND as usize) & (n % 2 == 1)
+}
+
+// The place of q lots: q + bound.
+pub(crate) fn place_of(q: i64, bound: u32) -> usize
+    requires { ⌜ natAbs q ≤ bound ⌝ }
+    ensures { λ r. ⌜ r ≡ place bound q ⌝ }
+{
+    (q + (bound as i64)) as usize
+}
+
+// ((LN w - LN x) + (o - p)) / k + base, from an entry's weight w and offset o to its neighbour's.
+fn distance_between(w: f64, o: f64, x: f64, p: f64, k: f64, base: f64) -> f64
+    ensures { λ r. ⌜ r ≡ (orNan (LN w) ⊖ orNan (LN x) ⊕ (o ⊖ p)) ⊘ k ⊕ base ⌝ }
+{
+    let a = elementary::or_nan(elementary::ln(w));
+    let b = elementary::or_nan(elementary::ln(x));
+    ((a - b) + (o - p)) / k + base
+}
+
+fn bid_at(v: ValueVector, k: f64, base: f64, i: usize) -> Distance
+    requires { ⌜ (i < v .n) × (v .n ≤ 401) ⌝ }
+    ensures { λ r. ⌜ r ≡ bidAt (ltb (suc i) (v .n)) v k base i ⌝ }
+{
+    let up = i + 1;
+    if up < v.n {
+        let w = v.w[i];
+        let o = v.log_offset[i];
+        let x = v.w[up];
+        let p = v.log_offset[up];
+        return Distance::At(distance_between(w, o, x, p, k, base));
+    }
+    Distance::Absent
+}
+
+fn ask_at(v: ValueVector, k: f64, base: f64, i: usize) -> Distance
+    requires { ⌜ (i < v .n) × (v .n ≤ 401) ⌝ }
+    ensures { λ r. ⌜ r ≡ askAt v k base i ⌝ }
+{
+    if 0 < i {
+        let down = i - 1;
+        let w = v.w[i];
+        let o = v.log_offset[i];
+        let x = v.w[down];
+        let p = v.log_offset[down];
+        return Distance::At(distance_between(w, o, x, p, k, base));
+    }
+    Distance::Absent
+}
+
+// The distances at place i.
+pub(crate) fn sides_at(v: ValueVector, k: f64, base: f64, i: usize) -> Sides
+    requires { ⌜ (i < v .n) × (v .n ≤ 401) ⌝ }
+    ensures { λ r. ⌜ r ≡ exactAt v k base i ⌝ }
+{
+    let bid = bid_at(v, k, base, i);
+    let ask = ask_at(v, k, base, i);
+    if crate::is_fine(bid) & crate::is_fine(ask) {
+        return Sides::Distances(bid, ask);
+    }
+    Sides::Refused(NUMERICAL)
+}
