@@ -10,3 +10,6 @@ pub mod Sizes
 pub mod Building
 pub mod Words
 pub mod Billionths
+pub mod FloatPresence
+pub mod Wrapper
+pub mod Presence

@@ -7,3 +7,6 @@ pub mod Quotes
 pub mod Inner
 pub mod Promises
 pub mod Replies
+pub mod FloatPresence
+pub mod Wrapper
+pub mod Presence
