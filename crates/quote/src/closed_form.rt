@@ -46,5 +46,5 @@ pub(crate) fn distances(m: Model, q: i64) -> Answer
             return Answer::Distances(bid, ask, 0);
         }
     }
-    Answer::Refused(11)
+    Answer::Refused(crate::refusals::NUMERICAL)
 }

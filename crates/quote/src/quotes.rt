@@ -14,6 +14,7 @@ use crate::Model;
 use crate::Price;
 use crate::amounts::amount_fits;
 use crate::amounts::is_positive;
+use crate::refusals;
 use crate::rounding::Rounded;
 use vector::Answer;
 use vector::Distance;
@@ -69,9 +70,9 @@ fn both_sides(mid: i64, least: i64, b: i64, a: i64) -> Built
                 ask: Price::At(ask),
             });
         }
-        return Built::Refused(14);
+        return Built::Refused(refusals::CROSSED);
     }
-    Built::Refused(13)
+    Built::Refused(refusals::BEYOND)
 }
 
 // A bid alone.
@@ -87,9 +88,9 @@ fn bid_alone(mid: i64, least: i64, b: i64) -> Built
                 ask: Price::Absent,
             });
         }
-        return Built::Refused(14);
+        return Built::Refused(refusals::CROSSED);
     }
-    Built::Refused(13)
+    Built::Refused(refusals::BEYOND)
 }
 
 // An ask alone.
@@ -105,9 +106,9 @@ fn ask_alone(mid: i64, least: i64, a: i64) -> Built
                 ask: Price::At(ask),
             });
         }
-        return Built::Refused(14);
+        return Built::Refused(refusals::CROSSED);
     }
-    Built::Refused(13)
+    Built::Refused(refusals::BEYOND)
 }
 
 // Quotes with a bid, for each ask.
@@ -118,7 +119,7 @@ fn with_bid(mid: i64, least: i64, b: i64, ask: Side) -> Built
     match ask {
         Side::At(a) => both_sides(mid, least, b, a),
         Side::Absent => bid_alone(mid, least, b),
-        Side::Beyond => Built::Refused(13),
+        Side::Beyond => Built::Refused(refusals::BEYOND),
     }
 }
 
@@ -133,7 +134,7 @@ fn without_bid(mid: i64, least: i64, ask: Side) -> Built
             bid: Price::Absent,
             ask: Price::Absent,
         }),
-        Side::Beyond => Built::Refused(13),
+        Side::Beyond => Built::Refused(refusals::BEYOND),
     }
 }
 
@@ -147,7 +148,7 @@ fn build_quotes(mid: i64, least: i64, bid: Distance, ask: Distance) -> Built
     match side_of(bid) {
         Side::At(b) => with_bid(mid, least, b, a),
         Side::Absent => without_bid(mid, least, a),
-        Side::Beyond => Built::Refused(13),
+        Side::Beyond => Built::Refused(refusals::BEYOND),
     }
 }
 
@@ -186,7 +187,7 @@ pub(crate) fn closed_of(mid: i64, least: i64, answer: Answer) -> ClosedFormQuote
                 Built::Refused(number) => ClosedFormQuotes::Refused(number),
             }
         }
-        Answer::OverCap(_, _, _) => ClosedFormQuotes::Refused(12),
+        Answer::OverCap(_, _, _) => ClosedFormQuotes::Refused(refusals::CAPPED),
         Answer::Refused(number) => ClosedFormQuotes::Refused(number),
     }
 }
