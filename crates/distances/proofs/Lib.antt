@@ -2,3 +2,4 @@ pub mod Holdings
 pub mod AtEnd
 pub mod FloatMirror
 pub mod Counting
+pub mod Presence

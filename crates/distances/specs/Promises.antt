@@ -2,7 +2,8 @@
 use mathlib.Core.Path.{_≡_}
 use Prim.Native.Nat.{ℕ, suc, _+_, _≤_}
 use mathlib.Core.Bool.{Bool, true, false}
-use lib.IntN.{ℤ, negℤ, natAbs}
+use mathlib.Core.Logic.{_↔_}
+use lib.IntN.{ℤ, pos, negℤ, natAbs}
 use lib.Dec.{T, ltb}
 use lib.Ieee.{Float, binary64, lt, fits}
 use Rattle.elementary.specs.Float.{0ᶠ, 1ᶠ}
@@ -58,3 +59,11 @@ FloatMirror = (k alpha eta base : Float) (bound : ℕ) (tau : Float) (q : ℤ)
     → (floatEntry k alpha eta base bound tau (negℤ q) .answer ≡ exchanged (floatEntry k alpha eta base bound tau q .answer))
     × (floatEntry k alpha eta base bound tau (negℤ q) .vector ≡ floatEntry k alpha eta base bound tau q .vector)
     × (floatSteps k alpha eta base bound tau (negℤ q) ≡ floatSteps k alpha eta base bound tau q)
+
+-- ---- presence: no bid just at the bound, no ask just at minus the bound
+abbrev pub Withheld : ℕ → ℤ → Distance → Distance → Type 0
+Withheld bound q b a = ((b ≡ Absent) ↔ (q ≡ pos bound)) × ((a ≡ Absent) ↔ (q ≡ negℤ (pos bound)))
+
+abbrev pub FloatPresence : Type 0
+FloatPresence = (k alpha eta base : Float) (bound : ℕ) (tau : Float) (q : ℤ) (b a : Distance) (s : ℕ)
+    → floatEntry k alpha eta base bound tau q .answer ≡ Distances b a s → Withheld bound q b a

@@ -10,3 +10,5 @@ pub mod Sizes
 pub mod Building
 pub mod Words
 pub mod Billionths
+pub mod Wrapper
+pub mod Presence

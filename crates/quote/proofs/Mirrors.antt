@@ -3,7 +3,7 @@ use mathlib.Core.Path.{_≡_, refl, sym, ap, _∙_}
 use Prim.Native.Nat.{ℕ, suc, _*_, _^_, _≤_, _<_}
 use native.Mathlib.Nat.{le-trans, mul-le-mul-left}
 use native.Mathlib.Omega.{arith}
-use mathlib.Core.Bool.{Bool, true, false, _&&_, and-comm}
+use mathlib.Core.Bool.{Bool, true, false}
 use borrow.Author.Tests.{lt-ltb}
 use lib.IntN.{ℤ, pos, negsuc, negℤ, natAbs, _+ℤ_, _*ℤ_, negℤ-negℤ, negℤ-+ℤ}
 use lib.Signed.{ltZ, quotZ}
@@ -13,11 +13,9 @@ use Rattle.elementary.specs.Float.{_⊕_, _⊖_, _⊗_, _⊘_, whole, 1ᶠ, 2�
 use Rattle.elementary.proofs.Signs.{mul-neg-left, div-neg-left, sub-neg}
 use Rattle.elementary.proofs.Exact.{twice-and-one, twice-less-one}
 use Rattle.vector.specs.Run.{cap, largestBound}
-use Rattle.distances.specs.Distances.{fine, sides}
-use Rattle.distances.specs.Promises.{Counted, exchanged}
-use Rattle.distances.specs.declared.Distance.{Distance}
+use Rattle.distances.specs.Promises.{Counted, exchanged, exchangedSides}
 use Rattle.distances.specs.declared.Distance.the-variants.{At}
-use Rattle.distances.proofs.FloatMirror.{float-mirror}
+use Rattle.distances.proofs.FloatMirror.{float-mirror, sides-exchanged}
 use Rattle.distances.proofs.Counting.{steps-counted}
 use Rattle.quote.specs.Configuration.{amountOk, timeOk, configOk}
 use Rattle.quote.specs.Model.{lots, holdingOk, modelIf, modelLimits, newModel, tauOf}
@@ -126,16 +124,8 @@ form-side true base c q h =
     let x = 2ᶠ ⊗ whole q ⊕ 1ᶠ in
     ap At (rw (turned q h, div-neg-left binary64 x 2ᶠ, mul-neg-left binary64 (x ⊘ 2ᶠ) c, sub-neg binary64 base (x ⊘ 2ᶠ ⊗ c)))
 
-sides-exchanged : (b a : Distance) (s : ℕ) → sides (fine a && fine b) a b s ≡ exchanged (sides (fine b && fine a) b a s)
-unfolding sides exchanged
-sides-exchanged b a s = rw (and-comm (fine a) (fine b)) (go (fine b && fine a))
-  where
-    go : (t : Bool) → sides t a b s ≡ exchanged (sides t b a s)
-    go true = refl
-    go false = refl
-
-form-exchanged : (m : Model) (q : ℤ) → natAbs q ≤ largestBound → closedFormDistances m (negℤ q) ≡ exchanged (closedFormDistances m q)
-unfolding closedFormDistances formIf exchanged
+form-exchanged : (m : Model) (q : ℤ) → natAbs q ≤ largestBound → closedFormDistances m (negℤ q) ≡ exchangedSides (closedFormDistances m q)
+unfolding closedFormDistances formIf exchangedSides
 form-exchanged m q h = go (positive (slope m))
   where
     bid : (c : Float) → formBid (ltZ (negℤ q) (pos (m .«q_max»))) (m .base) c (whole (negℤ q)) ≡ formAsk (ltZ (negℤ (pos (m .«q_max»))) q) (m .base) c (whole q)
@@ -144,13 +134,13 @@ form-exchanged m q h = go (positive (slope m))
     ask : (c : Float) → formAsk (ltZ (negℤ (pos (m .«q_max»))) (negℤ q)) (m .base) c (whole (negℤ q)) ≡ formBid (ltZ q (pos (m .«q_max»))) (m .base) c (whole q)
     ask c = rw (ltZ-neg q (pos (m .«q_max»)), form-side (ltZ q (pos (m .«q_max»))) (m .base) c q h)
 
-    go : (t : Bool) → formIf t (slope m) m (negℤ q) ≡ exchanged (formIf t (slope m) m q)
-    go true = rw (bid (slope m), ask (slope m)) (sides-exchanged _ _ 0)
+    go : (t : Bool) → formIf t (slope m) m (negℤ q) ≡ exchangedSides (formIf t (slope m) m q)
+    go true = rw (bid (slope m), ask (slope m)) (sides-exchanged _ _)
     go false = refl
 
 closed-opposed : {l m f : Bool} (h : ℤ) (c : GLFTConfig) {b : Model} {a : ModelAnswer} → Outcome l (configOk c) m (holdingOk h c) f b (lots h c) a
-    → closedFrom (opposed a) ≡ exchanged (closedFrom a)
-unfolding opposed closedFrom exchanged
+    → closedFrom (opposed a) ≡ exchangedSides (closedFrom a)
+unfolding opposed closedFrom exchangedSides
 closed-opposed h c (stopped k) = refl
 closed-opposed h c {b} (passed l v g f) = form-exchanged b (lots h c) (few-lots h c v g)
 

@@ -4,8 +4,10 @@ use Prim.Native.Nat.{ℕ}
 use native.Mathlib.Omega.{arith}
 use mathlib.Core.Bool.{Bool, true, false}
 use lib.IntN.{ℤ, _+ℤ_, +ℤ-comm}
-use Rattle.distances.specs.Promises.{Counted, exchanged}
+use Rattle.distances.specs.Promises.{Counted, exchanged, exchangedSides}
 use Rattle.distances.specs.declared.Distance.{Distance}
+use Rattle.distances.specs.declared.Sides.{Sides}
+use Rattle.distances.specs.declared.Sides.the-variants as Sides
 use Rattle.distances.specs.declared.Answer.{Answer}
 use Rattle.distances.specs.declared.Answer.the-variants as Answer
 use Rattle.quote.specs.Quotes.{side, widening, bidPrice, askPrice, Judged, quoted, refused, judgeIf, judge, quotesBy, buildQuotes, withSteps, exactBy, exactAnswer, exactQuotes, wrapped, optimalQuotes, ofJudged, closedBy, closedAnswer, closedFormQuotes, exactSteps}
@@ -42,7 +44,7 @@ judged-is true false b a q e = cc
 judged-is true true b a q e = cc
 
 module _ (mid least : ℤ) where
-  built-is : (b a : Distance) (q : GlftQuotes) → buildQuotes mid least b a ≡ quoted q
+  pub built-is : (b a : Distance) (q : GlftQuotes) → buildQuotes mid least b a ≡ quoted q
       → let w = widening least (side b) (side a) in q ≡ record { bid = bidPrice mid w (side b); ask = askPrice mid w (side a) }
   unfolding buildQuotes quotesBy judge
   built-is b a q e = judged-is _ _ _ _ q e
@@ -52,7 +54,7 @@ module _ (mid least : ℤ) where
       rw (built-is b a q e, built-is a b q′ e′) (record { bid = facing mid least (side b) (side a); ask = facing mid least (side a) (side b) })
 
 -- ---- exact quotes
-with-steps-is : (s s′ : ℕ) (j : Judged) (q : GlftQuotes) → withSteps s j ≡ Exact.Quotes q s′ → (j ≡ quoted q) × (s ≡ s′)
+pub with-steps-is : (s s′ : ℕ) (j : Judged) (q : GlftQuotes) → withSteps s j ≡ Exact.Quotes q s′ → (j ≡ quoted q) × (s ≡ s′)
 unfolding withSteps
 with-steps-is s s′ (quoted p) q e = (cc, cc)
 with-steps-is s s′ (refused r) q e = (cc, cc)
@@ -73,7 +75,7 @@ exact-pairs mid h c vol t q q′ s s′ e e′ =
     exact-pair mid (c .«min_spread») (exactAnswer mid h c vol t) (exactSteps mid h c vol t) q q′ s s′ (exact-counted mid h c vol t .0) e (rw (exact-mirror mid h c vol t .0) at e′)
 
 -- ---- the wrapper's
-wrapped-is : (r : ExactQuotes) (q : GlftQuotes) (s : ℕ) → wrapped r ≡ Optimal.Quotes q s → r ≡ Exact.Quotes q s
+pub wrapped-is : (r : ExactQuotes) (q : GlftQuotes) (s : ℕ) → wrapped r ≡ Optimal.Quotes q s → r ≡ Exact.Quotes q s
 unfolding wrapped
 wrapped-is (Exact.Quotes p n) q s e = cc
 wrapped-is (Exact.OverStepCap need b n) q s e = cc
@@ -84,16 +86,15 @@ unfolding optimalQuotes
 optimal-pairs mid h c vol t q q′ s s′ e e′ = exact-pairs mid h c vol t q q′ s s′ (wrapped-is _ q s e) (wrapped-is _ q′ s′ e′)
 
 -- ---- those of the closed form
-of-judged-is : (j : Judged) (q : GlftQuotes) → ofJudged j ≡ Closed.Quotes q → j ≡ quoted q
+pub of-judged-is : (j : Judged) (q : GlftQuotes) → ofJudged j ≡ Closed.Quotes q → j ≡ quoted q
 unfolding ofJudged
 of-judged-is (quoted p) q e = cc
 of-judged-is (refused r) q e = cc
 
-closed-pair : (mid least : ℤ) (r : Answer) (q q′ : GlftQuotes) → closedBy mid least r ≡ Closed.Quotes q → closedBy mid least (exchanged r) ≡ Closed.Quotes q′ → Pair mid q q′
-unfolding closedBy exchanged
-closed-pair mid least (Answer.Distances b a t) q q′ e e′ = pair mid least b a q q′ (of-judged-is _ q e) (of-judged-is _ q′ e′)
-closed-pair mid least (Answer.OverCap need b t) q q′ e e′ = let z : _≡_ {A = ℕ} 0 1 = cc in absurd (omega arith)
-closed-pair mid least (Answer.Refused r) q q′ e e′ = let z : _≡_ {A = ℕ} 0 1 = cc in absurd (omega arith)
+closed-pair : (mid least : ℤ) (r : Sides) (q q′ : GlftQuotes) → closedBy mid least r ≡ Closed.Quotes q → closedBy mid least (exchangedSides r) ≡ Closed.Quotes q′ → Pair mid q q′
+unfolding closedBy exchangedSides
+closed-pair mid least (Sides.Distances b a) q q′ e e′ = pair mid least b a q q′ (of-judged-is _ q e) (of-judged-is _ q′ e′)
+closed-pair mid least (Sides.Refused r) q q′ e e′ = let z : _≡_ {A = ℕ} 0 1 = cc in absurd (omega arith)
 
 pub closed-pairs : ClosedPairs
 unfolding closedFormQuotes

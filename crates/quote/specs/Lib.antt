@@ -7,3 +7,5 @@ pub mod Quotes
 pub mod Inner
 pub mod Promises
 pub mod Replies
+pub mod Wrapper
+pub mod Presence

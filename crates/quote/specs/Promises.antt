@@ -9,7 +9,7 @@ use Rattle.elementary.specs.Elementary.{outside}
 use Rattle.vector.specs.Refusals.{configuration, numerical}
 use Rattle.distances.specs.Refusals.{holding}
 use Rattle.vector.specs.Run.{cap}
-use Rattle.distances.specs.Promises.{exchanged}
+use Rattle.distances.specs.Promises.{exchanged, exchangedSides}
 use Rattle.distances.specs.declared.Distance.{Distance}
 use Rattle.distances.specs.declared.Answer.{Answer}
 use Rattle.distances.specs.declared.Answer.the-variants as Answer
@@ -35,7 +35,7 @@ ExactMirror = (mid h : ℤ) (c : GLFTConfig) (vol : ℤ) (t : ℕ)
     → (exactAnswer mid (negℤ h) c vol t ≡ exchanged (exactAnswer mid h c vol t)) × (exactSteps mid (negℤ h) c vol t ≡ exactSteps mid h c vol t) × (exactSteps mid h c vol t ≤ cap)
 
 abbrev pub ClosedMirror : Type 0
-ClosedMirror = (mid h : ℤ) (c : GLFTConfig) (vol : ℤ) → closedAnswer mid (negℤ h) c vol ≡ exchanged (closedAnswer mid h c vol)
+ClosedMirror = (mid h : ℤ) (c : GLFTConfig) (vol : ℤ) → closedAnswer mid (negℤ h) c vol ≡ exchangedSides (closedAnswer mid h c vol)
 
 -- ---- (b) prices that face each other: both absent, or adding up to exactly twice the mid
 unfoldable pub Facing : ℤ → Price → Price → Type 0

@@ -46,5 +46,5 @@ pub(crate) fn distances(m: Model, q: i64) -> Sides
             return Sides::Distances(bid, ask);
         }
     }
-    Sides::Refused(11)
+    Sides::Refused(vector::refusals::NUMERICAL)
 }

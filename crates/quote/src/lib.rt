@@ -4,6 +4,7 @@ mod closed_form;
 mod config;
 mod parameters;
 mod quotes;
+pub mod refusals;
 mod rounding;
 
 ghost use mathlib.Core.Path.{_≡_};
@@ -117,9 +118,9 @@ impl GLFTConfig {
             if config::validate(c) {
                 return ConfigAnswer::Config(c);
             }
-            return ConfigAnswer::Refused(1);
+            return ConfigAnswer::Refused(vector::refusals::CONFIGURATION);
         }
-        ConfigAnswer::Refused(2)
+        ConfigAnswer::Refused(refusals::LIMITS)
     }
 }
 
@@ -133,11 +134,11 @@ impl Model {
                 if amounts::is_positive(mid_price) & amounts::is_positive(volatility) {
                     return parameters::from_amounts(inventory, config, volatility);
                 }
-                return ModelAnswer::Refused(3);
+                return ModelAnswer::Refused(refusals::MARKET);
             }
-            return ModelAnswer::Refused(1);
+            return ModelAnswer::Refused(vector::refusals::CONFIGURATION);
         }
-        ModelAnswer::Refused(2)
+        ModelAnswer::Refused(refusals::LIMITS)
     }
 }
 
@@ -154,7 +155,7 @@ impl GLFTStrategy {
         ensures { λ r. ⌜ r ≡ exactQuotes «mid_price» inventory config volatility «current_time» ⌝ }
     {
         if current_time > GLFTConfig::MAX_TIME {
-            return ExactQuotes::Refused(2);
+            return ExactQuotes::Refused(refusals::LIMITS);
         }
         let terminal = config.terminal_time;
         let least = config.min_spread;
@@ -180,7 +181,7 @@ impl GLFTStrategy {
     {
         match GLFTStrategy::exact_quotes(mid_price, inventory, config, volatility, current_time) {
             ExactQuotes::Quotes(q, steps) => OptimalQuotes::Quotes(q, steps),
-            ExactQuotes::OverStepCap(_, _, _) => OptimalQuotes::Refused(12),
+            ExactQuotes::OverStepCap(_, _, _) => OptimalQuotes::Refused(refusals::CAPPED),
             ExactQuotes::Refused(number) => OptimalQuotes::Refused(number),
         }
     }

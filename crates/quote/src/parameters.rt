@@ -12,6 +12,9 @@ use crate::amounts::to_f64;
 
 const SECONDS_PER_YEAR: f64 = 31536000.0;
 
+// Times are in milliseconds.
+const PER_SECOND: f64 = 1000.0;
+
 // Whether every amount and time of a call is within its limit.
 pub(crate) fn limits_fit(mid: i64, inventory: i64, config: GLFTConfig, volatility: i64) -> bool
     ensures { λ r. ⌜ r ≡ modelLimits mid inventory config volatility ⌝ }
@@ -30,7 +33,7 @@ pub(crate) fn seconds_to_terminal(terminal: u64, current: u64) -> f64
     if current < terminal {
         left = terminal - current;
     }
-    std::num::nearest_u64_to_f64(left) / 1000.0
+    std::num::nearest_u64_to_f64(left) / PER_SECOND
 }
 
 // The holding in lots, cut toward zero.
@@ -104,7 +107,7 @@ pub(crate) fn from_amounts(inventory: i64, config: GLFTConfig, volatility: i64) 
         if floats_fit(m) {
             return ModelAnswer::Model(m, lots_of(inventory, config));
         }
-        return ModelAnswer::Refused(5);
+        return ModelAnswer::Refused(elementary::OUTSIDE);
     }
-    ModelAnswer::Refused(4)
+    ModelAnswer::Refused(distances::refusals::HOLDING)
 }

@@ -14,6 +14,7 @@ use crate::Model;
 use crate::Price;
 use crate::amounts::amount_fits;
 use crate::amounts::is_positive;
+use crate::refusals;
 use crate::rounding::Rounded;
 use distances::Answer;
 use distances::Distance;
@@ -70,9 +71,9 @@ fn both_sides(mid: i64, least: i64, b: i64, a: i64) -> Built
                 ask: Price::At(ask),
             });
         }
-        return Built::Refused(14);
+        return Built::Refused(refusals::CROSSED);
     }
-    Built::Refused(13)
+    Built::Refused(refusals::BEYOND)
 }
 
 // A bid alone.
@@ -88,9 +89,9 @@ fn bid_alone(mid: i64, least: i64, b: i64) -> Built
                 ask: Price::Absent,
             });
         }
-        return Built::Refused(14);
+        return Built::Refused(refusals::CROSSED);
     }
-    Built::Refused(13)
+    Built::Refused(refusals::BEYOND)
 }
 
 // An ask alone.
@@ -106,9 +107,9 @@ fn ask_alone(mid: i64, least: i64, a: i64) -> Built
                 ask: Price::At(ask),
             });
         }
-        return Built::Refused(14);
+        return Built::Refused(refusals::CROSSED);
     }
-    Built::Refused(13)
+    Built::Refused(refusals::BEYOND)
 }
 
 // Quotes with a bid, for each ask.
@@ -119,7 +120,7 @@ fn with_bid(mid: i64, least: i64, b: i64, ask: Side) -> Built
     match ask {
         Side::At(a) => both_sides(mid, least, b, a),
         Side::Absent => bid_alone(mid, least, b),
-        Side::Beyond => Built::Refused(13),
+        Side::Beyond => Built::Refused(refusals::BEYOND),
     }
 }
 
@@ -134,7 +135,7 @@ fn without_bid(mid: i64, least: i64, ask: Side) -> Built
             bid: Price::Absent,
             ask: Price::Absent,
         }),
-        Side::Beyond => Built::Refused(13),
+        Side::Beyond => Built::Refused(refusals::BEYOND),
     }
 }
 
@@ -148,7 +149,7 @@ fn build_quotes(mid: i64, least: i64, bid: Distance, ask: Distance) -> Built
     match side_of(bid) {
         Side::At(b) => with_bid(mid, least, b, a),
         Side::Absent => without_bid(mid, least, a),
-        Side::Beyond => Built::Refused(13),
+        Side::Beyond => Built::Refused(refusals::BEYOND),
     }
 }
 

@@ -18,6 +18,8 @@ const HIDDEN: u64 = 4503599627370496;
 // of high words.
 const WORD: u64 = 268435456;
 
+const BILLION: u64 = 1000000000;
+
 // 2^-31. What is below has less than half a billionth.
 const LEAST: f64 = 4.656612873077393e-10;
 
@@ -41,8 +43,8 @@ fn times_billion(n: u64) -> Wide
     requires { ⌜ n < 2 ^ 53 ⌝ }
     ensures { λ r. ⌜ (r .high * 2 ^ 28 + r .low ≡ n * billion) × (r .high < 2 ^ 55) × (r .low < 2 ^ 28) ⌝ }
 {
-    let low = n % WORD * 1000000000;
-    let high = n / WORD * 1000000000;
+    let low = n % WORD * BILLION;
+    let high = n / WORD * BILLION;
     Wide {
         high: high + low / WORD,
         low: low % WORD,

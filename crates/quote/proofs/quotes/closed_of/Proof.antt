@@ -21,15 +21,15 @@ reply-is (quoted q) = refl
 reply-is (refused r) = refl
 
 closed-is : (c : tie.After-build-quotes) → let s = c .before .before .before .before in
-    closedBy (s .args .mid) (s .args .least) (s .args .answer) ≡ reply (c .build-quotes .result)
+    closedBy (s .args .mid) (s .args .least) (s .args .sides) ≡ reply (c .build-quotes .result)
 unfolding closedBy
 closed-is c =
     let a = c .before .before in
     let s = a .before .before in
-    rw (a .answer .given .1, c .build-quotes .ensures, toZ-ofZ (s .fits .mid), toZ-ofZ (s .fits .least), reply-is)
+    rw (a .sides .given .1, c .build-quotes .ensures, toZ-ofZ (s .fits .mid), toZ-ofZ (s .fits .least), reply-is)
 
-enum-known-answer : tie.Need-enum-known-answer
-enum-known-answer c = search needs
+enum-known-sides : tie.Need-enum-known-sides
+enum-known-sides c = search needs
 
 build-quotes-requires : tie.Need-build-quotes-requires
 build-quotes-requires c κs = search needs
@@ -40,11 +40,8 @@ enum-known-q c = search needs
 enum-known-number : tie.Need-enum-known-number
 enum-known-number c = search needs
 
-enum-told : tie.Need-enum-told
-enum-told c = search needs
-
-enum-known-answer-2 : tie.Need-enum-known-answer-2
-enum-known-answer-2 c = search needs
+enum-known-sides-2 : tie.Need-enum-known-sides-2
+enum-known-sides-2 c = search needs
 
 returns : tie.Need-returns
 unfolding reply
@@ -56,23 +53,17 @@ returns-2 c = rw (closed-is (c .before .before .before), c .before .number .give
 
 returns-3 : tie.Need-returns-3
 unfolding closedBy
-returns-3 c = rw (c .enum-told .given .1)
-
-returns-4 : tie.Need-returns-4
-unfolding closedBy
-returns-4 c = rw (c .before .answer2 .given .1)
+returns-3 c = rw (c .before .sides2 .given .1)
 
 pub closed-of-spec : {M : Type 1} → statement M
 closed-of-spec =
     tie.close
     (tie.spec
-    enum-known-answer
+    enum-known-sides
     build-quotes-requires
     enum-known-q
     enum-known-number
-    enum-told
-    enum-known-answer-2
+    enum-known-sides-2
     returns
     returns-2
-    returns-3
-    returns-4)
+    returns-3)
