@@ -11,3 +11,5 @@ pub mod FloatMirror
 pub mod Turns
 pub mod Spent
 pub mod AtEnd
+pub mod Summing
+pub mod Causes

@@ -5,3 +5,4 @@ pub mod Run
 pub mod Distances
 pub mod Inner
 pub mod Promises
+pub mod Causes
