@@ -13,3 +13,4 @@ pub mod Spent
 pub mod AtEnd
 pub mod Summing
 pub mod Causes
+pub mod Weights

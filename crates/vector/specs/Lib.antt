@@ -6,3 +6,4 @@ pub mod Distances
 pub mod Inner
 pub mod Promises
 pub mod Causes
+pub mod Weights
