@@ -1,7 +1,6 @@
 -- A Taylor step refuses just where its series fails. Assumes nothing.
 use mathlib.Core.Path.{_≡_, refl, sym, ap, ap₂, _∙_}
 use Prim.Native.Nat.{ℕ, zero, suc, _+_, _-_, _≤_}
-use native.Mathlib.Nat.{le-refl}
 use native.Mathlib.Omega.{arith}
 use mathlib.Core.Bool.{Bool, true, false}
 use mathlib.Core.List.{List}
@@ -28,23 +27,23 @@ module _ (p : Operator) (eta : Float) where
 
   module _ (v : List Float) where
     -- the definition meets the same states, 101 - j terms being left
-    meets : {j : ℕ} {t s : List Float} → Summing p eta v j t s → j ≤ suc mostTerms → taylorStep p eta v ≡ series (suc mostTerms - j) p eta j (summing t s)
+    meets : {j : ℕ} {t s : List Float} → Summing p eta v j t s → taylorStep p eta v ≡ series (suc mostTerms - j) p eta j (summing t s)
     unfolding taylorStep judge
-    meets begun h = refl
-    meets (more {j} {t} {s} r f c) h =
+    meets begun = refl
+    meets (more {j} {t} {s} m h f c) =
         let e : suc mostTerms - j - 1 ≡ suc mostTerms - suc j = omega arith in
-        meets r (omega arith) ∙ rw e at (by-tests (suc mostTerms - j) j t s true false (omega arith) f c)
+        meets m ∙ rw e at (by-tests (suc mostTerms - j) j t s true false (omega arith) f c)
 
     ends : {j : ℕ} {t s : List Float} → Summing p eta v j t s → j ≤ mostTerms → (a b : Bool) → termFinite p eta j t s ≡ a → termConverged p eta j t s ≡ b
         → (r : Reply (List Float)) → judge a b (p .n) (term p eta j t) (sumWith p eta j t s) ≡ summed r → taylorStep p eta v ≡ r
     ends {j} {t} {s} m h a b f c r e =
         let k = suc mostTerms - j in
-        meets m (omega arith) ∙ by-tests k j t s a b (omega arith) f c ∙ ap (series (k - 1) p eta (suc j)) e ∙ at-end (k - 1) (suc j) r
+        meets m ∙ by-tests k j t s a b (omega arith) f c ∙ ap (series (k - 1) p eta (suc j)) e ∙ at-end (k - 1) (suc j) r
 
     fails : SeriesFails p eta v → taylorStep p eta v ≡ refusal numerical
     unfolding judge given series
     fails (not-finite m h f) = ends m h false _ f refl _ refl
-    fails (not-converged m) = meets m (le-refl _)
+    fails (not-converged m) = meets m
     fails (not-positive m h f c z) = ends m h true true f c _ (rw z)
 
     -- where the k terms left end in a refusal, it is 11 and the series fails
@@ -66,7 +65,7 @@ module _ (p : Operator) (eta : Float) where
             → (Summing p eta v (suc j) (term p eta j t) (sumWith p eta j t s) → series k p eta (suc j) (summing (term p eta j t) (sumWith p eta j t s)) ≡ refusal n → Refused n)
             → Refused n
         go false b f c i on = (cc (at-end k (suc j) (refusal numerical)), not-finite r (omega arith) f)
-        go true false f c i on = on (more r f c) i
+        go true false f c i on = on (more r (omega arith) f c) i
         go true true f c i on = over (sumPositive p eta j t s) refl f c (sym (at-end k (suc j) _) ∙ i)
 
 pub series-refused : SeriesRefused

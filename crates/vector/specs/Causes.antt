@@ -29,10 +29,10 @@ termConverged p eta j t s = converged (p .n) (sumWith p eta j t s) (term p eta j
 abbrev pub sumPositive : Operator → Float → ℕ → List Float → List Float → Bool
 sumPositive p eta j t s = every (p .n) (λ i. lt 0ᶠ (at (sumWith p eta j t s) i))
 
--- what a series from v meets: the last term and the sum before term j, every one so far finite and not converged
+-- what a series from v meets: the last term and the sum before term j, where terms 1 to j - 1 and their sums are finite and have not converged
 pub data Summing (p : Operator) (eta : Float) (v : List Float) : ℕ → List Float → List Float → Type 0 where
   begun : Summing p eta v 1 v v
-  more : {j : ℕ} {t s : List Float} → Summing p eta v j t s → termFinite p eta j t s ≡ true → termConverged p eta j t s ≡ false
+  more : {j : ℕ} {t s : List Float} → Summing p eta v j t s → j ≤ mostTerms → termFinite p eta j t s ≡ true → termConverged p eta j t s ≡ false
       → Summing p eta v (suc j) (term p eta j t) (sumWith p eta j t s)
 
 -- why a series fails: one of its 100 terms or its sum is not finite; none of the 100 converges; one does, and an entry of the sum is not above zero
