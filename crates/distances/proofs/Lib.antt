@@ -3,3 +3,5 @@ pub mod AtEnd
 pub mod FloatMirror
 pub mod Counting
 pub mod Presence
+pub mod Weights
+pub mod Refusing

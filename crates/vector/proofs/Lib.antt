@@ -9,4 +9,7 @@ pub mod Extremes
 pub mod Mirror
 pub mod OwnMirror
 pub mod Turns
+pub mod Summing
+pub mod Causes
+pub mod Refusing
 pub mod Spent

@@ -1,4 +1,4 @@
--- A run spends at most the cap, and a cap report is of more steps than the budget left. Assumes nothing.
+-- A run spends at most the cap, and a cap report leaves at most the whole budget. Assumes nothing.
 use mathlib.Core.Path.{subst}
 use Prim.Native.Nat.{ℕ, zero, suc, _≤_}
 use native.Mathlib.Nat.{le-refl, le-trans}
@@ -8,7 +8,7 @@ use mathlib.Core.List.{List}
 use lib.Ieee.{Float, lt}
 use Rattle.elementary.specs.Float.{0ᶠ}
 use Rattle.vector.specs.Run.{Ended, vector, overCap, failed, Fixed, Turn, going, ended, cap, turn, runOn, fixed, runFor, run, spent}
-use Rattle.vector.specs.Promises.{StepsWithin, BudgetWithin, CapNeedsPlan, SumOf}
+use Rattle.vector.specs.Promises.{StepsWithin, BudgetWithin, SumOf}
 use Rattle.vector.proofs.Turns.{EndOk, TurnOk, begin-ok, turn-ok}
 
 -- ---- the run, of whatever weights
@@ -43,9 +43,6 @@ spent-within (failed s) e = e
 
 pub steps-within : StepsWithin
 steps-within bound alpha eta tau = spent-within (run bound alpha eta tau) (run-ok bound alpha eta tau)
-
-pub cap-needs-plan : CapNeedsPlan
-cap-needs-plan bound alpha eta tau need b e = subst (EndOk cap Any) e (run-ok bound alpha eta tau) .1
 
 pub budget-within : BudgetWithin
 budget-within bound alpha eta tau need b e = subst (EndOk cap Any) e (run-ok bound alpha eta tau) .0

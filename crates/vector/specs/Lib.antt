@@ -5,3 +5,5 @@ pub mod Run
 pub mod Values
 pub mod Inner
 pub mod Promises
+pub mod Causes
+pub mod Refusing

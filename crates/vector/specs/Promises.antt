@@ -3,11 +3,9 @@ use mathlib.Core.Path.{_≡_}
 use Prim.Native.Nat.{ℕ, suc, _+_, _≤_}
 use mathlib.Core.Bool.{Bool}
 use mathlib.Core.List.{List}
-use lib.IntN.{pos}
-use lib.Dec.{T}
 use lib.ListN.{length}
-use lib.Ieee.{Float, lt}
-use Rattle.elementary.specs.Float.{_⊕_, _⊗_, whole, 1ᶠ}
+use lib.Ieee.{Float}
+use Rattle.elementary.specs.Float.{_⊕_, _⊗_, 1ᶠ}
 use Rattle.elementary.specs.Reply.{value}
 use Rattle.elementary.specs.Elementary.{LN, orNan}
 use Rattle.vector.specs.Vectors.{at, tab, fill}
@@ -25,10 +23,6 @@ BudgetWithin = (bound : ℕ) (alpha eta tau need : Float) (b : ℕ) → run boun
 -- ---- a finished run has a weight and an offset for each row
 abbrev pub FullLength : Type 0
 FullLength = (bound : ℕ) (alpha eta tau : Float) (w o : List Float) (s : ℕ) → run bound alpha eta tau ≡ vector w o s → (length w ≡ rows bound) × (length o ≡ rows bound)
-
--- ---- a cap report needs a plan above the budget
-abbrev pub CapNeedsPlan : Type 0
-CapNeedsPlan = (bound : ℕ) (alpha eta tau need : Float) (b : ℕ) → run bound alpha eta tau ≡ overCap need b → T (lt (whole (pos b)) need)
 
 -- ---- each step is the Taylor sum of the weights before it, divided by its largest entry
 -- the weights and offsets after a step whose sum is v: as divided, or rebalanced

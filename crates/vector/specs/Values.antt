@@ -42,5 +42,9 @@ vectorIf false b alpha eta bound tau = refusedVector outside
 vectorIf true false alpha eta bound tau = refusedVector configuration
 vectorIf true true alpha eta bound tau = vectorBy (rows bound) (run bound alpha eta tau)
 
+-- alpha and eta finite and above zero, tau finite
+unfoldable pub ratesOk : Float → Float → Float → Bool
+ratesOk alpha eta tau = positive alpha && positive eta && finite tau
+
 unfoldable pub valueVector : Float → Float → ℕ → Float → VectorAnswer
-valueVector alpha eta bound tau = vectorIf (positive alpha && positive eta && finite tau) (boundOk bound) alpha eta bound tau
+valueVector alpha eta bound tau = vectorIf (ratesOk alpha eta tau) (boundOk bound) alpha eta bound tau

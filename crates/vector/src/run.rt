@@ -2,15 +2,14 @@
 // rebalancing. Every slice has an entry for each row.
 ghost use mathlib.Core.Path.{_≡_};
 ghost use Prim.Native.Nat.{_-_, _≤_};
-ghost use mathlib.Core.Bool.{_&&_};
 ghost use lib.ListN.{length};
 ghost use lib.Ieee.{inf};
 ghost use mathlib.Core.Bool.{false};
-ghost use Rattle.elementary.specs.Float.{_⊕_, _⊗_, _⊘_, 0ᶠ, 1ᶠ, finite, positive};
+ghost use Rattle.elementary.specs.Float.{_⊕_, _⊗_, _⊘_, 0ᶠ, 1ᶠ, positive};
 ghost use Rattle.elementary.specs.Elementary.{LN, orNan};
 ghost use Rattle.vector.specs.Vectors.{tab, at, fill, every, fold, larger, smaller};
 ghost use Rattle.vector.specs.Run.{boundOk, rows, cap, run, runOn, begin, divided};
-ghost use Rattle.vector.specs.Values.{padded, blankVector, refusedVector, vectorBy};
+ghost use Rattle.vector.specs.Values.{padded, blankVector, refusedVector, vectorBy, ratesOk};
 ghost use Rattle.vector.specs.Inner.{fixedOver, outcomeWith, pacedOf, askedOf, stoppedOf, refusedPace, endBy, Sizes, AfterIs, BegunIs, PlanSpent, EndIs};
 use crate::MAX_BOUND;
 use crate::MAX_ROWS;
@@ -340,7 +339,7 @@ fn answer_of(outcome: Outcome, vector: ValueVector) -> VectorAnswer
 
 // Whether alpha and eta are finite and above zero, and tau is finite.
 pub(crate) fn floats_fit(alpha: f64, eta: f64, tau: f64) -> bool
-    ensures { λ r. ⌜ r ≡ (positive alpha && positive eta && finite tau) ⌝ }
+    ensures { λ r. ⌜ r ≡ ratesOk alpha eta tau ⌝ }
 {
     elementary::is_positive_finite(alpha)
         & elementary::is_positive_finite(eta)

@@ -8,7 +8,7 @@ use mir.Facts.{toZ-ofZ}
 use borrow.Author.Needs.{needs}
 use Rattle.elementary.specs.Float.{finite, positive}
 use Rattle.vector.specs.Run.{Ended, vector, overCap, failed, boundOk, rows, run}
-use Rattle.vector.specs.Values.{vectorOf, blankVector, refusedVector, vectorBy, vectorIf, valueVector}
+use Rattle.vector.specs.Values.{vectorOf, blankVector, refusedVector, vectorBy, vectorIf, ratesOk, valueVector}
 use Rattle.distances.specs.Distances.{place, exactAt}
 use Rattle.distances.specs.FloatEntry.{refusedEntry, withVector, answerBy, floatsOk}
 use Rattle.vector.specs.declared.ValueVector.{ValueVector}
@@ -44,7 +44,7 @@ inner true true true true t h = h
 
 vector-is : (k alpha eta base : Float) (bound : ℕ) (tau : Float) → floatsOk k alpha eta base tau ≡ true → boundOk bound ≡ true
     → valueVector alpha eta bound tau ≡ vectorBy (rows bound) (run bound alpha eta tau)
-unfolding floatsOk valueVector vectorIf
+unfolding floatsOk valueVector ratesOk vectorIf
 vector-is k alpha eta base bound tau f b = rw (inner (positive k) (positive alpha) (positive eta) (positive base) (finite tau) f, b)
 
 come : (c : tie.After-value-vector) → let a = c .before .args in c .value-vector .result ≡ vectorBy (rows (a .bound)) (run (a .bound) (a .alpha) (a .eta) (a .tau))

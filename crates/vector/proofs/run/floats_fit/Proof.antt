@@ -1,4 +1,5 @@
 use borrow.Author.Needs.{needs}
+use Rattle.vector.specs.Values.{ratesOk}
 use Rattle.vector.proofs.run.floats_fit.Statement.{statement}
 use Rattle.vector.proofs.run.floats_fit.Tie as tie
 
@@ -12,6 +13,7 @@ is-finite-requires : tie.Need-is-finite-requires
 is-finite-requires c κs = search needs
 
 returns : tie.Need-returns
+unfolding ratesOk
 returns c = rw (c .before .before .is-positive-finite .ensures, c .before .is-positive-finite2 .ensures, c .is-finite .ensures)
 
 pub floats-fit-spec : {M : Type 1} → statement M
