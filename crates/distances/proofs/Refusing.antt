@@ -1,7 +1,7 @@
 -- Each refusal of this layer is the reply in just the situation that the paper names. Assumes nothing.
 use mathlib.Core.Path.{_≡_, refl, sym, ap, _∙_, subst}
 use mathlib.Core.Logic.{_⊎_, inl, inr}
-use Prim.Native.Nat.{ℕ, zero, suc, _/_, _<_}
+use Prim.Native.Nat.{ℕ, zero, suc, _-_, _/_, _<_}
 use native.Mathlib.Omega.{arith}
 use mathlib.Core.Bool.{Bool, true, false, _&&_}
 use borrow.Author.Tests.{ltb-true, lt-ltb}
@@ -10,14 +10,14 @@ use lib.Dec.{ltb}
 use lib.Ieee.{Float}
 use Rattle.elementary.specs.Float.{positive}
 use Rattle.vector.specs.Refusals.{numerical}
-use Rattle.vector.specs.Run.{Ended, vector, overCap, failed, boundOk, rows, run}
+use Rattle.vector.specs.Run.{Ended, vector, overCap, failed, cap, boundOk, rows, run}
 use Rattle.vector.specs.Values.{vectorOf}
 use Rattle.vector.specs.declared.ValueVector.{ValueVector}
-use Rattle.vector.proofs.Causes.{runs-fail}
+use Rattle.vector.proofs.Causes.{runs-fail, cap-reports}
 use Rattle.distances.specs.Distances.{within, place, lengthOk, bidAt, askAt, fine, sides, exactAt, distancesIf, exactDistances}
 use Rattle.distances.specs.Weights.{DistanceFails}
 use Rattle.distances.specs.FloatEntry.{refusedEntry, withVector, answerBy, entryIf, floatsOk, floatEntry}
-use Rattle.distances.specs.Refusing.{ReadFails, by-bid, by-ask, ReadsFail, DistancesRefused, by-5, by-1, by-4, by-11, DistancesRefusals, EntryFails, by-run, by-read, FloatRefused, at-5, at-1, at-4, at-11, FloatRefusals}
+use Rattle.distances.specs.Refusing.{ReadFails, by-bid, by-ask, ReadsFail, DistancesRefused, by-5, by-1, by-4, by-11, DistancesRefusals, EntryFails, by-run, by-read, FloatRefused, at-5, at-1, at-4, at-11, FloatRefusals, FloatReported, FloatReports}
 use Rattle.distances.specs.declared.Distance.{Distance}
 use Rattle.distances.specs.declared.Sides.{Sides}
 use Rattle.distances.specs.declared.Sides.the-variants as Sides
@@ -123,3 +123,35 @@ float-refusals k alpha eta base bound tau q n = (to (floatsOk k alpha eta base t
     from m (at-1 ef eb) = rw (ef, eb)
     from m (at-4 ef eb eh) = rw (ef, eb, eh)
     from m (at-11 ef eb eh r) = rw (ef, eb, eh) (ends k alpha eta base bound tau q r)
+
+-- ---- the cap report
+with-report : (v : ValueVector) (t : ℕ) (r : Sides) (need : Float) (b s : ℕ) → withVector v t r .answer ≡ Answer.OverCap need b s → _≡_ {A = ℕ} 0 1
+unfolding withVector refusedEntry
+with-report v t (Sides.Distances x y) need b s e = cc
+with-report v t (Sides.Refused r) need b s e = cc
+
+reported : (bound : ℕ) (k base : Float) (q : ℤ) (e : Ended) (need : Float) (b s : ℕ) → answerBy bound k base q e .answer ≡ Answer.OverCap need b s → (e ≡ overCap need b) × (s ≡ cap - b)
+unfolding answerBy refusedEntry
+reported bound k base q (vector w o t) need b s i = let z = with-report _ t _ need b s i in absurd (omega arith)
+reported bound k base q (overCap n l) need b s i =
+    let en : n ≡ need = cc in
+    let el : l ≡ b = cc in
+    (rw (en, el), rw (← el) (cc))
+reported bound k base q (failed t) need b s i = let z : _≡_ {A = ℕ} 0 1 = cc in absurd (omega arith)
+
+pub float-reports : FloatReports
+unfolding floatEntry entryIf answerBy refusedEntry
+float-reports k alpha eta base bound tau q need b s = (to (floatsOk k alpha eta base tau) (boundOk bound) (within bound q) refl refl refl, from)
+  where
+    to : (f c h : Bool) → floatsOk k alpha eta base tau ≡ f → boundOk bound ≡ c → within bound q ≡ h → entryIf f c h k alpha eta base bound tau q .answer ≡ Answer.OverCap need b s
+        → FloatReported k alpha eta base bound tau q need b s
+    to false c h ef ec eh e = let z : _≡_ {A = ℕ} 0 1 = cc in absurd (omega arith)
+    to true false h ef ec eh e = let z : _≡_ {A = ℕ} 0 1 = cc in absurd (omega arith)
+    to true true false ef ec eh e = let z : _≡_ {A = ℕ} 0 1 = cc in absurd (omega arith)
+    to true true true ef ec eh e =
+        let r = reported bound k base q (run bound alpha eta tau) need b s e in
+        let c = cap-reports bound alpha eta tau need b .0 (r .0) in
+        record { floats = ef; bound-ok = ec; held = eh; time = c .0; report = c .1; steps = r .1 }
+
+    from : FloatReported k alpha eta base bound tau q need b s → entryIf (floatsOk k alpha eta base tau) (boundOk bound) (within bound q) k alpha eta base bound tau q .answer ≡ Answer.OverCap need b s
+    from r = rw (r .floats, r .bound-ok, r .held, cap-reports bound alpha eta tau need b .1 (r .time, r .report), r .steps)

@@ -1,7 +1,7 @@
--- The refusals of this layer: each number is the reply in just the situation that document 01 names. Each statement is proved once, in proofs/. Definitions only.
+-- The refusals of this layer, and the cap report: each is the reply in just the situation that document 01 names. Each statement is proved once, in proofs/. Definitions only.
 use mathlib.Core.Path.{_≡_}
 use mathlib.Core.Logic.{_↔_}
-use Prim.Native.Nat.{ℕ, suc, _/_, _<_}
+use Prim.Native.Nat.{ℕ, suc, _-_, _/_, _<_}
 use mathlib.Core.Bool.{true, false, _&&_}
 use mathlib.Core.List.{List}
 use lib.IntN.{ℤ}
@@ -9,9 +9,9 @@ use lib.Ieee.{Float, lt}
 use Rattle.elementary.specs.Float.{0ᶠ, positive}
 use Rattle.elementary.specs.Elementary.{outside}
 use Rattle.vector.specs.Refusals.{configuration, numerical}
-use Rattle.vector.specs.Run.{vector, boundOk, rows, fixed, run}
+use Rattle.vector.specs.Run.{vector, cap, boundOk, rows, fixed, run}
 use Rattle.vector.specs.Values.{vectorOf}
-use Rattle.vector.specs.Causes.{RunFails}
+use Rattle.vector.specs.Causes.{RunFails, CapReported}
 use Rattle.vector.specs.declared.ValueVector.{ValueVector}
 use Rattle.distances.specs.Refusals.{holding}
 use Rattle.distances.specs.Distances.{within, place, lengthOk, exactAt, exactDistances}
@@ -55,3 +55,16 @@ pub data FloatRefused (k alpha eta base : Float) (bound : ℕ) (tau : Float) (q 
 abbrev pub FloatRefusals : Type 0
 FloatRefusals = (k alpha eta base : Float) (bound : ℕ) (tau : Float) (q : ℤ) (n : ℕ)
     → (floatEntry k alpha eta base bound tau q .answer ≡ Answer.Refused n) ↔ FloatRefused k alpha eta base bound tau q n
+
+-- ---- the cap report, where the checks pass: a plan of the run needs more steps than the budget left; with it come the steps spent
+pub record FloatReported (k alpha eta base : Float) (bound : ℕ) (tau : Float) (q : ℤ) (need : Float) (b s : ℕ) : Type 0 where
+  pub floats : floatsOk k alpha eta base tau ≡ true
+  pub bound-ok : boundOk bound ≡ true
+  pub held : within bound q ≡ true
+  pub time : lt 0ᶠ tau ≡ true
+  pub report : CapReported (fixed bound alpha eta) tau need b
+  pub steps : s ≡ cap - b
+
+abbrev pub FloatReports : Type 0
+FloatReports = (k alpha eta base : Float) (bound : ℕ) (tau : Float) (q : ℤ) (need : Float) (b s : ℕ)
+    → (floatEntry k alpha eta base bound tau q .answer ≡ Answer.OverCap need b s) ↔ FloatReported k alpha eta base bound tau q need b s

@@ -19,7 +19,7 @@ use Rattle.distances.proofs.FloatMirror.{float-mirror, sides-exchanged}
 use Rattle.distances.proofs.Counting.{steps-counted}
 use Rattle.quote.specs.Configuration.{amountOk, timeOk, configOk}
 use Rattle.quote.specs.Model.{lots, holdingOk, modelIf, modelLimits, newModel, tauOf}
-use Rattle.quote.specs.ClosedForm.{slope, formBid, formAsk, formIf, closedFormDistances}
+use Rattle.quote.specs.ClosedForm.{slope, formBid, formAsk, bidForm, askForm, formIf, closedFormDistances}
 use Rattle.quote.specs.Quotes.{exactFrom, exactIf, exactAnswer, closedFrom, closedAnswer, stepsFrom, stepsIf, exactSteps}
 use Rattle.quote.specs.Promises.{ExactMirror, ClosedMirror}
 use Rattle.quote.specs.declared.GLFTConfig.{GLFTConfig}
@@ -124,25 +124,28 @@ form-side true base c q h =
     let x = 2ᶠ ⊗ whole q ⊕ 1ᶠ in
     ap At (rw (turned q h, div-neg-left binary64 x 2ᶠ, mul-neg-left binary64 (x ⊘ 2ᶠ) c, sub-neg binary64 base (x ⊘ 2ᶠ ⊗ c)))
 
-form-exchanged : (m : Model) (q : ℤ) → natAbs q ≤ largestBound → closedFormDistances m (negℤ q) ≡ exchangedSides (closedFormDistances m q)
-unfolding closedFormDistances formIf exchangedSides
-form-exchanged m q h = go (positive (slope m))
-  where
-    bid : (c : Float) → formBid (ltZ (negℤ q) (pos (m .«q_max»))) (m .base) c (whole (negℤ q)) ≡ formAsk (ltZ (negℤ (pos (m .«q_max»))) q) (m .base) c (whole q)
-    bid c = rw (← form-side (ltZ (negℤ q) (pos (m .«q_max»))) (m .base) c (negℤ q) (rw (natAbs-neg q) h), ← ltZ-neg (negℤ q) (pos (m .«q_max»)), negℤ-negℤ q)
+module _ (m : Model) (q : ℤ) (h : natAbs q ≤ largestBound) where
+  bid-opposed : bidForm m (negℤ q) ≡ askForm m q
+  unfolding bidForm askForm
+  bid-opposed = rw (← form-side (ltZ (negℤ q) (pos (m .«q_max»))) (m .base) (slope m) (negℤ q) (rw (natAbs-neg q) h), ← ltZ-neg (negℤ q) (pos (m .«q_max»)), negℤ-negℤ q)
 
-    ask : (c : Float) → formAsk (ltZ (negℤ (pos (m .«q_max»))) (negℤ q)) (m .base) c (whole (negℤ q)) ≡ formBid (ltZ q (pos (m .«q_max»))) (m .base) c (whole q)
-    ask c = rw (ltZ-neg q (pos (m .«q_max»)), form-side (ltZ q (pos (m .«q_max»))) (m .base) c q h)
+  ask-opposed : askForm m (negℤ q) ≡ bidForm m q
+  unfolding bidForm askForm
+  ask-opposed = rw (ltZ-neg q (pos (m .«q_max»)), form-side (ltZ q (pos (m .«q_max»))) (m .base) (slope m) q h)
 
-    go : (t : Bool) → formIf t (slope m) m (negℤ q) ≡ exchangedSides (formIf t (slope m) m q)
-    go true = rw (bid (slope m), ask (slope m)) (sides-exchanged _ _)
-    go false = refl
+  form-exchanged : closedFormDistances m (negℤ q) ≡ exchangedSides (closedFormDistances m q)
+  unfolding closedFormDistances formIf exchangedSides
+  form-exchanged = go (positive (slope m))
+    where
+      go : (t : Bool) → formIf t m (negℤ q) ≡ exchangedSides (formIf t m q)
+      go true = rw (bid-opposed, ask-opposed) (sides-exchanged _ _)
+      go false = refl
 
 closed-opposed : {l m f : Bool} (h : ℤ) (c : GLFTConfig) {b : Model} {a : ModelAnswer} → Outcome l (configOk c) m (holdingOk h c) f b (lots h c) a
     → closedFrom (opposed a) ≡ exchangedSides (closedFrom a)
 unfolding opposed closedFrom exchangedSides
 closed-opposed h c (stopped k) = refl
-closed-opposed h c {b} (passed l v g f) = form-exchanged b (lots h c) (few-lots h c v g)
+closed-opposed h c {b} (passed l v m g f) = form-exchanged b (lots h c) (few-lots h c v g)
 
 pub closed-mirror : ClosedMirror
 unfolding closedAnswer newModel

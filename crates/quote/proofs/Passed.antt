@@ -28,7 +28,7 @@ use Rattle.quote.specs.declared.ModelAnswer.the-variants.{Refused, Model
 -- ---- the tests for 2, 1, 3, 4 and 5, in this order
 pub data Outcome (l v m h f : Bool) (b : Model) (q : ℤ) : ModelAnswer → Type 0 where
   stopped : {n : ℕ} → Checked l v m h f n → Outcome l v m h f b q (Refused n)
-  passed : l ≡ true → v ≡ true → h ≡ true → f ≡ true → Outcome l v m h f b q (Made b q)
+  passed : l ≡ true → v ≡ true → m ≡ true → h ≡ true → f ≡ true → Outcome l v m h f b q (Made b q)
 
 pub outcome : (l v m h f : Bool) (b : Model) (q : ℤ) → Outcome l v m h f b q (modelIf l v m h f b q)
 unfolding modelIf
@@ -37,7 +37,7 @@ outcome true false m h f b q = stopped by-1
 outcome true true false h f b q = stopped by-3
 outcome true true true false f b q = stopped by-4
 outcome true true true true false b q = stopped by-5
-outcome true true true true true b q = passed refl refl refl refl
+outcome true true true true true b q = passed refl refl refl refl refl
 
 pub stops : {l v m h f : Bool} {n : ℕ} (b : Model) (q : ℤ) → Checked l v m h f n → modelIf l v m h f b q ≡ Refused n
 unfolding modelIf

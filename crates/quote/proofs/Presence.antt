@@ -19,7 +19,7 @@ use Rattle.distances.specs.declared.Answer.the-variants as Answer
 use Rattle.distances.proofs.Presence.{float-presence, sides-are}
 use Rattle.quote.specs.Configuration.{timeOk, configOk}
 use Rattle.quote.specs.Model.{lots, holdingOk, modelOf, modelFrom, modelBy, newModel, tauOf}
-use Rattle.quote.specs.ClosedForm.{slope, formBid, formAsk, formIf, closedFormDistances}
+use Rattle.quote.specs.ClosedForm.{slope, formBid, formAsk, bidForm, askForm, formIf, closedFormDistances}
 use Rattle.quote.specs.Quotes.{side, widening, bidPrice, askPrice, quoted, buildQuotes, exactFrom, exactIf, exactAnswer, exactBy, exactQuotes, optimalQuotes, closedFrom, closedAnswer, closedBy, closedFormQuotes}
 use Rattle.quote.specs.Presence.{Presence, ExactPresence, OptimalPresence, ClosedPresence}
 use Rattle.quote.specs.declared.GLFTConfig.{GLFTConfig}
@@ -68,7 +68,7 @@ from-withheld : {l m f : Bool} (h : ℤ) (c : GLFTConfig) (vol : ℤ) (tau : Flo
     → exactFrom x tau ≡ Answer.Distances b a s → Withheld (c .«max_inventory_lots») (lots h c) b a
 unfolding exactFrom modelOf modelFrom modelBy
 from-withheld h c vol tau b a s (stopped k) e = let z : _≡_ {A = ℕ} 0 1 = cc in absurd (omega arith)
-from-withheld h c vol tau b a s (passed l v g f) e = let m = modelOf c vol in float-presence (m .k) (m .alpha) (m .eta) (m .base) (m .«q_max») tau (lots h c) b a s e
+from-withheld h c vol tau b a s (passed l v m g f) e = let m = modelOf c vol in float-presence (m .k) (m .alpha) (m .eta) (m .base) (m .«q_max») tau (lots h c) b a s e
 
 answer-withheld : (mid h : ℤ) (c : GLFTConfig) (vol : ℤ) (t : ℕ) (b a : Distance) (s : ℕ) → exactAnswer mid h c vol t ≡ Answer.Distances b a s → Withheld (c .«max_inventory_lots») (lots h c) b a
 unfolding exactAnswer exactIf newModel
@@ -109,23 +109,20 @@ form-ask-absent false base c x = (λ e. refl, λ e. refl)
 form-ask-absent true base c x = (λ e. cc, λ e. cc)
 
 form-withheld : (m : Model) (q : ℤ) → natAbs q ≤ m .«q_max» → (b a : Distance) → closedFormDistances m q ≡ Sides.Distances b a → Withheld (m .«q_max») q b a
-unfolding closedFormDistances formIf
-form-withheld m q h b a = go (positive (slope m)) (slope m)
+unfolding closedFormDistances formIf bidForm askForm
+form-withheld m q h b a = go (positive (slope m))
   where
-    bound : ℕ
-    bound = m .«q_max»
-
-    go : (t : Bool) (x : Float) → formIf t x m q ≡ Sides.Distances b a → Withheld bound q b a
-    go true x e =
+    go : (t : Bool) → formIf t m q ≡ Sides.Distances b a → Withheld (m .«q_max») q b a
+    go true e =
         let u = sides-are _ _ _ b a e in
-        rw (← u .0, ← u .1) (Iff·trans (form-bid-absent _ (m .base) x (whole q)) (top q bound h), Iff·trans (form-ask-absent _ (m .base) x (whole q)) (bottom q bound h))
-    go false x e = let z : _≡_ {A = ℕ} 0 1 = cc in absurd (omega arith)
+        rw (← u .0, ← u .1) (Iff·trans (form-bid-absent _ (m .base) (slope m) (whole q)) (top q (m .«q_max») h), Iff·trans (form-ask-absent _ (m .base) (slope m) (whole q)) (bottom q (m .«q_max») h))
+    go false e = let z : _≡_ {A = ℕ} 0 1 = cc in absurd (omega arith)
 
 closed-withheld : {l m f : Bool} (h : ℤ) (c : GLFTConfig) (vol : ℤ) {x : ModelAnswer} → Outcome l (configOk c) m (holdingOk h c) f (modelOf c vol) (lots h c) x
     → (b a : Distance) → closedFrom x ≡ Sides.Distances b a → Withheld (c .«max_inventory_lots») (lots h c) b a
 unfolding closedFrom modelOf modelFrom modelBy
 closed-withheld h c vol (stopped k) b a e = let z : _≡_ {A = ℕ} 0 1 = cc in absurd (omega arith)
-closed-withheld h c vol (passed l v g f) b a e = form-withheld (modelOf c vol) (lots h c) (leb-true (natAbs (lots h c)) (c .«max_inventory_lots») (lots-passed h c g)) b a e
+closed-withheld h c vol (passed l v m g f) b a e = form-withheld (modelOf c vol) (lots h c) (leb-true (natAbs (lots h c)) (c .«max_inventory_lots») (lots-passed h c g)) b a e
 
 pub closed-presence : ClosedPresence
 unfolding closedFormQuotes closedAnswer newModel

@@ -1,27 +1,29 @@
 -- Each refusal of the entries on amounts is the reply in just the situation that the paper names. Assumes nothing.
 use mathlib.Core.Path.{_≡_, refl, sym, ap, _∙_, subst}
-use mathlib.Core.Logic.{_⊎_, inl, inr, _↔_}
+use mathlib.Core.Logic.{_⊎_, inl, inr, _↔_, Iff·trans}
 use Prim.Native.Nat.{ℕ}
 use native.Mathlib.Omega.{arith}
 use mathlib.Core.Bool.{Bool, true, false, _&&_}
-use lib.IntN.{ℤ, natAbs}
-use lib.Dec.{leb}
+use lib.IntN.{ℤ}
 use lib.Ieee.{Float}
 use Rattle.elementary.specs.Float.{positive}
 use Rattle.vector.specs.Refusals.{numerical}
-use Rattle.vector.specs.Run.{Ended, vector, overCap, failed, run, boundOk}
-use Rattle.distances.specs.Distances.{sides, exactAt}
-use Rattle.distances.specs.FloatEntry.{refusedEntry, withVector, answerBy, entryIf, floatsOk, floatEntry}
-use Rattle.vector.specs.declared.ValueVector.{ValueVector}
+use Rattle.vector.specs.Run.{boundOk}
+use Rattle.distances.specs.Distances.{within, fine, sides}
+use Rattle.distances.specs.FloatEntry.{floatsOk, floatEntry}
+use Rattle.distances.specs.Refusing.{EntryFails, FloatRefused, at-5, at-1, at-4, at-11}
 use Rattle.distances.specs.declared.Distance.{Distance}
+use Rattle.distances.specs.declared.Sides.{Sides}
+use Rattle.distances.specs.declared.Sides.the-variants as Sides
 use Rattle.distances.specs.declared.Answer.{Answer}
 use Rattle.distances.specs.declared.Answer.the-variants as Answer
+use Rattle.distances.proofs.Refusing.{never, float-refusals}
 use Rattle.quote.specs.Refusals.{capped}
 use Rattle.quote.specs.Configuration.{timeOk, configOk}
 use Rattle.quote.specs.Model.{lots, marketOk, holdingOk, modelOk, modelOf, modelFrom, modelBy, modelIf, modelLimits, newModel, tauOf}
-use Rattle.quote.specs.ClosedForm.{slope, formIf, closedFormDistances}
+use Rattle.quote.specs.ClosedForm.{slope, bidForm, askForm, formIf, closedFormDistances}
 use Rattle.quote.specs.Quotes.{side, widening, bidPrice, askPrice, Judged, quoted, refused, judgeIf, judge, quotesBy, buildQuotes, withSteps, exactBy, exactFrom, exactIf, exactAnswer, exactQuotes, wrapped, optimalQuotes, ofJudged, closedBy, closedFrom, closedAnswer, closedFormQuotes}
-use Rattle.quote.specs.Promises.{Checked, Within, Ordered, Priced, by-13, by-14, ExactRefusals, OptimalRefusals, ClosedRefusals}
+use Rattle.quote.specs.Promises.{Checked, Passed, Within, Ordered, Priced, by-13, by-14, FormFails, by-slope, by-bid, by-ask, ExactRefusals, OptimalRefusals, ClosedRefusals}
 use Rattle.quote.specs.declared.GLFTConfig.{GLFTConfig}
 use Rattle.quote.specs.declared.Model.{Model}
 use Rattle.quote.specs.declared.ModelAnswer.{ModelAnswer}
@@ -34,31 +36,38 @@ use Rattle.quote.proofs.Passed.{Outcome, stopped, passed, outcome, stop
 
 -- ---- by the prices
 module _ (mid least : ℤ) where
-  priced : (b a : Distance) (s n : ℕ) → buildQuotes mid least b a ≡ refused n → Priced mid least (Answer.Distances b a s) n
+  priced : (b a : Distance) (n : ℕ) → buildQuotes mid least b a ≡ refused n → Priced mid least b a n
   unfolding buildQuotes quotesBy judge judgeIf
-  priced b a s n = go (Within mid least b a) (Ordered mid least b a) refl refl
+  priced b a n = go (Within mid least b a) (Ordered mid least b a) refl refl
     where
       go : (x o : Bool) → Within mid least b a ≡ x → Ordered mid least b a ≡ o
-          → let w = widening least (side b) (side a) in judgeIf x o (bidPrice mid w (side b)) (askPrice mid w (side a)) ≡ refused n → Priced mid least (Answer.Distances b a s) n
-      go false o h k e = subst (λ (m : ℕ). Priced mid least (Answer.Distances b a s) m) (cc) (by-13 h)
-      go true false h k e = subst (λ (m : ℕ). Priced mid least (Answer.Distances b a s) m) (cc) (by-14 h k)
+          → let w = widening least (side b) (side a) in judgeIf x o (bidPrice mid w (side b)) (askPrice mid w (side a)) ≡ refused n → Priced mid least b a n
+      go false o h k e = subst (λ (m : ℕ). Priced mid least b a m) (cc) (by-13 h)
+      go true false h k e = subst (λ (m : ℕ). Priced mid least b a m) (cc) (by-14 h k)
       go true true h k e = let z : _≡_ {A = ℕ} 0 1 = cc in absurd (omega arith)
 
--- ---- by the numbers' checks, or after them by 11: g reckons from a model
-module _ (g : ModelAnswer → Answer) (kept : (r : ℕ) → g (ModelAnswer.Refused r) ≡ Answer.Refused r) where
-  stopped-at : {l v m h f : Bool} {b : Model} {q : ℤ} {x : ModelAnswer} (n : ℕ) → Outcome l v m h f b q x
-      → (l ≡ true → v ≡ true → h ≡ true → f ≡ true → g (ModelAnswer.Model b q) ≡ Answer.Refused n → n ≡ numerical)
-      → g x ≡ Answer.Refused n → Checked l v m h f n ⊎ ((n ≡ numerical) × (g x ≡ Answer.Refused numerical))
-  stopped-at {l} {v} {m} {h} {f} n (stopped {n = r} k) late e =
-      let u : Answer.Refused r ≡ Answer.Refused n = sym (kept r) ∙ e in
-      let w : r ≡ n = cc in
-      inl (subst (λ (i : ℕ). Checked l v m h f i) w k)
-  stopped-at n (passed l v h f) late e = let u = late l v h f e in inr (u, rw u at e)
+  unpriced : (b a : Distance) (n : ℕ) → Priced mid least b a n → buildQuotes mid least b a ≡ refused n
+  unfolding buildQuotes quotesBy judge judgeIf
+  unpriced b a n (by-13 h) = rw h
+  unpriced b a n (by-14 h k) = rw (h, k)
+
+-- ---- by the numbers' checks, or after them: g reckons from a model, and answers a refusal by its number
+module _ {R : Type 0} (refusal : ℕ → R) (g : ModelAnswer → R) (kept : (r : ℕ) → g (ModelAnswer.Refused r) ≡ refusal r) (alike : (r n : ℕ) → refusal r ≡ refusal n → r ≡ n) where
+  stopped-at : {l v m h f : Bool} {b : Model} {q : ℤ} {x : ModelAnswer} (n : ℕ) → Outcome l v m h f b q x → g x ≡ refusal n
+      → Checked l v m h f n ⊎ (Passed l v m h f × (g (ModelAnswer.Model b q) ≡ refusal n))
+  stopped-at {l} {v} {m} {h} {f} n (stopped {n = r} k) e = inl (subst (λ (i : ℕ). Checked l v m h f i) (alike r n (sym (kept r) ∙ e)) k)
+  stopped-at n (passed l v m h f) e = inr ((l, v, m, h, f), e)
+
+  goes-on : (l v m h f : Bool) (b : Model) (q : ℤ) → Passed l v m h f → modelIf l v m h f b q ≡ ModelAnswer.Model b q
+  unfolding modelIf
+  goes-on l v m h f b q (el, ev, em, eh, ef) = rw (el, ev, em, eh, ef)
 
   after-checks : (l v m h f : Bool) (b : Model) (q : ℤ) (n : ℕ)
-      → (l ≡ true → v ≡ true → h ≡ true → f ≡ true → g (ModelAnswer.Model b q) ≡ Answer.Refused n → n ≡ numerical)
-      → (g (modelIf l v m h f b q) ≡ Answer.Refused n) ↔ (Checked l v m h f n ⊎ ((n ≡ numerical) × (g (modelIf l v m h f b q) ≡ Answer.Refused numerical)))
-  after-checks l v m h f b q n late = (stopped-at n (outcome l v m h f b q) late, λ x. elim x [ inl k ↦ ap g (stops b q k) ∙ kept n | inr k ↦ rw (k .0) (k .1) ])
+      → (g (modelIf l v m h f b q) ≡ refusal n) ↔ (Checked l v m h f n ⊎ (Passed l v m h f × (g (ModelAnswer.Model b q) ≡ refusal n)))
+  after-checks l v m h f b q n = (
+    stopped-at n (outcome l v m h f b q),
+    λ x. elim x [ inl k ↦ ap g (stops b q k) ∙ kept n | inr k ↦ ap g (goes-on l v m h f b q (k .0)) ∙ k .1 ],
+  )
 
 -- both ways, put together
 joined : {A B C D P : Type 0} → (A ↔ (B ⊎ P)) → (B ↔ (C ⊎ D)) → (A ↔ (C ⊎ (D ⊎ P)))
@@ -67,28 +76,25 @@ joined f g = (
   λ x. elim x [ inl c ↦ f .1 (inl (g .1 (inl c))) | inr y ↦ elim y [ inl d ↦ f .1 (inl (g .1 (inr d))) | inr p ↦ f .1 (inr p) ] ],
 )
 
+-- after the checks, D being what the reply comes to: P is their passing
+late : {P D F : Type 0} {n m : ℕ} → (P → D ↔ ((n ≡ m) × F)) → (P × D) ↔ ((n ≡ m) × (P × F))
+late f = (λ x. let y = f (x .0) .0 (x .1) in (y .0, (x .0, y .1)), λ x. (x .1 .0, f (x .1 .0) .1 (x .0, x .1 .1)))
+
+right : {A B C : Type 0} → (B ↔ C) → (A ⊎ B) ↔ (A ⊎ C)
+right f = (λ x. elim x [ inl a ↦ inl a | inr b ↦ inr (f .0 b) ], λ x. elim x [ inl a ↦ inl a | inr c ↦ inr (f .1 c) ])
+
 -- ---- exact quotes
-sides-refused : (t : Bool) (b a : Distance) (s n : ℕ) → sides t b a s ≡ Answer.Refused n → n ≡ numerical
-unfolding sides
-sides-refused true b a s n e = cc
-sides-refused false b a s n e = cc
-
-with-vector-answer : (v : ValueVector) (r : Answer) → withVector v r .answer ≡ r
-unfolding withVector refusedEntry
-with-vector-answer v (Answer.Distances b a s) = refl
-with-vector-answer v (Answer.OverCap need b s) = refl
-with-vector-answer v (Answer.Refused r) = refl
-
-run-refused : (bound : ℕ) (k base : Float) (q : ℤ) (r : Ended) (n : ℕ) → answerBy bound k base q r .answer ≡ Answer.Refused n → n ≡ numerical
-unfolding answerBy withVector exactAt refusedEntry
-run-refused bound k base q (vector w o s) n e = sides-refused _ _ _ _ n (sym (with-vector-answer _ _) ∙ e)
-run-refused bound k base q (overCap need b) n e = cc
-run-refused bound k base q (failed s) n e = cc
-
-float-refused : (k alpha eta base : Float) (bound : ℕ) (tau : Float) (q : ℤ) (n : ℕ) → floatsOk k alpha eta base tau ≡ true → boundOk bound ≡ true → leb (natAbs q) bound ≡ true
-    → floatEntry k alpha eta base bound tau q .answer ≡ Answer.Refused n → n ≡ numerical
-unfolding floatEntry entryIf
-float-refused k alpha eta base bound tau q n f b h e = run-refused bound k base q (run bound alpha eta tau) n (rw (f, b, h) at e)
+float-fails : (k alpha eta base : Float) (bound : ℕ) (tau : Float) (q : ℤ) (n : ℕ) → floatsOk k alpha eta base tau ≡ true → boundOk bound ≡ true → within bound q ≡ true
+    → (floatEntry k alpha eta base bound tau q .answer ≡ Answer.Refused n) ↔ ((n ≡ numerical) × EntryFails k alpha eta base bound tau q)
+float-fails k alpha eta base bound tau q n f b h =
+    let r = float-refusals k alpha eta base bound tau q in
+    (λ e. go (r n .0 e), λ x. rw (x .0) (r numerical .1 (at-11 f b h (x .1))))
+  where
+    go : {m : ℕ} → FloatRefused k alpha eta base bound tau q m → (m ≡ numerical) × EntryFails k alpha eta base bound tau q
+    go (at-5 e) = never (sym f ∙ e)
+    go (at-1 e i) = never (sym b ∙ i)
+    go (at-4 e i j) = never (sym h ∙ j)
+    go (at-11 e i j x) = (refl, x)
 
 answer-is : (mid h : ℤ) (c : GLFTConfig) (vol : ℤ) (t : ℕ)
     → exactAnswer mid h c vol t
@@ -106,21 +112,23 @@ unfolding withSteps
 with-steps-refused s (quoted q) n e = cc
 with-steps-refused s (refused r) n e = cc
 
+-- the distances of an answer
+abbrev PricedOf : ℤ → ℤ → Answer → ℕ → Type 0
+PricedOf mid least r n = (b : Distance) × (a : Distance) × (s : ℕ) × (r ≡ Answer.Distances b a s) × Priced mid least b a n
+
 module _ (mid least : ℤ) where
-  exact-refused : (r : Answer) (n : ℕ) → exactBy mid least r ≡ Exact.Refused n → (r ≡ Answer.Refused n) ⊎ Priced mid least r n
+  exact-refused : (r : Answer) (n : ℕ) → exactBy mid least r ≡ Exact.Refused n → (r ≡ Answer.Refused n) ⊎ PricedOf mid least r n
   unfolding exactBy
-  exact-refused (Answer.Distances b a s) n e = inr (priced mid least b a s n (with-steps-refused s _ n e))
+  exact-refused (Answer.Distances b a s) n e = inr (b, a, s, refl, priced mid least b a n (with-steps-refused s _ n e))
   exact-refused (Answer.OverCap need b s) n e = let z : _≡_ {A = ℕ} 0 1 = cc in absurd (omega arith)
   exact-refused (Answer.Refused r) n e = inl (cc)
 
-  exact-priced : (r : Answer) (n : ℕ) → Priced mid least r n → exactBy mid least r ≡ Exact.Refused n
-  unfolding exactBy withSteps buildQuotes quotesBy judge judgeIf
-  exact-priced r n (by-13 h) = rw h
-  exact-priced r n (by-14 h k) = rw (h, k)
+  exact-by : (r : Answer) (n : ℕ) → (exactBy mid least r ≡ Exact.Refused n) ↔ ((r ≡ Answer.Refused n) ⊎ PricedOf mid least r n)
+  unfolding exactBy withSteps
+  exact-by r n = (exact-refused r n, λ x. elim x [ inl e ↦ rw e | inr p ↦ rw (p .3, unpriced mid least (p .0) (p .1) n (p .4)) ])
 
-  exact-by : (r : Answer) (n : ℕ) → (exactBy mid least r ≡ Exact.Refused n) ↔ ((r ≡ Answer.Refused n) ⊎ Priced mid least r n)
-  unfolding exactBy
-  exact-by r n = (exact-refused r n, λ x. elim x [ inl e ↦ rw e | inr p ↦ exact-priced r n p ])
+same-answer : (r n : ℕ) → Answer.Refused r ≡ Answer.Refused n → r ≡ n
+same-answer r n e = cc
 
 pub exact-refusals : ExactRefusals
 unfolding exactQuotes exactFrom modelOf modelFrom modelBy
@@ -128,8 +136,8 @@ exact-refusals mid h c vol t n =
     let tau = tauOf (c .«terminal_time») t in
     let m = modelOf c vol in
     joined (exact-by mid (c .«min_spread») (exactAnswer mid h c vol t) n)
-    (rw (answer-is mid h c vol t) (after-checks (λ x. exactFrom x tau) (λ r. refl) (timeOk t && modelLimits mid h c vol) (configOk c) (marketOk mid vol) (holdingOk h c) (modelOk m) m (lots h c) n
-    (λ l v u f e. float-refused (m .k) (m .alpha) (m .eta) (m .base) (m .«q_max») tau (lots h c) n (floats-passed m tau f (tau-passed mid h c vol t l)) (bound-passed c v) (lots-passed h c u) e)))
+    (rw (answer-is mid h c vol t) (Iff·trans (after-checks Answer.Refused (λ x. exactFrom x tau) (λ r. refl) same-answer (timeOk t && modelLimits mid h c vol) (configOk c) (marketOk mid vol) (holdingOk h c) (modelOk m) m (lots h c) n)
+    (right (late (λ p. float-fails (m .k) (m .alpha) (m .eta) (m .base) (m .«q_max») tau (lots h c) n (floats-passed m tau (p .4) (tau-passed mid h c vol t (p .0))) (bound-passed c (p .1)) (lots-passed h c (p .3)))))))
 
 -- ---- the wrapper's
 pub optimal-refusals : OptimalRefusals
@@ -142,56 +150,53 @@ optimal-refusals mid h c vol t n = (to (exactQuotes mid h c vol t), λ x. elim x
     to (Exact.Refused r) e = inl (cc)
 
 -- ---- those of the closed form
-form-refused : (m : Model) (q : ℤ) (n : ℕ) → closedFormDistances m q ≡ Answer.Refused n → n ≡ numerical
-unfolding closedFormDistances formIf
-form-refused m q n = go (positive (slope m))
+form-fails : (m : Model) (q : ℤ) (n : ℕ) → (closedFormDistances m q ≡ Sides.Refused n) ↔ ((n ≡ numerical) × FormFails m q)
+unfolding closedFormDistances formIf sides
+form-fails m q n = (to (positive (slope m)) refl, from)
   where
-    go : (t : Bool) → formIf t (slope m) m q ≡ Answer.Refused n → n ≡ numerical
-    go true e = sides-refused _ _ _ _ n e
-    go false e = cc
+    either : (b a : Bool) → positive (slope m) ≡ true → fine (bidForm m q) ≡ b → fine (askForm m q) ≡ a → sides (b && a) (bidForm m q) (askForm m q) ≡ Sides.Refused n → (n ≡ numerical) × FormFails m q
+    either false a s eb ea e = (cc, by-bid s eb)
+    either true false s eb ea e = (cc, by-ask s ea)
+    either true true s eb ea e = let z : _≡_ {A = ℕ} 0 1 = cc in absurd (omega arith)
 
--- it runs nothing, so it never reports the cap
-data Unreported : Answer → Type 0 where
-  distances : {b a : Distance} {s : ℕ} → Unreported (Answer.Distances b a s)
-  refusal : {r : ℕ} → Unreported (Answer.Refused r)
+    to : (t : Bool) → positive (slope m) ≡ t → formIf t m q ≡ Sides.Refused n → (n ≡ numerical) × FormFails m q
+    to false s e = (cc, by-slope s)
+    to true s e = either (fine (bidForm m q)) (fine (askForm m q)) s refl refl e
 
-sides-unreported : (t : Bool) (b a : Distance) (s : ℕ) → Unreported (sides t b a s)
-unfolding sides
-sides-unreported true b a s = distances
-sides-unreported false b a s = refusal
+    neither : (b : Bool) → (b && false) ≡ false
+    neither true = refl
+    neither false = refl
 
-unreported : (x : ModelAnswer) → Unreported (closedFrom x)
-unfolding closedFrom closedFormDistances formIf
-unreported (ModelAnswer.Refused r) = refusal
-unreported (ModelAnswer.Model m q) = go (positive (slope m))
-  where
-    go : (t : Bool) → Unreported (formIf t (slope m) m q)
-    go true = sides-unreported _ _ _ _
-    go false = refusal
+    from : (n ≡ numerical) × FormFails m q → formIf (positive (slope m)) m q ≡ Sides.Refused n
+    from (e, by-slope s) = rw (e, s)
+    from (e, by-bid s x) = rw (e, s, x)
+    from (e, by-ask s x) = rw (e, s, x, neither)
 
 of-judged-refused : (j : Judged) (n : ℕ) → ofJudged j ≡ Closed.Refused n → j ≡ refused n
 unfolding ofJudged
 of-judged-refused (quoted q) n e = cc
 of-judged-refused (refused r) n e = cc
 
+abbrev PricedSides : ℤ → ℤ → Sides → ℕ → Type 0
+PricedSides mid least r n = (b : Distance) × (a : Distance) × (r ≡ Sides.Distances b a) × Priced mid least b a n
+
 module _ (mid least : ℤ) where
-  closed-refused : {r : Answer} (n : ℕ) → Unreported r → closedBy mid least r ≡ Closed.Refused n → (r ≡ Answer.Refused n) ⊎ Priced mid least r n
+  closed-refused : (r : Sides) (n : ℕ) → closedBy mid least r ≡ Closed.Refused n → (r ≡ Sides.Refused n) ⊎ PricedSides mid least r n
   unfolding closedBy
-  closed-refused n (distances {b} {a} {s}) e = inr (priced mid least b a s n (of-judged-refused _ n e))
-  closed-refused n refusal e = inl (cc)
+  closed-refused (Sides.Distances b a) n e = inr (b, a, refl, priced mid least b a n (of-judged-refused _ n e))
+  closed-refused (Sides.Refused r) n e = inl (cc)
 
-  closed-priced : (r : Answer) (n : ℕ) → Priced mid least r n → closedBy mid least r ≡ Closed.Refused n
-  unfolding closedBy ofJudged buildQuotes quotesBy judge judgeIf
-  closed-priced r n (by-13 h) = rw h
-  closed-priced r n (by-14 h k) = rw (h, k)
+  closed-by : (r : Sides) (n : ℕ) → (closedBy mid least r ≡ Closed.Refused n) ↔ ((r ≡ Sides.Refused n) ⊎ PricedSides mid least r n)
+  unfolding closedBy ofJudged
+  closed-by r n = (closed-refused r n, λ x. elim x [ inl e ↦ rw e | inr p ↦ rw (p .2, unpriced mid least (p .0) (p .1) n (p .3)) ])
 
-  closed-by : (r : Answer) (n : ℕ) → Unreported r → (closedBy mid least r ≡ Closed.Refused n) ↔ ((r ≡ Answer.Refused n) ⊎ Priced mid least r n)
-  unfolding closedBy
-  closed-by r n u = (closed-refused n u, λ x. elim x [ inl e ↦ rw e | inr p ↦ closed-priced r n p ])
+same-sides : (r n : ℕ) → Sides.Refused r ≡ Sides.Refused n → r ≡ n
+same-sides r n e = cc
 
 pub closed-refusals : ClosedRefusals
 unfolding closedFormQuotes closedAnswer closedFrom newModel
 closed-refusals mid h c vol n =
-    joined (closed-by mid (c .«min_spread») (closedAnswer mid h c vol) n (unreported (newModel mid h c vol)))
-    (after-checks closedFrom (λ r. refl) (modelLimits mid h c vol) (configOk c) (marketOk mid vol) (holdingOk h c) (modelOk (modelOf c vol)) (modelOf c vol) (lots h c) n
-    (λ l v u f e. form-refused (modelOf c vol) (lots h c) n e))
+    let m = modelOf c vol in
+    joined (closed-by mid (c .«min_spread») (closedAnswer mid h c vol) n)
+    (Iff·trans (after-checks Sides.Refused closedFrom (λ r. refl) same-sides (modelLimits mid h c vol) (configOk c) (marketOk mid vol) (holdingOk h c) (modelOk m) m (lots h c) n)
+    (right (late (λ p. form-fails m (lots h c) n))))

@@ -5,24 +5,22 @@ use Prim.Native.Nat.{ℕ, _≤_}
 use native.Mathlib.Omega.{arith}
 use mathlib.Core.Bool.{Bool, true, false, not, _&&_, and-eq-true-iff}
 use borrow.Author.Tests.{leb-true, ltb-true}
-use lib.IntN.{ℤ, pos, negsuc, natAbs}
-use lib.Dec.{T, leb}
+use lib.IntN.{ℤ, pos, negsuc}
+use lib.Dec.{T}
 use lib.Ieee.{Float, nan, inf, fin, lt, isNan}
 use Rattle.elementary.specs.Float.{whole}
-use Rattle.vector.specs.Run.{Ended, vector, overCap, failed, cap, boundOk, run}
-use Rattle.distances.specs.Distances.{sides, exactAt}
-use Rattle.distances.specs.FloatEntry.{refusedEntry, withVector, answerBy, entryIf, floatsOk, floatEntry}
+use Rattle.vector.specs.Run.{cap}
+use Rattle.distances.specs.FloatEntry.{floatEntry}
 use Rattle.distances.specs.Promises.{Counted}
-use Rattle.vector.specs.declared.ValueVector.{ValueVector}
 use Rattle.distances.specs.declared.Distance.{Distance}
 use Rattle.distances.specs.declared.Answer.{Answer}
 use Rattle.distances.specs.declared.Answer.the-variants as Answer
-use Rattle.vector.proofs.Spent.{cap-needs-plan}
+use Rattle.distances.proofs.Refusing.{float-reports}
 use Rattle.quote.specs.Refusals.{crossed}
 use Rattle.quote.specs.Configuration.{amountLimit, amountOk, above0, timeOk}
 use Rattle.quote.specs.Model.{newModel, tauOf}
 use Rattle.quote.specs.Quotes.{each, inOrder, judgeIf, judge, quotesBy, buildQuotes, withSteps, exactFrom, exactIf, exactAnswer, exactBy, exactQuotes, exactSteps}
-use Rattle.quote.specs.Promises.{Checked, by-2, by-1, by-3, by-4, by-5, Priced, by-13, by-14, ExactRefused}
+use Rattle.quote.specs.Promises.{Checked, by-2, by-1, by-3, by-4, by-5, Priced, by-13, by-14}
 use Rattle.quote.specs.Replies.{PriceKept, ReplyKept, RepliesKept}
 use Rattle.quote.specs.declared.GLFTConfig.{GLFTConfig}
 use Rattle.quote.specs.declared.ModelAnswer.{ModelAnswer}
@@ -69,26 +67,14 @@ number-above (fin s m e) nan h = h
 number-above x (inf s) h = tt
 number-above x (fin s m e) h = tt
 
-sides-reported : (t : Bool) (v : ValueVector) (b a : Distance) (s : ℕ) → Reported (withVector v (sides t b a s) .answer)
-unfolding Reported sides withVector refusedEntry
-sides-reported true v b a s = tt
-sides-reported false v b a s = tt
-
-run-reported : (bound : ℕ) (alpha eta tau k base : Float) (q : ℤ) (r : Ended) → run bound alpha eta tau ≡ r → Reported (answerBy bound k base q r .answer)
-unfolding Reported answerBy withVector refusedEntry exactAt
-run-reported bound alpha eta tau k base q (vector w o s) e = sides-reported _ _ _ _ s
-run-reported bound alpha eta tau k base q (overCap need b) e = number-above (whole (pos b)) need (cap-needs-plan bound alpha eta tau need b e)
-run-reported bound alpha eta tau k base q (failed s) e = tt
-
 float-reported : (k alpha eta base : Float) (bound : ℕ) (tau : Float) (q : ℤ) → Reported (floatEntry k alpha eta base bound tau q .answer)
-unfolding Reported floatEntry entryIf refusedEntry
-float-reported k alpha eta base bound tau q = go (floatsOk k alpha eta base tau) (boundOk bound) (leb (natAbs q) bound)
+unfolding Reported
+float-reported k alpha eta base bound tau q = go (floatEntry k alpha eta base bound tau q .answer) refl
   where
-    go : (f b h : Bool) → Reported (entryIf f b h k alpha eta base bound tau q .answer)
-    go false b h = tt
-    go true false h = tt
-    go true true false = tt
-    go true true true = run-reported bound alpha eta tau k base q (run bound alpha eta tau) refl
+    go : (a : Answer) → floatEntry k alpha eta base bound tau q .answer ≡ a → Reported a
+    go (Answer.Distances b a s) e = tt
+    go (Answer.OverCap need b s) e = number-above (whole (pos b)) need (float-reports k alpha eta base bound tau q need b s .0 e .report .above)
+    go (Answer.Refused r) e = tt
 
 from-reported : (m : ModelAnswer) (tau : Float) → Reported (exactFrom m tau)
 unfolding Reported exactFrom
@@ -103,7 +89,7 @@ checked-small by-3 = omega arith
 checked-small by-4 = omega arith
 checked-small by-5 = omega arith
 
-priced-small : {mid least : ℤ} {r : Answer} {n : ℕ} → Priced mid least r n → n ≤ crossed
+priced-small : {mid least : ℤ} {b a : Distance} {n : ℕ} → Priced mid least b a n → n ≤ crossed
 priced-small (by-13 h) = omega arith
 priced-small (by-14 h k) = omega arith
 
@@ -117,12 +103,7 @@ module _ (mid h : ℤ) (c : GLFTConfig) (vol : ℤ) (t : ℕ) where
       go false = tt
 
   refusal-small : (n : ℕ) → exactQuotes mid h c vol t ≡ Exact.Refused n → n ≤ crossed
-  refusal-small n e = go (exact-refusals mid h c vol t n .0 e)
-    where
-      go : ExactRefused mid h c vol t n → n ≤ crossed
-      go (inl k) = checked-small k
-      go (inr (inl k)) = omega (arith, k .0)
-      go (inr (inr k)) = priced-small k
+  refusal-small n e = elim (exact-refusals mid h c vol t n .0 e) [ inl k ↦ checked-small k | inr x ↦ elim x [ inl k ↦ omega (arith, k .0) | inr k ↦ priced-small (k .4) ] ]
 
   answer-kept : (a : Answer) → exactAnswer mid h c vol t ≡ a → ReplyKept (exactBy mid (c .«min_spread») a)
   unfolding ReplyKept exactQuotes exactBy buildQuotes quotesBy Counted Reported

@@ -29,13 +29,17 @@ unfoldable pub formAsk : Bool → Float → Float → Float → Distance
 formAsk false base c q = Absent
 formAsk true base c q = At (base ⊖ (2ᶠ ⊗ q ⊖ 1ᶠ) ⊘ 2ᶠ ⊗ c)
 
+-- the two sides at q lots: a bid below the bound, an ask above minus the bound
+unfoldable pub bidForm : Model → ℤ → Distance
+bidForm m q = formBid (ltZ q (pos (m .«q_max»))) (m .base) (slope m) (whole q)
+
+unfoldable pub askForm : Model → ℤ → Distance
+askForm m q = formAsk (ltZ (negℤ (pos (m .«q_max»))) q) (m .base) (slope m) (whole q)
+
 -- is the slope finite and positive, or 11
-unfoldable pub formIf : Bool → Float → Model → ℤ → Sides
-formIf false c m q = Sides.Refused numerical
-formIf true c m q =
-    let b = formBid (ltZ q (pos (m .«q_max»))) (m .base) c (whole q) in
-    let a = formAsk (ltZ (negℤ (pos (m .«q_max»))) q) (m .base) c (whole q) in
-    sides (fine b && fine a) b a
+unfoldable pub formIf : Bool → Model → ℤ → Sides
+formIf false m q = Sides.Refused numerical
+formIf true m q = sides (fine (bidForm m q) && fine (askForm m q)) (bidForm m q) (askForm m q)
 
 unfoldable pub closedFormDistances : Model → ℤ → Sides
-closedFormDistances m q = formIf (positive (slope m)) (slope m) m q
+closedFormDistances m q = formIf (positive (slope m)) m q

@@ -5,19 +5,24 @@ use mathlib.Core.Bool.{Bool, true, false, _&&_}
 use mathlib.Core.Logic.{_⊎_, _↔_}
 use lib.IntN.{ℤ, negℤ, _+ℤ_}
 use lib.Ieee.{Float}
+use Rattle.elementary.specs.Float.{positive}
 use Rattle.elementary.specs.Elementary.{outside}
 use Rattle.vector.specs.Refusals.{configuration, numerical}
 use Rattle.distances.specs.Refusals.{holding}
 use Rattle.vector.specs.Run.{cap}
+use Rattle.distances.specs.Distances.{fine}
+use Rattle.distances.specs.Refusing.{EntryFails}
 use Rattle.distances.specs.Promises.{exchanged, exchangedSides}
 use Rattle.distances.specs.declared.Distance.{Distance}
-use Rattle.distances.specs.declared.Answer.{Answer}
+use Rattle.distances.specs.declared.Sides.the-variants as Sides
 use Rattle.distances.specs.declared.Answer.the-variants as Answer
 use Rattle.quote.specs.Refusals.{limits, market, capped, beyond, crossed}
 use Rattle.quote.specs.Configuration.{amountOk, above0, timeOk, configOk}
-use Rattle.quote.specs.Model.{modelLimits, marketOk, holdingOk, modelOk, modelOf}
+use Rattle.quote.specs.Model.{lots, modelLimits, marketOk, holdingOk, modelOk, modelOf, tauOf}
+use Rattle.quote.specs.ClosedForm.{slope, bidForm, askForm}
 use Rattle.quote.specs.Quotes.{side, widening, bidPrice, askPrice, each, inOrder, exactAnswer, closedAnswer, exactSteps, exactQuotes, optimalQuotes, closedFormQuotes}
 use Rattle.quote.specs.declared.GLFTConfig.{GLFTConfig}
+use Rattle.quote.specs.declared.Model.{Model}
 use Rattle.quote.specs.declared.Price.{Price}
 use Rattle.quote.specs.declared.Price.the-variants.{At, Absent}
 use Rattle.quote.specs.declared.GlftQuotes.{GlftQuotes}
@@ -74,13 +79,34 @@ pub data Checked : Bool → Bool → Bool → Bool → Bool → ℕ → Type 0 w
   by-4 : {f : Bool} → Checked true true true false f holding
   by-5 : Checked true true true true false outside
 
+-- they all pass
+abbrev pub Passed : Bool → Bool → Bool → Bool → Bool → Type 0
+Passed l v m h f = (l ≡ true) × (v ≡ true) × (m ≡ true) × (h ≡ true) × (f ≡ true)
+
 abbrev pub ExactChecked : ℤ → ℤ → GLFTConfig → ℤ → ℕ → ℕ → Type 0
 ExactChecked mid h c vol t n = Checked (timeOk t && modelLimits mid h c vol) (configOk c) (marketOk mid vol) (holdingOk h c) (modelOk (modelOf c vol)) n
 
 abbrev pub ClosedChecked : ℤ → ℤ → GLFTConfig → ℤ → ℕ → Type 0
 ClosedChecked mid h c vol n = Checked (modelLimits mid h c vol) (configOk c) (marketOk mid vol) (holdingOk h c) (modelOk (modelOf c vol)) n
 
--- prices from an answer: 13 where a rounded distance or a price in its last form is beyond the limit; 14 where that is not so and a price is not positive or
+-- 11: they all pass, and the float entry fails from the model's floats: its run does, or a read of its vector
+abbrev pub ExactFails : ℤ → ℤ → GLFTConfig → ℤ → ℕ → Type 0
+ExactFails mid h c vol t =
+    let m = modelOf c vol in
+    Passed (timeOk t && modelLimits mid h c vol) (configOk c) (marketOk mid vol) (holdingOk h c) (modelOk m)
+    × EntryFails (m .k) (m .alpha) (m .eta) (m .base) (m .«q_max») (tauOf (c .«terminal_time») t) (lots h c)
+
+-- and of the closed form: the slope is not finite and positive, an elementary refusal under it included; or it is, and a present distance is not finite
+pub data FormFails (m : Model) (q : ℤ) : Type 0 where
+  by-slope : positive (slope m) ≡ false → FormFails m q
+  by-bid : positive (slope m) ≡ true → fine (bidForm m q) ≡ false → FormFails m q
+  by-ask : positive (slope m) ≡ true → fine (askForm m q) ≡ false → FormFails m q
+
+abbrev pub ClosedFails : ℤ → ℤ → GLFTConfig → ℤ → Type 0
+ClosedFails mid h c vol =
+    let m = modelOf c vol in Passed (modelLimits mid h c vol) (configOk c) (marketOk mid vol) (holdingOk h c) (modelOk m) × FormFails m (lots h c)
+
+-- prices from distances: 13 where a rounded distance or a price in its last form is beyond the limit; 14 where that is not so and a price is not positive or
 -- bid is not below ask
 abbrev pub Within : ℤ → ℤ → Distance → Distance → Bool
 Within mid least b a =
@@ -92,17 +118,20 @@ Ordered mid least b a =
     let w = widening least (side b) (side a) in
     each above0 (bidPrice mid w (side b)) && each above0 (askPrice mid w (side a)) && inOrder (bidPrice mid w (side b)) (askPrice mid w (side a))
 
-pub data Priced (mid least : ℤ) : Answer → ℕ → Type 0 where
-  by-13 : {b a : Distance} {s : ℕ} → Within mid least b a ≡ false → Priced mid least (Answer.Distances b a s) beyond
-  by-14 : {b a : Distance} {s : ℕ} → Within mid least b a ≡ true → Ordered mid least b a ≡ false → Priced mid least (Answer.Distances b a s) crossed
+pub data Priced (mid least : ℤ) (b a : Distance) : ℕ → Type 0 where
+  by-13 : Within mid least b a ≡ false → Priced mid least b a beyond
+  by-14 : Within mid least b a ≡ true → Ordered mid least b a ≡ false → Priced mid least b a crossed
 
--- exact_quotes refuses by n exactly where the checks do, where the reckoning ends in 11 after them, or where the prices do
-abbrev pub ExactRefused : ℤ → ℤ → GLFTConfig → ℤ → ℕ → ℕ → Type 0
-ExactRefused mid h c vol t n =
-    ExactChecked mid h c vol t n ⊎ (((n ≡ numerical) × (exactAnswer mid h c vol t ≡ Answer.Refused numerical)) ⊎ Priced mid (c .«min_spread») (exactAnswer mid h c vol t) n)
+abbrev pub ExactPriced : ℤ → ℤ → GLFTConfig → ℤ → ℕ → ℕ → Type 0
+ExactPriced mid h c vol t n = (b : Distance) × (a : Distance) × (s : ℕ) × (exactAnswer mid h c vol t ≡ Answer.Distances b a s) × Priced mid (c .«min_spread») b a n
 
+abbrev pub ClosedPriced : ℤ → ℤ → GLFTConfig → ℤ → ℕ → Type 0
+ClosedPriced mid h c vol n = (b : Distance) × (a : Distance) × (closedAnswer mid h c vol ≡ Sides.Distances b a) × Priced mid (c .«min_spread») b a n
+
+-- exact_quotes refuses by n just where the checks do, by 11 where the float entry fails after them, or where the prices do
 abbrev pub ExactRefusals : Type 0
-ExactRefusals = (mid h : ℤ) (c : GLFTConfig) (vol : ℤ) (t n : ℕ) → (exactQuotes mid h c vol t ≡ Exact.Refused n) ↔ ExactRefused mid h c vol t n
+ExactRefusals = (mid h : ℤ) (c : GLFTConfig) (vol : ℤ) (t n : ℕ)
+    → (exactQuotes mid h c vol t ≡ Exact.Refused n) ↔ (ExactChecked mid h c vol t n ⊎ (((n ≡ numerical) × ExactFails mid h c vol t) ⊎ ExactPriced mid h c vol t n))
 
 -- the wrapper refuses where exact_quotes does, and by 12 just where that reports the cap
 abbrev pub OptimalRefusals : Type 0
@@ -110,7 +139,7 @@ OptimalRefusals = (mid h : ℤ) (c : GLFTConfig) (vol : ℤ) (t n : ℕ)
     → (optimalQuotes mid h c vol t ≡ Optimal.Refused n)
     ↔ ((exactQuotes mid h c vol t ≡ Exact.Refused n) ⊎ ((n ≡ capped) × ((need : Float) × (b : ℕ) × (s : ℕ) × (exactQuotes mid h c vol t ≡ Exact.OverStepCap need b s))))
 
+-- the closed form never reports the cap: its answer has no such case
 abbrev pub ClosedRefusals : Type 0
 ClosedRefusals = (mid h : ℤ) (c : GLFTConfig) (vol : ℤ) (n : ℕ)
-    → (closedFormQuotes mid h c vol ≡ Closed.Refused n)
-    ↔ (ClosedChecked mid h c vol n ⊎ (((n ≡ numerical) × (closedAnswer mid h c vol ≡ Answer.Refused numerical)) ⊎ Priced mid (c .«min_spread») (closedAnswer mid h c vol) n))
+    → (closedFormQuotes mid h c vol ≡ Closed.Refused n) ↔ (ClosedChecked mid h c vol n ⊎ (((n ≡ numerical) × ClosedFails mid h c vol) ⊎ ClosedPriced mid h c vol n))

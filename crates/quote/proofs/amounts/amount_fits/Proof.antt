@@ -1,7 +1,7 @@
 use mir.Facts.{toZ-ofZ}
 use borrow.Author.Needs.{needs}
 use Rattle.quote.specs.Configuration.{amountLimit, amountOk}
-use Rattle.vector.proofs.Holdings.{within-is}
+use Rattle.distances.proofs.Holdings.{within-is}
 use Rattle.quote.proofs.amounts.amount_fits.Statement.{statement}
 use Rattle.quote.proofs.amounts.amount_fits.Tie as tie
 

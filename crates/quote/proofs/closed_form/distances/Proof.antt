@@ -1,15 +1,14 @@
 use mathlib.Core.Path.{_≡_}
 use native.Mathlib.Omega.{arith}
 use lib.IntN.{pos, negℤ, _-ℤ_, +ℤ-idl}
-use lib.Signed.{ltZ}
 use mir.Syntax.{w64}
 use mir.Val.{SFits, toZ}
 use mir.Facts.{toZ-ofZ, toZ-pos}
 use borrow.Author.Needs.{needs}
-use Rattle.elementary.specs.Float.{whole, positive}
+use Rattle.elementary.specs.Float.{positive}
 use Rattle.distances.specs.Distances.{sides}
 use Rattle.distances.proofs.Holdings.{minus-mag}
-use Rattle.quote.specs.ClosedForm.{slope, formBid, formAsk, formIf, closedFormDistances}
+use Rattle.quote.specs.ClosedForm.{slope, bidForm, askForm, formIf, closedFormDistances}
 use Rattle.quote.proofs.closed_form.distances.Statement.{statement}
 use Rattle.quote.proofs.closed_form.distances.Tie as tie
 
@@ -54,13 +53,15 @@ slope-is c = c .slope-of .ensures
 positive-is : (c : tie.After-is-positive-finite) → positive (slope (c .before .before .args .m)) ≡ c .is-positive-finite .result
 positive-is c = rw (c .is-positive-finite .ensures, slope-is (c .before))
 
-bid-is : (c : tie.After-bid-of) → let a = c .before .before .before .before .before .before .args in formBid (ltZ (a .q) (pos (a .m .«q_max»))) (a .m .base) (slope (a .m)) (whole (a .q)) ≡ c .bid-of .result
+bid-is : (c : tie.After-bid-of) → let a = c .before .before .before .before .before .before .args in bidForm (a .m) (a .q) ≡ c .bid-of .result
+unfolding bidForm
 bid-is c =
     let k = c .before .before in
     let p = k .before .before .before in
     rw (c .bid-of .ensures, c .before .nearest-i64-to-f64 .ensures, slope-is p, bound-is k, toZ-ofZ (p .before .fits .q))
 
-ask-is : (c : tie.After-ask-of) → let a = c .before .before .before .before .before .before .before .args in formAsk (ltZ (negℤ (pos (a .m .«q_max»))) (a .q)) (a .m .base) (slope (a .m)) (whole (a .q)) ≡ c .ask-of .result
+ask-is : (c : tie.After-ask-of) → let a = c .before .before .before .before .before .before .before .args in askForm (a .m) (a .q) ≡ c .ask-of .result
+unfolding askForm
 ask-is c =
     let f = c .before .before in
     let k = f .before in
