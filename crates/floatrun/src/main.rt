@@ -6,9 +6,9 @@
 ghost use mathlib.Core.Path.{_≡_};
 ghost use Prim.Native.Nat.{_+_, _*_, _%_, _<_, _≤_};
 ghost use lib.ListN.{length};
-use vector::Answer;
-use vector::Distance;
-use vector::FloatAnswer;
+use distances::Answer;
+use distances::Distance;
+use distances::FloatAnswer;
 use vector::ValueVector;
 
 // The bytes of a record.
@@ -270,7 +270,7 @@ fn answer_at(s: &[u8], at: usize) -> FloatAnswer
     let bound = bound_of(eight(s, at + 32));
     let tau = float_or_nan(eight(s, at + 40));
     let q = signed_of(eight(s, at + 48));
-    vector::float_entry(k, alpha, eta, base, bound, tau, q)
+    distances::float_entry(k, alpha, eta, base, bound, tau, q)
 }
 
 // The line of the record at a place.
