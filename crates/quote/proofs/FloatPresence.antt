@@ -4,6 +4,7 @@ use mathlib.Core.Logic.{_↔_, Iff·trans}
 use Prim.Native.Nat.{ℕ, zero, suc, _+_, _≤_}
 use native.Mathlib.Omega.{arith}
 use mathlib.Core.Bool.{Bool, true, false}
+use mathlib.Core.List.{List}
 use borrow.Author.Tests.{ltb-false, leb-true, le-ltb}
 use lib.IntN.{ℤ, pos, negℤ, natAbs, _+ℤ_, _-ℤ_, +ℤ-invl, +ℤ-negℤ-cancel}
 use lib.Dec.{leb, ltb}
@@ -13,6 +14,8 @@ use Rattle.vector.specs.Distances.{vectorOf, place, bidAt, askAt, sides, exactA
 use Rattle.vector.specs.declared.ValueVector.{ValueVector}
 use Rattle.vector.specs.declared.Distance.{Distance}
 use Rattle.vector.specs.declared.Distance.the-variants.{Absent}
+use Rattle.vector.specs.declared.Answer.{Answer}
+use Rattle.vector.specs.declared.Answer.the-variants.{Distances, OverCap, Refused}
 use Rattle.vector.proofs.Holdings.{at-place, place-most}
 use Rattle.quote.specs.FloatPresence.{Withheld, FloatPresence}
 
@@ -42,18 +45,30 @@ ask-absent v k base zero = (λ e. refl, λ e. refl)
 ask-absent v k base (suc i) = (λ e. cc, λ e. absurd (omega arith))
 
 -- ---- the answers
-sides-withheld : (bound : ℕ) (q : ℤ) (v : ValueVector) (t : Bool) (b a : Distance) (s : ℕ) → (b ≡ Absent) ↔ (q ≡ pos bound) → (a ≡ Absent) ↔ (q ≡ negℤ (pos bound))
-    → Withheld bound q (withVector v (sides t b a s) .answer)
-unfolding Withheld withVector refusedEntry sides
-sides-withheld bound q v true b a s x y = (x, y)
-sides-withheld bound q v false b a s x y = tt
+pub sides-withheld : (bound : ℕ) (q : ℤ) (t : Bool) (b a : Distance) (s : ℕ) → (b ≡ Absent) ↔ (q ≡ pos bound) → (a ≡ Absent) ↔ (q ≡ negℤ (pos bound))
+    → Withheld bound q (sides t b a s)
+unfolding Withheld sides
+sides-withheld bound q true b a s x y = (x, y)
+sides-withheld bound q false b a s x y = tt
 
-run-withheld : (bound : ℕ) (k base : Float) (q : ℤ) → natAbs q ≤ bound → (r : Ended) → Withheld bound q (answerBy bound k base q r .answer)
-unfolding Withheld answerBy withVector refusedEntry exactAt vectorOf
-run-withheld bound k base q h (vector w o s) =
+with-withheld : (bound : ℕ) (q : ℤ) (v : ValueVector) (r : Answer) → Withheld bound q r → Withheld bound q (withVector v r .answer)
+unfolding Withheld withVector refusedEntry
+with-withheld bound q v (Distances b a s) w = w
+with-withheld bound q v (OverCap need b s) w = tt
+with-withheld bound q v (Refused r) w = tt
+
+exact-withheld : (bound : ℕ) (w o : List Float) (k base : Float) (q : ℤ) (s : ℕ) → natAbs q ≤ bound → Withheld bound q (exactAt (vectorOf (rows bound) w o) k base s (place bound q))
+unfolding exactAt vectorOf
+exact-withheld bound w o k base q s h =
     let v = vectorOf (rows bound) w o in
     let i = place bound q in
-    sides-withheld bound q v _ _ _ s (Iff·trans (bid-absent _ v k base i) (last bound q h)) (Iff·trans (ask-absent v k base i) (first bound q h))
+    sides-withheld bound q _ _ _ s (Iff·trans (bid-absent _ v k base i) (last bound q h)) (Iff·trans (ask-absent v k base i) (first bound q h))
+
+run-withheld : (bound : ℕ) (k base : Float) (q : ℤ) → natAbs q ≤ bound → (r : Ended) → Withheld bound q (answerBy bound k base q r .answer)
+unfolding Withheld answerBy withVector refusedEntry
+run-withheld bound k base q h (vector w o s) =
+    let v = vectorOf (rows bound) w o in
+    with-withheld bound q v (exactAt v k base s (place bound q)) (exact-withheld bound w o k base q s h)
 run-withheld bound k base q h (overCap need b) = tt
 run-withheld bound k base q h (failed s) = tt
 

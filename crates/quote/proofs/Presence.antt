@@ -9,7 +9,6 @@ use lib.IntN.{ℤ, pos, negsuc, negℤ, natAbs, negℤ-negℤ}
 use lib.Signed.{ltZ}
 use lib.Ieee.{Float}
 use Rattle.elementary.specs.Float.{whole, positive}
-use Rattle.vector.specs.Distances.{sides}
 use Rattle.vector.specs.declared.Distance.{Distance}
 use Rattle.vector.specs.declared.Distance.the-variants as Distance
 use Rattle.vector.specs.declared.Answer.{Answer}
@@ -30,7 +29,7 @@ use Rattle.quote.specs.declared.ClosedFormQuotes.the-variants as Closed
 use Rattle.quote.proofs.Signed.{natAbs-neg, ltZ-neg}
 use Rattle.quote.proofs.Passed.{Outcome, stopped, passed, outcome, lots-passed}
 use Rattle.quote.proofs.Pairs.{built-is, with-steps-is, wrapped-is, of-judged-is}
-use Rattle.quote.proofs.FloatPresence.{float-presence}
+use Rattle.quote.proofs.FloatPresence.{sides-withheld, float-presence}
 
 -- ---- a price is absent where its distance is
 bid-absent : (mid w : ℤ) (b : Distance) → (bidPrice mid w (side b) ≡ Absent) ↔ (b ≡ Distance.Absent)
@@ -108,12 +107,6 @@ unfolding formAsk
 form-ask-absent false base c x = (λ e. refl, λ e. refl)
 form-ask-absent true base c x = (λ e. cc, λ e. cc)
 
-sides-withheld : (bound : ℕ) (q : ℤ) (t : Bool) (b a : Distance) → (b ≡ Distance.Absent) ↔ (q ≡ pos bound) → (a ≡ Distance.Absent) ↔ (q ≡ negℤ (pos bound))
-    → Withheld bound q (sides t b a 0)
-unfolding Withheld sides
-sides-withheld bound q true b a x y = (x, y)
-sides-withheld bound q false b a x y = tt
-
 form-withheld : (m : Model) (q : ℤ) → natAbs q ≤ m .«q_max» → Withheld (m .«q_max») q (closedFormDistances m q)
 unfolding Withheld closedFormDistances formIf
 form-withheld m q h = go (positive (slope m)) (slope m)
@@ -122,7 +115,7 @@ form-withheld m q h = go (positive (slope m)) (slope m)
     bound = m .«q_max»
 
     go : (t : Bool) (x : Float) → Withheld bound q (formIf t x m q)
-    go true x = sides-withheld bound q _ _ _ (Iff·trans (form-bid-absent _ (m .base) x (whole q)) (top q bound h)) (Iff·trans (form-ask-absent _ (m .base) x (whole q)) (bottom q bound h))
+    go true x = sides-withheld bound q _ _ _ 0 (Iff·trans (form-bid-absent _ (m .base) x (whole q)) (top q bound h)) (Iff·trans (form-ask-absent _ (m .base) x (whole q)) (bottom q bound h))
     go false x = tt
 
 closed-withheld : {l m f : Bool} (h : ℤ) (c : GLFTConfig) (vol : ℤ) {x : ModelAnswer} → Outcome l (configOk c) m (holdingOk h c) f (modelOf c vol) (lots h c) x
