@@ -79,7 +79,7 @@ pub enum ClosedFormQuotes {
 pub struct GLFTStrategy;
 
 impl GLFTConfig {
-    pub const MAX_INVENTORY_LOTS: u32 = 200;
+    pub const MAX_INVENTORY_LOTS: u32 = vector::MAX_BOUND;
 
     pub const MAX_AMOUNT: i64 = 9000000000000000;
 

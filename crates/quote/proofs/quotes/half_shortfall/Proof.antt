@@ -1,14 +1,17 @@
 use mathlib.Core.Path.{_≡_, refl}
-use Prim.Native.Nat.{zero, suc}
+use Prim.Native.Nat.{ℕ, zero, suc, _≤_}
 use native.Mathlib.Omega.{arith}
 use mathlib.Core.Bool.{true, false}
 use lib.IntN.{ℤ, pos, negsuc, _+ℤ_}
 use lib.Signed.{ltZ, quotZ}
+use lib.Dec.{T, lit≤, lit<}
 use mir.Syntax.{w64}
-use mir.Val.{SFits}
+use mir.Val.{SFits, toZ, ofZ}
 use mir.Facts.{toZ-ofZ}
 use borrow.Author.Tests.{ltb-false}
+use Rattle.quote.specs.Configuration.{above0}
 use Rattle.quote.specs.Quotes.{halfUp}
+use Rattle.quote.proofs.Limits.{divides}
 use Rattle.quote.proofs.Sizes.{size-add, size-half, size-fits}
 use Rattle.quote.proofs.quotes.half_shortfall.Statement.{statement}
 use Rattle.quote.proofs.quotes.half_shortfall.Tie as tie
@@ -25,8 +28,12 @@ none (pos zero) h = refl
 none (pos (suc n)) h = absurd (omega (arith, ltb-false 0 (suc n) h))
 none (negsuc n) h = refl
 
-sum-fits : (c : tie.Start) → SFits w64 (c .args .short +ℤ pos 1)
-sum-fits c = size-fits (c .args .short +ℤ pos 1) (omega (arith, size-add (c .args .short) (pos 1), c .pre))
+-- the half of a sum, each number read back from its bits
+half-back : (z : ℤ) (n : ℕ) → SFits w64 (z +ℤ pos n) → SFits w64 (halfUp z) → quotZ (z +ℤ pos n) (pos 2) ≡ halfUp z → toZ w64 (ofZ w64 (quotZ (toZ w64 (ofZ w64 (z +ℤ pos n))) (pos 2))) ≡ halfUp z
+half-back z n f g e = rw (toZ-ofZ f, e) (toZ-ofZ g)
+
+sum-fits : (c : tie.Start) (n : ℕ) → n ≤ 1 → SFits w64 (c .args .short +ℤ pos n)
+sum-fits c n h = size-fits (c .args .short +ℤ pos n) (omega (arith, size-add (c .args .short) (pos n), c .pre))
 
 half-fits : (c : tie.Start) → SFits w64 (halfUp (c .args .short))
 half-fits c = size-fits (halfUp (c .args .short)) (omega (arith, size-half (c .args .short), c .pre))
@@ -34,16 +41,22 @@ half-fits c = size-fits (halfUp (c .args .short)) (omega (arith, size-half (c .a
 half-is : (c : tie.Then1) → quotZ (c .before .args .short +ℤ pos 1) (pos 2) ≡ halfUp (c .before .args .short)
 half-is c = some (c .before .args .short) (rw (toZ-ofZ (c .before .fits .short)) at (c .if1 .taken))
 
+two-above : T (above0 (pos 2))
+unfolding above0
+two-above = tt
+
 add-result : tie.Need-add-result
-add-result c = rw (toZ-ofZ (c .before .fits .short)) (sum-fits (c .before))
+add-result c = rw (toZ-ofZ (c .before .fits .short)) (sum-fits (c .before) _ (lit≤ tt))
 
 div-result : tie.Need-div-result
 div-result c =
-    (omega arith, rw (toZ-ofZ (c .before .fits .short), toZ-ofZ (sum-fits (c .before)), half-is c) (half-fits (c .before)))
+    let s = c .before in
+    rw (toZ-ofZ (s .fits .short)) (divides (s .args .short +ℤ pos _) (pos 2) (sum-fits s _ (lit≤ tt)) (lit< tt) two-above)
 
 returns : tie.Need-returns
 returns c =
-    rw (toZ-ofZ (c .before .fits .short), toZ-ofZ (sum-fits (c .before)), half-is c, toZ-ofZ (half-fits (c .before)))
+    let s = c .before in
+    rw (toZ-ofZ (s .fits .short)) (half-back (s .args .short) _ (sum-fits s _ (lit≤ tt)) (half-fits s) (half-is c))
 
 returns-2 : tie.Need-returns-2
 returns-2 c = none (c .before .args .short) (rw (toZ-ofZ (c .before .fits .short)) at (c .if1 .left))
