@@ -6,3 +6,5 @@ pub mod Widths
 pub mod Steps
 pub mod Left
 pub mod Whole
+pub mod Filling
+pub mod Fills

@@ -84,8 +84,16 @@ due s at h = go (leb (length s) mostBytes) (leb-true (length s) mostBytes) (leb-
     go true f g = rw (line-read s at h (f refl)) (due-read s at (numbers 11 (drop at s)) refl)
     go false f g = rw (line-long s at h (g refl)) long
 
+due-line : (s : List ℕ) (at : ℕ) (x : Step) → Due s at x → (t : List ℕ) × (next : ℕ) × (x ≡ line t next)
+due-line s at x long = (_, _, refl)
+due-line s at x (stopped k) = (_, _, refl)
+due-line s at x (read d) = (_, _, refl)
+
+pub line-due : (s : List ℕ) (at : ℕ) → at < length s → (t : List ℕ) × (next : ℕ) × (lineAt s at ≡ line t next)
+line-due s at h = due-line s at (lineAt s at) (due s at h)
+
 -- a line is due before the end alone
-before-end : (s : List ℕ) (at : ℕ) (t : List ℕ) (next : ℕ) → lineAt s at ≡ line t next → at < length s
+pub before-end : (s : List ℕ) (at : ℕ) (t : List ℕ) (next : ℕ) → lineAt s at ≡ line t next → at < length s
 before-end s at t next e = go (ltb at (length s)) (ltb-true at (length s)) (ltb-false at (length s))
   where
     go : (m : Bool) → (m ≡ true → at < length s) → (m ≡ false → length s ≤ at) → at < length s

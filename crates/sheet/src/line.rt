@@ -12,10 +12,18 @@ ghost use Rattle.sheet.specs.Sheet.{recordLine, lineAt, hasRoom, answere
 use crate::record::Record;
 use crate::record::RecordAnswer;
 use crate::record::read_record;
+use crate::refusals::LONG_SHEET;
+use crate::refusals::SMALL_BUFFER;
 use quote::ExactQuotes;
 use quote::GLFTStrategy;
 use quote::GlftQuotes;
 use quote::Price;
+
+// The least line buffer: the most bytes that a line takes.
+pub const LEAST_ROOM: usize = 64;
+
+// The longest sheet.
+pub const MOST_BYTES: usize = 65536;
 
 // The length of a line and the place of the next record; the end of the sheet; or a refusal by 8.
 pub enum LineAnswer {
@@ -207,14 +215,14 @@ pub fn next_line(sheet: &[u8], at: usize, line: &mut [u8]) -> LineAnswer
     ensures { λ r. ⌜ r ≡ answered (hasRoom (now (line .entry))) (lineAt (now (sheet .entry)) at) ⌝ }
     ensures { λ _. ⌜ now (line .exit) ≡ left (hasRoom (now (line .entry))) (lineAt (now (sheet .entry)) at) (now (line .entry)) ⌝ }
 {
-    if line.len() < 64 {
-        return LineAnswer::Refused(8);
+    if line.len() < LEAST_ROOM {
+        return LineAnswer::Refused(SMALL_BUFFER);
     }
     if at >= sheet.len() {
         return LineAnswer::End;
     }
-    if sheet.len() > 65536 {
-        return LineAnswer::Written(write_refusal(line, 9), sheet.len());
+    if sheet.len() > MOST_BYTES {
+        return LineAnswer::Written(write_refusal(line, LONG_SHEET), sheet.len());
     }
     match read_record(sheet, at) {
         RecordAnswer::Record(r, next) => LineAnswer::Written(write_record(line, r), next),
