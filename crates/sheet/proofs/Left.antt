@@ -18,7 +18,7 @@ pub record Left (m : ℕ) (l r : List ℕ) : Type 0 where
   pub some : m ≤ length before
 
 -- a reading after another
-after : {A B : Type 0} (x : Read A) (f : A → List ℕ → Read B) (b : B) (r : List ℕ) → x then f ≡ taken b r → (a : A) × (q : List ℕ) × (x ≡ taken a q) × (f a q ≡ taken b r)
+pub after : {A B : Type 0} (x : Read A) (f : A → List ℕ → Read B) (b : B) (r : List ℕ) → x then f ≡ taken b r → (a : A) × (q : List ℕ) × (x ≡ taken a q) × (f a q ≡ taken b r)
 unfolding _then_
 after (taken a q) f b r e = (a, q, refl, e)
 after (refused k) f b r e = let z : _≡_ {A = ℕ} 0 1 = cc in absurd (omega arith)

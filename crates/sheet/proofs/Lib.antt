@@ -8,3 +8,6 @@ pub mod Left
 pub mod Whole
 pub mod Filling
 pub mod Fills
+pub mod Numbers
+pub mod Refusing
+pub mod LineRefusals

@@ -4,4 +4,5 @@ pub mod Lines
 pub mod Sheet
 pub mod Fill
 pub mod Promises
+pub mod Refusing
 pub mod Inner
