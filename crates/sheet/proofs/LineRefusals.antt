@@ -21,12 +21,13 @@ use Rattle.sheet.specs.Refusals.{cutShort, malformed, longSheet}
 use Rattle.sheet.specs.Record.{Read, taken, refused, numbers, fields, recordOf, mostBound, recordOk, recordIf, recordFrom, readRecord}
 use Rattle.sheet.specs.Lines.{joined, quotesLine, capLine, refusalLine, answerLine}
 use Rattle.sheet.specs.Sheet.{mostBytes, recordLine, line, lineOf, lineAt}
-use Rattle.sheet.specs.Refusing.{Stopped, by-6, by-7-ninth, by-7-zero, Beyond, LongLine, Readable, StoppedLine, SkippedLine, LineRefusals}
+use Rattle.sheet.specs.Refusing.{Stopped, Beyond, LongLine, Readable, StoppedLine, SkippedLine, LineRefusals}
 use Rattle.sheet.specs.declared.record.Record.{Record}
 use Rattle.sheet.specs.declared.record.RecordAnswer.{RecordAnswer}
 use Rattle.sheet.specs.declared.record.RecordAnswer.the-variants as RecordAnswer
 use Rattle.sheet.proofs.Digits.{back, back-count}
 use Rattle.sheet.proofs.Steps.{line-long, line-read}
+use Rattle.sheet.proofs.Numbers.{stopped-number}
 use Rattle.sheet.proofs.Whole.{before-end}
 use Rattle.sheet.proofs.Refusing.{record-refusals, record-skips}
 
@@ -115,11 +116,6 @@ module _ (s : List ℕ) (at k next : ℕ) where
           let t : refusalLine longSheet ≡ refusalLine k = cc in
           let n : next ≡ length s = cc in
           long (sym (same-number longSheet k t)) (g refl) n
-
-stopped-number : {l : List ℕ} {k : ℕ} → Stopped l k → (k ≡ cutShort) ⊎ (k ≡ malformed)
-stopped-number (by-6 h a c) = inl refl
-stopped-number (by-7-ninth h a c) = inr refl
-stopped-number (by-7-zero h a c) = inr refl
 
 long-line : LongLine
 long-line s at next = (λ e. go (before-end s at _ next e) (said s at longSheet next e), λ h. line-long s at (h .0) (h .1) ∙ ap (line (refusalLine longSheet)) (sym (h .2)))

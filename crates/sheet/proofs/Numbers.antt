@@ -1,6 +1,6 @@
 -- A number and a record's numbers over their bytes: which bytes make a whole number, and which are refused by 6 or by 7. Assumes nothing.
 use mathlib.Core.Path.{_≡_, refl, sym, ap, _∙_, subst}
-use mathlib.Core.Logic.{_↔_}
+use mathlib.Core.Logic.{_⊎_, inl, inr, _↔_}
 use Prim.Native.Nat.{ℕ, zero, suc, _+_, _-_, _*_, _%_, _<_, _≤_}
 use native.Mathlib.Nat.{zero-add, suc-add}
 use native.Mathlib.Omega.{arith}
@@ -13,6 +13,7 @@ use Rattle.sheet.specs.Refusals.{cutShort, malformed}
 use Rattle.sheet.specs.Record.{Read, taken, refused, _then_, group, groups, number, numbers, fields}
 use Rattle.sheet.specs.Refusing.{allTop, WholeNumber, EndsInside, NinthGroup, ZeroLast, After, at-once, further, Stopped, by-6, by-7-ninth, by-7-zero}
 use Rattle.sheet.proofs.Left.{after}
+use Rattle.sheet.proofs.Reading.{number-refused}
 
 -- ---- a reading without its value
 bare : Read ℕ → Read ℕ
@@ -155,7 +156,7 @@ then-refused (refused j) f k n e = let z : j ≡ k = cc in ap refused z
 whole-is : {l r : List ℕ} {n : ℕ} → Situation l (taken n r) → (u : List ℕ) × WholeNumber u × (l ≡ u ++ r)
 whole-is (whole u h e) = (u, h, e)
 
-pub taken-after : (n : ℕ) (l v r : List ℕ) → numbers n l ≡ taken v r → After l n r
+taken-after : (n : ℕ) (l v r : List ℕ) → numbers n l ≡ taken v r → After l n r
 unfolding numbers
 taken-after zero l v r e = let z : l ≡ r = cc in subst (After l 0) z at-once
 taken-after (suc n) l v r e =
@@ -173,22 +174,11 @@ after-taken (further {u = u} {r = r} a h) =
     let y = number-whole u r h in
     (x .0 ++ (y .0 ∷ []), rw (x .1, y .1))
 
--- a refusal stays
-refused-on : (j n : ℕ) (l : List ℕ) (k : ℕ) → numbers n l ≡ refused k → numbers (j + n) l ≡ refused k
-unfolding numbers _then_
-refused-on zero n l k e = rw (zero-add n) e
-refused-on (suc j) n l k e = rw (suc-add j n, refused-on j n l k e)
-
 -- the number after n of them is refused
 stops : (n : ℕ) (l r : List ℕ) (k : ℕ) → n < fields → After l n r → number r ≡ refused k → numbers fields l ≡ refused k
-unfolding numbers _then_
-stops n l r k h a e =
-    let x = after-taken a in
-    let s : numbers (suc n) l ≡ refused k = rw (x .1, e) in
-    let m : fields - suc n + suc n ≡ fields = omega arith in
-    rw m at (refused-on (fields - suc n) (suc n) l k s)
+stops n l r k h a e = let x = after-taken a in number-refused n l (x .0) r k h (x .1) e
 
-pub stopped-refused : {l : List ℕ} {k : ℕ} → Stopped l k → numbers fields l ≡ refused k
+stopped-refused : {l : List ℕ} {k : ℕ} → Stopped l k → numbers fields l ≡ refused k
 stopped-refused {l} (by-6 {n} {r} h a c) = stops n l r cutShort h a (number-cut r c)
 stopped-refused {l} (by-7-ninth {n} {r} h a c) = stops n l r malformed h a (number-ninth r c)
 stopped-refused {l} (by-7-zero {n} {r} h a c) = stops n l r malformed h a (number-zero r c)
@@ -211,3 +201,9 @@ refused-stopped (suc n) l k h e = go (numbers n l) refl (refused-stopped n l k (
 
 pub numbers-stopped : (l : List ℕ) (k : ℕ) → (numbers fields l ≡ refused k) ↔ Stopped l k
 numbers-stopped l k = (refused-stopped fields l k (omega arith), stopped-refused)
+
+-- a refusal of the reader is 6 or 7
+pub stopped-number : {l : List ℕ} {k : ℕ} → Stopped l k → (k ≡ cutShort) ⊎ (k ≡ malformed)
+stopped-number (by-6 h a c) = inl refl
+stopped-number (by-7-ninth h a c) = inr refl
+stopped-number (by-7-zero h a c) = inr refl

@@ -8,7 +8,7 @@ ghost use lib.Dec.{T};
 ghost use lib.Ieee.{isNan};
 ghost use Rattle.quote.specs.Replies.{PriceKept, ReplyKept};
 ghost use Rattle.sheet.specs.Lines.{glyph, digits, places, count, price, side, hex, quotesLine, capLine, refusalLine, answerLine, over};
-ghost use Rattle.sheet.specs.Sheet.{recordLine, lineAt, hasRoom, answered, left};
+ghost use Rattle.sheet.specs.Sheet.{leastRoom, recordLine, lineAt, hasRoom, answered, left};
 use crate::record::Record;
 use crate::record::RecordAnswer;
 use crate::record::read_record;
@@ -182,7 +182,7 @@ fn write_refusal(line: &mut [u8], number: u8) -> usize
 // The line of an answer, which takes at most 64 bytes.
 fn write_answer(line: &mut [u8], answer: ExactQuotes) -> usize
     requires { ⌜ ReplyKept answer ⌝ }
-    requires { ⌜ 64 ≤ length (now line) ⌝ }
+    requires { ⌜ leastRoom ≤ length (now line) ⌝ }
     ensures { λ _. ⌜ now (line .exit) ≡ over (answerLine answer) (now (line .entry)) ⌝ }
     ensures { λ r. ⌜ r ≡ length (answerLine answer) ⌝ }
 {
@@ -195,7 +195,7 @@ fn write_answer(line: &mut [u8], answer: ExactQuotes) -> usize
 
 // The line of a record.
 fn write_record(line: &mut [u8], r: Record) -> usize
-    requires { ⌜ 64 ≤ length (now line) ⌝ }
+    requires { ⌜ leastRoom ≤ length (now line) ⌝ }
     ensures { λ _. ⌜ now (line .exit) ≡ over (recordLine r) (now (line .entry)) ⌝ }
     ensures { λ n. ⌜ n ≡ length (recordLine r) ⌝ }
 {

@@ -64,7 +64,7 @@ returns-2 c =
     let w = c .before .before .before in
     let l = w .before .before in
     let i = l .before .loop .inv in
-    let t = part-room _ _ _ _ _ _ i (l .loop-test .taken) in
+    let t = part-room _ _ _ _ _ _ i (omega (arith, l .loop-test)) in
     let e = rw t at (w .next-line .ensures) in
     filling-end _ _ _ _ _ _ i _ (l .before .before .if1 .left) (none-left _ _ (c .match .keys2) (e .0)) (e .1)
 
@@ -72,21 +72,21 @@ add-n : tie.Need-add-n Inv-loop μ-loop
 add-n c =
     let w = c .before .before .before .before .before in
     let l = w .before .before in
-    let a = line-added _ _ _ _ _ _ (l .before .loop .inv) _ _ _ _ (l .loop-test .taken) (sym (c .before .k .given .1) ∙ w .next-line .ensures .0) (w .next-line .ensures .1) in
+    let a = line-added _ _ _ _ _ _ (l .before .loop .inv) _ _ _ _ (omega (arith, l .loop-test)) (sym (c .before .k .given .1) ∙ w .next-line .ensures .0) (w .next-line .ensures .1) in
     omega arith
 
 loop-less : tie.Need-loop-less Inv-loop μ-loop
 loop-less c =
     let w = c .before .before .before .before .before in
     let l = w .before .before in
-    let a = line-added _ _ _ _ _ _ (l .before .loop .inv) _ _ _ _ (l .loop-test .taken) (sym (c .before .k .given .1) ∙ w .next-line .ensures .0) (w .next-line .ensures .1) in
+    let a = line-added _ _ _ _ _ _ (l .before .loop .inv) _ _ _ _ (omega (arith, l .loop-test)) (sym (c .before .k .given .1) ∙ w .next-line .ensures .0) (w .next-line .ensures .1) in
     omega arith
 
 loop-again : tie.Need-loop-again Inv-loop μ-loop
 loop-again c =
     let w = c .before .before .before .before .before in
     let l = w .before .before in
-    line-added _ _ _ _ _ _ (l .before .loop .inv) _ _ _ _ (l .loop-test .taken) (sym (c .before .k .given .1) ∙ w .next-line .ensures .0) (w .next-line .ensures .1) .3
+    line-added _ _ _ _ _ _ (l .before .loop .inv) _ _ _ _ (omega (arith, l .loop-test)) (sym (c .before .k .given .1) ∙ w .next-line .ensures .0) (w .next-line .ensures .1) .3
 
 same-length-2 : tie.Need-same-length-2 Inv-loop μ-loop
 same-length-2 c = filling-length _ _ _ _ _ _ (c .before .loop .inv)
