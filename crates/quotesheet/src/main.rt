@@ -1,6 +1,6 @@
 // Reads a sheet from standard input and prints the line of each record.
 ghost use mathlib.Core.Path.{_≡_};
-ghost use Prim.Native.Nat.{_<_, _≤_};
+ghost use Prim.Native.Nat.{_≤_};
 ghost use lib.ListN.{length, take};
 ghost use Rattle.sheet.specs.Fill.{filled, leftIn};
 ghost use Rattle.sheet.specs.Sheet.{leastRoom};

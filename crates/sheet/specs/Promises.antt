@@ -52,6 +52,6 @@ pub data Fills (s : List ℕ) : ℕ → List ℕ → Type 0 where
 abbrev pub FillsMakeTheWhole : Type 0
 FillsMakeTheWhole = (s t : List ℕ) → Fills s 0 t → t ≡ printed s
 
--- and they come to the end, with any buffer of 64 bytes or more
+-- and there are such fills, to the end, wherever a buffer has the room
 abbrev pub FillsFinish : Type 0
 FillsFinish = (s b : List ℕ) → leastRoom ≤ length b → Fills s 0 (printed s)

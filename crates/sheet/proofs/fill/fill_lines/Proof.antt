@@ -92,7 +92,7 @@ same-length-2 : tie.Need-same-length-2 Inv-loop μ-loop
 same-length-2 c = filling-length _ _ _ _ _ _ (c .before .loop .inv)
 
 returns-3 : tie.Need-returns-3 Inv-loop μ-loop
-returns-3 c = filling-full _ _ _ _ _ _ (c .before .loop .inv) (c .before .before .if1 .left) (c .loop-test .left)
+returns-3 c = filling-full _ _ _ _ _ _ (c .before .loop .inv) (c .before .before .if1 .left) (omega (arith, c .loop-test))
 
 pub fill-lines-spec : {M : Type 1} → statement M
 fill-lines-spec =
