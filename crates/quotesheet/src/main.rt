@@ -1,64 +1,54 @@
 // Reads a sheet from standard input and prints the line of each record.
-ghost use Prim.Native.Nat.{_<_, _≤_};
-ghost use lib.ListN.{length};
-use sheet::LineAnswer;
+ghost use mathlib.Core.Path.{_≡_};
+ghost use Prim.Native.Nat.{_≤_};
+ghost use lib.ListN.{length, take};
+ghost use Rattle.sheet.specs.Fill.{filled, leftIn};
+ghost use Rattle.sheet.specs.Sheet.{leastRoom};
+ghost use Rattle.sheet.specs.declared.fill.FillAnswer.the-variants.{Filled};
+use sheet::FillAnswer;
 
-// The most bytes of a line.
-const LINE: usize = 64;
-
-// The length of a line that was added, and the place of the next record.
-struct Added {
-    length: usize,
+// What a fill put into the buffer, and the place after it.
+struct Lines {
+    count: usize,
     next: usize,
 }
 
-// Writes the line at a place of a sheet to the start of out.
-fn add_line(s: &[u8], at: usize, out: &mut [u8]) -> Added
-    requires { ⌜ at < length (now s) ⌝ }
-    ensures { λ r. ⌜ (r .length ≤ 64) × (at < r .next) × (r .next ≤ length (now (s .entry))) ⌝ }
+// Puts the lines from a place of a sheet on into a buffer that has the room.
+fn fill(s: &[u8], at: usize, out: &mut [u8]) -> Lines
+    requires { ⌜ leastRoom ≤ length (now out) ⌝ }
+    ensures { λ r. ⌜ filled (now (s .entry)) at (now (out .entry)) ≡ Filled (r .count) (r .next) ⌝ }
+    ensures { λ _. ⌜ now (out .exit) ≡ leftIn (now (s .entry)) at (now (out .entry)) ⌝ }
 {
-    match sheet::next_line(s, at, out) {
-        LineAnswer::Written(length, next) => Added { length, next },
-        LineAnswer::End => Added {
-            length: 0,
-            next: s.len(),
-        },
-        LineAnswer::Refused(_) => Added {
-            length: 0,
-            next: s.len(),
-        },
+    match sheet::fill_lines(s, at, out) {
+        FillAnswer::Filled(count, next) => Lines { count, next },
+        FillAnswer::Refused(_) => Lines { count: 0, next: at },
     }
 }
 
-// Writes the first n bytes to standard output, and answers whether it took them.
-fn flush(out: &[u8], n: usize) -> bool
+// The first n bytes.
+fn first(out: &[u8], n: usize) -> &[u8]
     requires { ⌜ n ≤ length (now out) ⌝ }
+    ensures { λ r. ⌜ now r ≡ take n (now (out .entry)) ⌝ }
 {
-    io::write_all(libc::STDOUT_FILENO, &out[..n])
+    &out[..n]
 }
 
-// Writes the lines, many with one call, and stops where standard output is closed.
+// Writes the lines of a sheet, many with one call, and stops where standard output is closed.
 fn write_lines(s: &[u8]) {
     let mut out = io::large_buffer();
-    let mut n: usize = 0;
     let mut at: usize = 0;
     while at < s.len() {
-        if out.len() - n < LINE {
-            if !flush(&out, n) {
-                return;
-            }
-            n = 0;
+        let lines = fill(s, at, &mut out);
+        if !io::write_all(libc::STDOUT_FILENO, first(&out, lines.count)) {
+            return;
         }
-        let added = add_line(s, at, &mut out[n..]);
-        n += added.length;
-        at = added.next;
+        at = lines.next;
     }
-    flush(&out, n);
 }
 
 fn main() {
     // One byte more than the longest sheet tells one that is longer.
-    let mut input = [0u8; 65537];
+    let mut input = [0u8; sheet::MOST_BYTES + 1];
     let n = io::read_full(libc::STDIN_FILENO, &mut input);
     write_lines(&input[..n]);
 }

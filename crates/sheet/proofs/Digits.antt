@@ -1,6 +1,6 @@
 -- Digits: how many a count has, and a loop that writes them from the last to the first. Assumes nothing.
 use mathlib.Core.Path.{_≡_, refl, sym, ap, _∙_}
-use Prim.Native.Nat.{ℕ, zero, suc, _-_, _/_, _%_, _^_, _<_, _≤_}
+use Prim.Native.Nat.{ℕ, zero, suc, _+_, _-_, _*_, _/_, _%_, _^_, _<_, _≤_}
 use native.Mathlib.Nat.{le-refl, le-of-eq, pow-suc}
 use native.Mathlib.Omega.{arith}
 use mathlib.Core.Bool.{Bool, true, false}
@@ -51,6 +51,36 @@ length-digits b (suc k) n = length-append (digits b k (n / b)) (glyph (n % b) �
 pub length-count : (n : ℕ) → length (count n) ≡ places n
 unfolding count
 length-count n = length-digits 10 (places n) n
+
+-- ---- digits read back: what they make after a number a
+pub back : ℕ → List ℕ → ℕ
+back a [] = a
+back a (c ∷ l) = back (10 * a + (c - 48)) l
+
+back-append : (a : ℕ) (x y : List ℕ) → back a (x ++ y) ≡ back (back a x) y
+unfolding back
+back-append a [] y = refl
+back-append a (c ∷ x) y = back-append (10 * a + (c - 48)) x y
+
+back-digits : (k n : ℕ) → n < 10 ^ k → back 0 (digits 10 k n) ≡ n
+unfolding back digits glyph
+back-digits zero n h = omega arith
+back-digits (suc k) n h =
+    back-append 0 (digits 10 k (n / 10)) (glyph (n % 10) ∷ [])
+    ∙ rw (back-digits k (n / 10) (omega (arith, pow-suc 10 k)), lt-ltb (n % 10) 10 (omega arith)) (omega arith)
+
+places-fit : (j n : ℕ) → n ≤ j → n < 10 ^ places n
+places-fit zero n h = rw (places-one n (omega arith)) (omega arith)
+places-fit (suc j) n h = go (ltb n 10) (ltb-true n 10) (ltb-false n 10) (λ k. places-fit j (n / 10) (omega arith))
+  where
+    go : (t : Bool) → (t ≡ true → n < 10) → (t ≡ false → 10 ≤ n) → (10 ≤ n → n / 10 < 10 ^ places (n / 10)) → n < 10 ^ places n
+    go true f g r = rw (places-one n (f refl)) (f refl)
+    go false f g r = rw (places-more n (g refl)) (omega (arith, r (g refl), pow-suc 10 (places (n / 10))))
+
+-- a count with the byte 10 after it, which reads as one more digit
+pub back-count : (n : ℕ) → back 0 (count n ++ (10 ∷ [])) ≡ 10 * n
+unfolding back count
+back-count n = back-append 0 (digits 10 (places n) n) (10 ∷ []) ∙ rw (back-digits (places n) n (places-fit n n (le-refl n))) (omega arith)
 
 -- ---- the last k digits of n over the start of l, of which the first i are still to be written
 pub record Downward (b n k : ℕ) (l out : List ℕ) (i rest : ℕ) : Type 0 where

@@ -1,15 +1,13 @@
 -- What is left of some bytes after a number or several were read, and so the next place. Assumes nothing.
-use mathlib.Core.Path.{_≡_, refl, sym, ap, _∙_, subst}
+use mathlib.Core.Path.{_≡_, refl, sym, ap, _∙_}
 use Prim.Native.Nat.{ℕ, zero, suc, _+_, _-_, _*_, _%_, _<_, _≤_}
-use native.Mathlib.Nat.{le-refl}
 use native.Mathlib.Omega.{arith}
 use mathlib.Core.Bool.{Bool, true, false, _&&_}
 use mathlib.Core.List.{List, [], _∷_, _++_, append-assoc}
 use lib.ListN.{length, drop, length-append, length-drop}
 use lib.Seq.{drop-at, drop-drop}
 use lib.Dec.{ltb, eqb}
-use Rattle.sheet.specs.Refusals.{malformed}
-use Rattle.sheet.specs.Record.{Read, taken, refused, _then_, group, groups, number, numbers}
+use Rattle.sheet.specs.Record.{Read, taken, refused, _then_, group, groups, number, numbers, fields}
 
 -- r is what is left of l, of which m bytes at least were taken
 pub record Left (m : ℕ) (l r : List ℕ) : Type 0 where
@@ -18,7 +16,7 @@ pub record Left (m : ℕ) (l r : List ℕ) : Type 0 where
   pub some : m ≤ length before
 
 -- a reading after another
-after : {A B : Type 0} (x : Read A) (f : A → List ℕ → Read B) (b : B) (r : List ℕ) → x then f ≡ taken b r → (a : A) × (q : List ℕ) × (x ≡ taken a q) × (f a q ≡ taken b r)
+pub after : {A B : Type 0} (x : Read A) (f : A → List ℕ → Read B) (b : B) (r : List ℕ) → x then f ≡ taken b r → (a : A) × (q : List ℕ) × (x ≡ taken a q) × (f a q ≡ taken b r)
 unfolding _then_
 after (taken a q) f b r e = (a, q, refl, e)
 after (refused k) f b r e = let z : _≡_ {A = ℕ} 0 1 = cc in absurd (omega arith)
@@ -59,48 +57,17 @@ numbers-left (suc n) l v r e =
     }
 
 -- ---- a record at a place of a sheet: the place after it
-module _ (s : List ℕ) (at : ℕ) (v r : List ℕ) (e : numbers 11 (drop at s) ≡ taken v r) where
-  lengths : length s - at ≡ length (numbers-left 11 (drop at s) v r e .before) + length r
+module _ (s : List ℕ) (at : ℕ) (v r : List ℕ) (e : numbers fields (drop at s) ≡ taken v r) where
+  lengths : length s - at ≡ length (numbers-left fields (drop at s) v r e .before) + length r
   lengths =
-      let p = numbers-left 11 (drop at s) v r e in
+      let p = numbers-left fields (drop at s) v r e in
       sym (length-drop at s) ∙ ap length (p .whole) ∙ length-append (p .before) r
 
   pub next-moves : (at < length s - length r) × (length s - length r ≤ length s)
-  next-moves = (omega (arith, lengths, numbers-left 11 (drop at s) v r e .some), omega arith)
+  next-moves = (omega (arith, lengths, numbers-left fields (drop at s) v r e .some), omega arith)
 
   pub next-left : drop (length s - length r) s ≡ r
   next-left =
-      let p = numbers-left 11 (drop at s) v r e in
+      let p = numbers-left fields (drop at s) v r e in
       let k : length s - length r ≡ at + length (p .before) = omega (arith, lengths, p .some) in
       rw k (sym (drop-drop (length (p .before)) at s) ∙ ap (drop (length (p .before))) (p .whole) ∙ drop-at (p .before) r (length (p .before)) refl)
-
--- ---- a refusal of the reader is 6 or 7
-Small : {A : Type 0} → Read A → Type 0
-Small (taken a q) = Unit {0}
-Small (refused k) = k ≤ malformed
-
-then-small : {A B : Type 0} (x : Read A) (f : A → List ℕ → Read B) → Small x → ((a : A) (q : List ℕ) → Small (f a q)) → Small (x then f)
-unfolding _then_ Small
-then-small (taken a q) f h g = g a q
-then-small (refused k) f h g = h
-
-group-small : (t z : Bool) (b : ℕ) (l : List ℕ) (x : Read ℕ) → Small x → Small (group t z b l x)
-unfolding group Small
-group-small true true b l x h = le-refl malformed
-group-small true false b l x h = tt
-group-small false z b l x h = h
-
-groups-small : (k : ℕ) (later : Bool) (l : List ℕ) → Small (groups k later l)
-unfolding groups Small
-groups-small zero later l = le-refl malformed
-groups-small (suc k) later [] = omega arith
-groups-small (suc k) later (b ∷ l) = group-small (ltb b 128) (later && eqb b 0) b l _ (then-small (groups k true l) _ (groups-small k true l) (λ m q. tt))
-
-numbers-small : (n : ℕ) (l : List ℕ) → Small (numbers n l)
-unfolding numbers number Small
-numbers-small zero l = tt
-numbers-small (suc n) l = then-small (numbers n l) _ (numbers-small n l) (λ v q. then-small (number q) _ (groups-small 8 false q) (λ x p. tt))
-
-pub refused-small : (n : ℕ) (l : List ℕ) (k : ℕ) → numbers n l ≡ refused k → k ≤ malformed
-unfolding Small
-refused-small n l k e = subst Small e (numbers-small n l)

@@ -6,3 +6,8 @@ pub mod Widths
 pub mod Steps
 pub mod Left
 pub mod Whole
+pub mod Filling
+pub mod Fills
+pub mod Numbers
+pub mod Refusing
+pub mod LineRefusals

@@ -11,7 +11,7 @@ use lib.ListN.{length, getD, take, drop, set, length-set, drop-of-length-le}
 use lib.Seq.{drop-cons, take-all, take-suc-set}
 use lib.Dec.{ltb, eqb, lit<}
 use Rattle.sheet.specs.Refusals.{cutShort, malformed}
-use Rattle.sheet.specs.Record.{Read, taken, refused, _then_, group, groups, number, numbers}
+use Rattle.sheet.specs.Record.{Read, taken, refused, _then_, group, groups, number, numbers, fields}
 
 -- a number whose groups so far make a, the next being worth u
 pub scaled : ℕ → ℕ → Read ℕ → Read ℕ
@@ -94,16 +94,16 @@ group-ninth s at value unit k g h = g .so-far ∙ let e : 8 - k ≡ 0 = omega ar
 
 -- ---- a record of which i numbers are read
 pub record Passed (s : List ℕ) (at : ℕ) (values : List ℕ) (next i : ℕ) : Type 0 where
-  pub few : i ≤ 11
-  pub all : length values ≡ 11
+  pub few : i ≤ fields
+  pub all : length values ≡ fields
   pub within : next ≤ length s
   pub so-far : numbers i (drop at s) ≡ taken (take i values) (drop next s)
 
-pub passed-none : (s : List ℕ) (at : ℕ) (values : List ℕ) → at ≤ length s → length values ≡ 11 → Passed s at values at 0
+pub passed-none : (s : List ℕ) (at : ℕ) (values : List ℕ) → at ≤ length s → length values ≡ fields → Passed s at values at 0
 unfolding numbers
 passed-none s at values h e = record { few = omega arith; all = e; within = h; so-far = refl }
 
-pub passed-more : (s : List ℕ) (at : ℕ) (values : List ℕ) (next i n m : ℕ) → Passed s at values next i → i < 11 → number (drop next s) ≡ taken n (drop m s) → m ≤ length s
+pub passed-more : (s : List ℕ) (at : ℕ) (values : List ℕ) (next i n m : ℕ) → Passed s at values next i → i < fields → number (drop next s) ≡ taken n (drop m s) → m ≤ length s
     → Passed s at (set values i n) m (i + 1)
 unfolding numbers _then_
 passed-more s at values next i n m p h e w =
@@ -120,16 +120,14 @@ unfolding numbers _then_
 stays zero i k l e = rw (zero-add i) e
 stays (suc d) i k l e = rw (suc-add d i, stays d i k l e)
 
-next-refused : (s : List ℕ) (at : ℕ) (values : List ℕ) (next i k : ℕ) → Passed s at values next i → number (drop next s) ≡ refused k → numbers (suc i) (drop at s) ≡ refused k
+pub number-refused : (n : ℕ) (l v r : List ℕ) (k : ℕ) → n < fields → numbers n l ≡ taken v r → number r ≡ refused k → numbers fields l ≡ refused k
 unfolding numbers _then_
-next-refused s at values next i k p e = rw (p .so-far, e)
+number-refused n l v r k h d e =
+    let s : numbers (suc n) l ≡ refused k = rw (d, e) in
+    let m : fields - suc n + suc n ≡ fields = omega arith in
+    rw m at (stays (fields - suc n) (suc n) k l s)
 
-pub passed-refused : (s : List ℕ) (at : ℕ) (values : List ℕ) (next i k : ℕ) → Passed s at values next i → i < 11 → number (drop next s) ≡ refused k → numbers 11 (drop at s) ≡ refused k
-passed-refused s at values next i k p h e =
-    let d : 10 - i + suc i ≡ 11 = omega arith in
-    rw d at (stays (10 - i) (suc i) k (drop at s) (next-refused s at values next i k p e))
-
-pub passed-all : (s : List ℕ) (at : ℕ) (values : List ℕ) (next i : ℕ) → Passed s at values next i → 11 ≤ i → numbers 11 (drop at s) ≡ taken values (drop next s)
+pub passed-all : (s : List ℕ) (at : ℕ) (values : List ℕ) (next i : ℕ) → Passed s at values next i → fields ≤ i → numbers fields (drop at s) ≡ taken values (drop next s)
 passed-all s at values next i p h =
-    let e : i ≡ 11 = omega (arith, p .few) in
-    rw e at (p .so-far) ∙ ap (λ (v : List ℕ). taken v (drop next s)) (take-all 11 values (le-of-eq (p .all)))
+    let e : i ≡ fields = omega (arith, p .few) in
+    rw e at (p .so-far) ∙ ap (λ (v : List ℕ). taken v (drop next s)) (take-all fields values (le-of-eq (p .all)))

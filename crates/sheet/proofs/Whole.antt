@@ -1,5 +1,6 @@
 -- The promises of the sheet: numbers and holdings as stored, lines that fit and move, and the steps that make the whole. Assumes nothing.
 use mathlib.Core.Path.{_≡_, refl, sym, ap, _∙_, subst}
+use mathlib.Core.Logic.{⊎-elim}
 use Prim.Native.Nat.{ℕ, zero, suc, _+_, _-_, _*_, _/_, _%_, _<_, _≤_}
 use native.Mathlib.Nat.{le-refl}
 use native.Mathlib.Omega.{arith}
@@ -12,7 +13,7 @@ use lib.Dec.{ltb, leb, eqb, lit<}
 use Rattle.quote.proofs.Replies.{replies-kept}
 use Rattle.quote.specs.Refusals.{limits}
 use Rattle.sheet.specs.Refusals.{malformed, longSheet}
-use Rattle.sheet.specs.Record.{Read, taken, refused, _then_, group, groups, number, numbers, stored, holdingBy, holding, recordOf, recordOk, recordIf, recordFrom, readRecord}
+use Rattle.sheet.specs.Record.{Read, taken, refused, _then_, group, groups, number, numbers, fields, stored, holdingBy, holding, recordOf, recordOk, recordIf, recordFrom, readRecord}
 use Rattle.sheet.specs.Lines.{refusalLine}
 use Rattle.sheet.specs.Sheet.{mostBytes, leastRoom, recordLine, Step, line, end, lineOf, lineAt, answered, first, headIf, headBy, headOf, lines, printedIf, printed}
 use Rattle.sheet.specs.Promises.{BillionRead, HoldingsStored, LinesFit, LinesMove, Followed, StepsMakeTheWhole}
@@ -21,7 +22,8 @@ use Rattle.sheet.specs.declared.record.Record.{Record}
 use Rattle.sheet.specs.declared.line.LineAnswer.the-variants as LineAnswer
 use Rattle.sheet.proofs.Widths.{answer-most, refusal-most}
 use Rattle.sheet.proofs.Steps.{line-end, line-long, line-read}
-use Rattle.sheet.proofs.Left.{next-moves, next-left, refused-small}
+use Rattle.sheet.proofs.Left.{next-moves, next-left}
+use Rattle.sheet.proofs.Numbers.{numbers-stopped, stopped-number}
 
 -- ---- numbers and holdings
 pub billion-read : BillionRead
@@ -69,23 +71,31 @@ text-most false r = refusal-most limits (lit< tt)
 data Due (s : List ℕ) (at : ℕ) : Step → Type 0 where
   long : Due s at (line (refusalLine longSheet) (length s))
   stopped : {k : ℕ} → k ≤ malformed → Due s at (line (refusalLine k) (length s))
-  read : {v r : List ℕ} → numbers 11 (drop at s) ≡ taken v r → Due s at (line (text (recordOk (recordOf v)) (recordOf v)) (length s - length r))
+  read : {v r : List ℕ} → numbers fields (drop at s) ≡ taken v r → Due s at (line (text (recordOk (recordOf v)) (recordOf v)) (length s - length r))
 
-due-read : (s : List ℕ) (at : ℕ) (x : Read (List ℕ)) → numbers 11 (drop at s) ≡ x → Due s at (lineOf (length s) (recordFrom (length s) x))
+due-read : (s : List ℕ) (at : ℕ) (x : Read (List ℕ)) → numbers fields (drop at s) ≡ x → Due s at (lineOf (length s) (recordFrom (length s) x))
 unfolding lineOf recordFrom
 due-read s at (taken v r) e = subst (Due s at) (sym (step-text (recordOk (recordOf v)) (recordOf v) (length s) (length s - length r))) (read e)
-due-read s at (refused k) e = stopped (refused-small 11 (drop at s) k e)
+due-read s at (refused k) e = stopped {k = k} (⊎-elim (λ z. omega arith) (λ z. omega arith) (stopped-number (numbers-stopped (drop at s) k .0 e)))
 
 due : (s : List ℕ) (at : ℕ) → at < length s → Due s at (lineAt s at)
 unfolding readRecord
 due s at h = go (leb (length s) mostBytes) (leb-true (length s) mostBytes) (leb-false (length s) mostBytes)
   where
     go : (m : Bool) → (m ≡ true → length s ≤ mostBytes) → (m ≡ false → mostBytes < length s) → Due s at (lineAt s at)
-    go true f g = rw (line-read s at h (f refl)) (due-read s at (numbers 11 (drop at s)) refl)
+    go true f g = rw (line-read s at h (f refl)) (due-read s at (numbers fields (drop at s)) refl)
     go false f g = rw (line-long s at h (g refl)) long
 
+due-line : (s : List ℕ) (at : ℕ) (x : Step) → Due s at x → (t : List ℕ) × (next : ℕ) × (x ≡ line t next)
+due-line s at x long = (_, _, refl)
+due-line s at x (stopped k) = (_, _, refl)
+due-line s at x (read d) = (_, _, refl)
+
+pub line-due : (s : List ℕ) (at : ℕ) → at < length s → (t : List ℕ) × (next : ℕ) × (lineAt s at ≡ line t next)
+line-due s at h = due-line s at (lineAt s at) (due s at h)
+
 -- a line is due before the end alone
-before-end : (s : List ℕ) (at : ℕ) (t : List ℕ) (next : ℕ) → lineAt s at ≡ line t next → at < length s
+pub before-end : (s : List ℕ) (at : ℕ) (t : List ℕ) (next : ℕ) → lineAt s at ≡ line t next → at < length s
 before-end s at t next e = go (ltb at (length s)) (ltb-true at (length s)) (ltb-false at (length s))
   where
     go : (m : Bool) → (m ≡ true → at < length s) → (m ≡ false → length s ≤ at) → at < length s
@@ -126,18 +136,18 @@ line-told b s at n next e =
 last-line : (s : List ℕ) (at : ℕ) (t : List ℕ) → lineAt s at ≡ line t (length s) → Followed s at t
 last-line s at t e = subst (Followed s at) (append-nil t) (Promises.stepped e (Promises.ended (line-end s (length s) (le-refl (length s)))))
 
-head-is : (l : List ℕ) → 0 < length l → headOf l ≡ headBy (numbers 11 l)
+head-is : (l : List ℕ) → 0 < length l → headOf l ≡ headBy (numbers fields l)
 unfolding headOf
 head-is [] h = absurd (omega arith)
 head-is (b ∷ l) h = refl
 
 module _ (s : List ℕ) (short : length s ≤ mostBytes) where
-  line-of : (at : ℕ) (x : Read (List ℕ)) → at < length s → numbers 11 (drop at s) ≡ x → lineAt s at ≡ lineOf (length s) (recordFrom (length s) x)
+  line-of : (at : ℕ) (x : Read (List ℕ)) → at < length s → numbers fields (drop at s) ≡ x → lineAt s at ≡ lineOf (length s) (recordFrom (length s) x)
   unfolding readRecord
   line-of at x h e = line-read s at h short ∙ ap (λ (y : Read (List ℕ)). lineOf (length s) (recordFrom (length s) y)) e
 
   -- one record, and those after it
-  follow-one : (k at : ℕ) (x : Read (List ℕ)) → at < length s → numbers 11 (drop at s) ≡ x → ((next : ℕ) → at < next → Followed s next (lines k (headOf (drop next s))))
+  follow-one : (k at : ℕ) (x : Read (List ℕ)) → at < length s → numbers fields (drop at s) ≡ x → ((next : ℕ) → at < next → Followed s next (lines k (headOf (drop next s))))
       → Followed s at (lines (suc k) (headBy x))
   unfolding lines headBy recordFrom lineOf
   follow-one k at (taken v r) h e f =
@@ -156,7 +166,7 @@ module _ (s : List ℕ) (short : length s ≤ mostBytes) where
       go : (m : Bool) → (m ≡ true → at < length s) → (m ≡ false → length s ≤ at) → ((next : ℕ) → at < next → Followed s next (lines k (headOf (drop next s))))
           → Followed s at (lines (suc k) (headOf (drop at s)))
       go true f g r =
-          rw (head-is (drop at s) (rw (length-drop at s) (omega (arith, f refl)))) (follow-one k at (numbers 11 (drop at s)) (f refl) refl r)
+          rw (head-is (drop at s) (rw (length-drop at s) (omega (arith, f refl)))) (follow-one k at (numbers fields (drop at s)) (f refl) refl r)
       go false f g r = rw (drop-of-length-le s (g refl)) (Promises.ended (line-end s at (g refl)))
 
 pub steps-make-the-whole : StepsMakeTheWhole

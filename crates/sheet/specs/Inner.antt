@@ -5,7 +5,7 @@ use mathlib.Core.Bool.{Bool, true, false}
 use mathlib.Core.List.{List}
 use lib.ListN.{length, drop}
 use lib.Dec.{eqb}
-use Rattle.sheet.specs.Record.{Read, taken, refused, number, numbers}
+use Rattle.sheet.specs.Record.{Read, taken, refused, number, numbers, fields}
 use Rattle.sheet.specs.declared.record.Number.{Number}
 use Rattle.sheet.specs.declared.record.Number.the-variants as Number
 use Rattle.sheet.specs.declared.record.Numbers.{Numbers}
@@ -21,4 +21,4 @@ readBy true k v l = taken v l
 readBy false k v l = refused k
 
 abbrev pub NumbersAre : List ℕ → ℕ → Numbers → Type 0
-NumbersAre s at r = (numbers 11 (drop at s) ≡ readBy (eqb (r .kind) 0) (r .kind) (r .values) (drop (r .next) s)) × (r .next ≤ length s)
+NumbersAre s at r = (numbers fields (drop at s) ≡ readBy (eqb (r .kind) 0) (r .kind) (r .values) (drop (r .next) s)) × (r .next ≤ length s)

@@ -3,10 +3,12 @@ use mathlib.Core.Path.{_≡_}
 use Prim.Native.Nat.{ℕ, _<_, _≤_}
 use mathlib.Core.List.{List, [], _∷_, _++_}
 use lib.IntN.{ℤ}
-use lib.ListN.{length}
+use lib.ListN.{length, take}
 use Rattle.quote.specs.Configuration.{billion}
 use Rattle.sheet.specs.Record.{taken, number, stored, holding}
 use Rattle.sheet.specs.Sheet.{leastRoom, line, end, lineAt, printed}
+use Rattle.sheet.specs.Fill.{filled, leftIn}
+use Rattle.sheet.specs.declared.fill.FillAnswer.the-variants as FillAnswer
 
 -- ---- the paper's example: 1,000,000,000 is hex 80 94 EB DC 03
 abbrev pub BillionRead : Type 0
@@ -31,3 +33,25 @@ pub data Followed (s : List ℕ) : ℕ → List ℕ → Type 0 where
 
 abbrev pub StepsMakeTheWhole : Type 0
 StepsMakeTheWhole = (s : List ℕ) → Followed s 0 (printed s)
+
+-- ---- whole lines: a fill stays within its buffer; before the end it goes on, and stays within the sheet; from the end on it fills nothing and stays
+abbrev pub FillsFit : Type 0
+FillsFit = (s : List ℕ) (at : ℕ) (b : List ℕ) (n next : ℕ) → filled s at b ≡ FillAnswer.Filled n next → n ≤ length b
+
+abbrev pub FillsMove : Type 0
+FillsMove = (s : List ℕ) (at : ℕ) (b : List ℕ) (n next : ℕ) → filled s at b ≡ FillAnswer.Filled n next → at < length s → (at < next) × (next ≤ length s)
+
+abbrev pub FillsEnd : Type 0
+FillsEnd = (s : List ℕ) (at : ℕ) (b : List ℕ) (n next : ℕ) → filled s at b ≡ FillAnswer.Filled n next → length s ≤ at → (n ≡ 0) × (next ≡ at)
+
+-- ---- the fills make the whole: fills one after the other from a place until the end, each into a buffer of its own size, and the bytes that they hand on
+pub data Fills (s : List ℕ) : ℕ → List ℕ → Type 0 where
+  finished : {at : ℕ} → length s ≤ at → Fills s at []
+  onward : {at next : ℕ} {u : List ℕ} (b : List ℕ) (n : ℕ) → at < length s → filled s at b ≡ FillAnswer.Filled n next → Fills s next u → Fills s at (take n (leftIn s at b) ++ u)
+
+abbrev pub FillsMakeTheWhole : Type 0
+FillsMakeTheWhole = (s t : List ℕ) → Fills s 0 t → t ≡ printed s
+
+-- and there are such fills, to the end, wherever a buffer has the room
+abbrev pub FillsFinish : Type 0
+FillsFinish = (s b : List ℕ) → leastRoom ≤ length b → Fills s 0 (printed s)

@@ -1,8 +1,14 @@
 // The sheet: records in, lines out.
+mod fill;
 mod line;
 mod record;
+pub mod refusals;
 
+pub use fill::FillAnswer;
+pub use fill::fill_lines;
+pub use line::LEAST_ROOM;
 pub use line::LineAnswer;
+pub use line::MOST_BYTES;
 pub use line::next_line;
 pub use record::Record;
 pub use record::RecordAnswer;

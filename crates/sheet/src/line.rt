@@ -8,14 +8,22 @@ ghost use lib.Dec.{T};
 ghost use lib.Ieee.{isNan};
 ghost use Rattle.quote.specs.Replies.{PriceKept, ReplyKept};
 ghost use Rattle.sheet.specs.Lines.{glyph, digits, places, count, price, side, hex, quotesLine, capLine, refusalLine, answerLine, over};
-ghost use Rattle.sheet.specs.Sheet.{recordLine, lineAt, hasRoom, answered, left};
+ghost use Rattle.sheet.specs.Sheet.{leastRoom, recordLine, lineAt, hasRoom, answered, left};
 use crate::record::Record;
 use crate::record::RecordAnswer;
 use crate::record::read_record;
+use crate::refusals::LONG_SHEET;
+use crate::refusals::SMALL_BUFFER;
 use quote::ExactQuotes;
 use quote::GLFTStrategy;
 use quote::GlftQuotes;
 use quote::Price;
+
+// The least line buffer: the most bytes that a line takes.
+pub const LEAST_ROOM: usize = 64;
+
+// The longest sheet.
+pub const MOST_BYTES: usize = 65536;
 
 // The length of a line and the place of the next record; the end of the sheet; or a refusal by 8.
 pub enum LineAnswer {
@@ -174,7 +182,7 @@ fn write_refusal(line: &mut [u8], number: u8) -> usize
 // The line of an answer, which takes at most 64 bytes.
 fn write_answer(line: &mut [u8], answer: ExactQuotes) -> usize
     requires { ⌜ ReplyKept answer ⌝ }
-    requires { ⌜ 64 ≤ length (now line) ⌝ }
+    requires { ⌜ leastRoom ≤ length (now line) ⌝ }
     ensures { λ _. ⌜ now (line .exit) ≡ over (answerLine answer) (now (line .entry)) ⌝ }
     ensures { λ r. ⌜ r ≡ length (answerLine answer) ⌝ }
 {
@@ -187,7 +195,7 @@ fn write_answer(line: &mut [u8], answer: ExactQuotes) -> usize
 
 // The line of a record.
 fn write_record(line: &mut [u8], r: Record) -> usize
-    requires { ⌜ 64 ≤ length (now line) ⌝ }
+    requires { ⌜ leastRoom ≤ length (now line) ⌝ }
     ensures { λ _. ⌜ now (line .exit) ≡ over (recordLine r) (now (line .entry)) ⌝ }
     ensures { λ n. ⌜ n ≡ length (recordLine r) ⌝ }
 {
@@ -207,14 +215,14 @@ pub fn next_line(sheet: &[u8], at: usize, line: &mut [u8]) -> LineAnswer
     ensures { λ r. ⌜ r ≡ answered (hasRoom (now (line .entry))) (lineAt (now (sheet .entry)) at) ⌝ }
     ensures { λ _. ⌜ now (line .exit) ≡ left (hasRoom (now (line .entry))) (lineAt (now (sheet .entry)) at) (now (line .entry)) ⌝ }
 {
-    if line.len() < 64 {
-        return LineAnswer::Refused(8);
+    if line.len() < LEAST_ROOM {
+        return LineAnswer::Refused(SMALL_BUFFER);
     }
     if at >= sheet.len() {
         return LineAnswer::End;
     }
-    if sheet.len() > 65536 {
-        return LineAnswer::Written(write_refusal(line, 9), sheet.len());
+    if sheet.len() > MOST_BYTES {
+        return LineAnswer::Written(write_refusal(line, LONG_SHEET), sheet.len());
     }
     match read_record(sheet, at) {
         RecordAnswer::Record(r, next) => LineAnswer::Written(write_record(line, r), next),

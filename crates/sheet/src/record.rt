@@ -6,9 +6,23 @@ ghost use lib.Dec.{T};
 ghost use Rattle.quote.specs.Configuration.{amountLimit};
 ghost use Rattle.sheet.specs.Record.{holding, recordOf, recordOk, readRecord};
 ghost use Rattle.sheet.specs.Inner.{NumberIs, NumbersAre};
+use crate::refusals::CUT_SHORT;
+use crate::refusals::MALFORMED;
 use quote::GLFTConfig;
 
+// The numbers of a record.
+const FIELDS: usize = 11;
+
+// The most groups of a number.
+const MOST_GROUPS: usize = 8;
+
 const MOST: u64 = GLFTConfig::MAX_AMOUNT as u64;
+
+// The largest bound that is read.
+const MOST_BOUND: u64 = 4294967295;
+
+// An amount, a time or the bound beyond its limit: a number of the quote layer.
+const LIMITS: u8 = 2;
 
 // The eleven numbers of a record.
 pub struct Record {
@@ -36,7 +50,7 @@ enum Number {
 // Eleven numbers and the place after them; kind is 0, or the refusal.
 struct Numbers {
     kind: u8,
-    values: [u64; 11],
+    values: [u64; FIELDS],
     next: usize,
 }
 
@@ -54,15 +68,15 @@ fn read_number(s: &[u8], at: usize) -> Number
     let mut value: u64 = 0;
     let mut unit: u64 = 1;
     let mut groups: usize = 0;
-    while groups < 8 {
+    while groups < MOST_GROUPS {
         let i = at + groups;
         if i >= s.len() {
-            return Number::Refused(6);
+            return Number::Refused(CUT_SHORT);
         }
         let b = s[i];
         if b < 128 {
             if (groups > 0) & (b == 0) {
-                return Number::Refused(7);
+                return Number::Refused(MALFORMED);
             }
             return Number::Value(value + wide(b) * unit, i + 1);
         }
@@ -70,7 +84,7 @@ fn read_number(s: &[u8], at: usize) -> Number
         unit = unit * 128;
         groups += 1;
     }
-    Number::Refused(7)
+    Number::Refused(MALFORMED)
 }
 
 // The eleven numbers from a place on.
@@ -78,10 +92,10 @@ fn read_numbers(s: &[u8], at: usize) -> Numbers
     requires { ⌜ at ≤ length (now s) ⌝ }
     ensures { λ r. ⌜ NumbersAre (now (s .entry)) at r ⌝ }
 {
-    let mut values: [u64; 11] = [0; 11];
+    let mut values: [u64; FIELDS] = [0; FIELDS];
     let mut next = at;
     let mut i: usize = 0;
-    while i < 11 {
+    while i < FIELDS {
         match read_number(s, next) {
             Number::Value(v, n) => {
                 values[i] = v;
@@ -101,7 +115,7 @@ fn read_numbers(s: &[u8], at: usize) -> Numbers
 }
 
 // Whether every number is within its limit. A stored holding is about twice its size.
-fn within_limits(v: [u64; 11]) -> bool
+fn within_limits(v: [u64; FIELDS]) -> bool
     ensures { λ r. ⌜ r ≡ recordOk (recordOf v) ⌝ }
 {
     let config = (v[3] <= MOST)
@@ -115,7 +129,7 @@ fn within_limits(v: [u64; 11]) -> bool
         & (v[2] <= MOST)
         & config
         & (v[9] <= GLFTConfig::MAX_TIME)
-        & (v[6] <= 4294967295)
+        & (v[6] <= MOST_BOUND)
 }
 
 // A stored holding: 2h, or -2h - 1 where it is negative.
@@ -130,7 +144,7 @@ fn holding_of(stored: u64) -> i64
     -1 - half
 }
 
-fn record_of(v: [u64; 11]) -> Record
+fn record_of(v: [u64; FIELDS]) -> Record
     requires { ⌜ T (recordOk (recordOf v)) ⌝ }
     ensures { λ r. ⌜ r ≡ recordOf v ⌝ }
 {
@@ -157,7 +171,7 @@ pub fn read_record(sheet: &[u8], at: usize) -> RecordAnswer
     ensures { λ r. ⌜ r ≡ readRecord (now (sheet .entry)) at ⌝ }
 {
     if at > sheet.len() {
-        return RecordAnswer::Refused(6);
+        return RecordAnswer::Refused(CUT_SHORT);
     }
     let numbers = read_numbers(sheet, at);
     let kind = numbers.kind;
@@ -168,5 +182,5 @@ pub fn read_record(sheet: &[u8], at: usize) -> RecordAnswer
     if within_limits(values) {
         return RecordAnswer::Record(record_of(values), numbers.next);
     }
-    RecordAnswer::Skipped(2, numbers.next)
+    RecordAnswer::Skipped(LIMITS, numbers.next)
 }

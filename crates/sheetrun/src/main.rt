@@ -7,16 +7,16 @@ ghost use lib.ListN.{length};
 use sheet::LineAnswer;
 
 // One byte more than the longest sheet.
-const ROOM: usize = 65537;
+const ROOM: usize = sheet::MOST_BYTES + 1;
 
 fn say(text: &[u8]) {
     io::write_all(libc::STDOUT_FILENO, text);
 }
 
-fn blank_line() -> [u8; 64]
+fn blank_line() -> [u8; sheet::LEAST_ROOM]
     ensures { λ r. ⌜ 64 ≡ length r ⌝ }
 {
-    [0; 64]
+    [0; sheet::LEAST_ROOM]
 }
 
 // Writes the line at a place of a sheet, and answers the next place.
@@ -59,10 +59,10 @@ fn read_length() -> usize {
     wide(bytes[0]) + wide(bytes[1]) * 256 + wide(bytes[2]) * 65536
 }
 
-fn blank_sheet() -> [u8; 65537]
+fn blank_sheet() -> [u8; ROOM]
     ensures { λ r. ⌜ 65537 ≡ length r ⌝ }
 {
-    [0; 65537]
+    [0; ROOM]
 }
 
 // Reads a sheet and writes its lines; false where there is none.

@@ -1,20 +1,20 @@
--- `quotesheet::write_lines` is safe and ends. The loop's invariant: the bytes gathered are within `out`, and `at` is within the sheet. The measure is what is
--- left of the sheet, which each line makes less. Assumes nothing.
+-- `quotesheet::write_lines` is safe and ends. The loop's invariant: the buffer has its length, and the place is within the sheet. The measure is what is left of
+-- the sheet, which each fill makes less. Assumes nothing.
 use mathlib.Core.Path.{_≡_, sym, _∙_}
-use mathlib.Core.Logic.{⊎-elim}
-use Prim.Native.Nat.{_+_, _-_, _≤_}
+use Prim.Native.Nat.{_-_, _<_, _≤_}
 use native.Mathlib.Omega.{arith}
 use lib.ListN.{length}
+use denote.Ref.{now}
+use Rattle.sheet.proofs.Fills.{fills-fit, fills-move}
 use borrow.Author.Needs.{needs}
-use borrow.Rule.Slice.PartMut.{same-len-mid}
 use Rattle.quotesheet.proofs.write_lines.Statement.{statement}
 use Rattle.quotesheet.proofs.write_lines.Tie as tie
 
 abbrev Inv-loop : tie.InvT-loop
-Inv-loop s out₀ n₀ at₀ out n at = (65536 ≡ length out) × (n ≤ 65536) × (at ≤ length s)
+Inv-loop s out₀ at₀ out at = (65536 ≡ length out) × (at ≤ length s)
 
 abbrev μ-loop : tie.MeasureT-loop
-μ-loop s out₀ n₀ at₀ out n at = length s - at
+μ-loop s out₀ at₀ out at = length s - at
 
 large-buffer-requires : tie.Need-large-buffer-requires Inv-loop μ-loop
 large-buffer-requires c κs = search needs
@@ -22,54 +22,44 @@ large-buffer-requires c κs = search needs
 loop-holds : tie.Need-loop-holds Inv-loop μ-loop
 loop-holds c = search needs
 
-sub-if1 : tie.Need-sub-if1 Inv-loop μ-loop
-sub-if1 c = search needs
+slice-aggregate-fill : tie.Need-slice-aggregate-fill Inv-loop μ-loop
+slice-aggregate-fill c = search needs
 
-slice-aggregate-flush : tie.Need-slice-aggregate-flush Inv-loop μ-loop
-slice-aggregate-flush c = search needs
+fill-requires : tie.Need-fill-requires Inv-loop μ-loop
+fill-requires c κs = search needs
 
-flush-requires : tie.Need-flush-requires Inv-loop μ-loop
-flush-requires c κs = search needs
+slice-aggregate-first : tie.Need-slice-aggregate-first Inv-loop μ-loop
+slice-aggregate-first c = search needs
+
+-- a fill stays within its buffer, and goes on
+fits : (c : tie.After-fill Inv-loop μ-loop) → c .fill .result .count ≤ 65536
+fits c =
+    let l = c .before .before .before in
+    omega (arith, fills-fit (now (l .before .before .before .args .s)) (l .loop .at) (l .loop .out) _ _ (c .fill .ensures .0))
+
+moves : (c : tie.After-fill Inv-loop μ-loop) → let l = c .before .before .before in (l .loop .at < c .fill .result .next) × (c .fill .result .next ≤ length (now (l .before .before .before .args .s)))
+moves c =
+    let l = c .before .before .before in
+    fills-move (now (l .before .before .before .args .s)) (l .loop .at) (l .loop .out) _ _ (c .fill .ensures .0) (c .before .before .loop-test .taken)
+
+first-requires : tie.Need-first-requires Inv-loop μ-loop
+first-requires c κs =
+    let w = c .before .before in
+    omega (arith, fits w, w .fill .kept .1 .1 .0)
+
+write-all-requires : tie.Need-write-all-requires Inv-loop μ-loop
+write-all-requires c κs = search needs
 
 returns : tie.Need-returns Inv-loop μ-loop
 returns c = search needs
 
-room : (c : tie.Joined1 Inv-loop μ-loop) → c .if1 .n + 64 ≤ 65536
-room c = ⊎-elim (λ w. omega arith) (λ w. omega arith) (c .if1 .came)
-
-sub-add-line : tie.Need-sub-add-line Inv-loop μ-loop
-sub-add-line c = omega (arith, room (c .before))
-
-part-out-start : tie.Need-part-out-start Inv-loop μ-loop
-part-out-start c = omega (arith, room (c .before))
-
-part-out-end : tie.Need-part-out-end Inv-loop μ-loop
-part-out-end c = search needs
-
-add-line-requires : tie.Need-add-line-requires Inv-loop μ-loop
-add-line-requires c κs = search needs
-
-add-n : tie.Need-add-n Inv-loop μ-loop
-add-n c = omega (arith, room (c .before .before .before .before .before), c .before .before .add-line .ensures)
-
 loop-less : tie.Need-loop-less Inv-loop μ-loop
-loop-less c = search needs
+loop-less c = omega (arith, moves (c .before .before .before .before .before))
 
 loop-again : tie.Need-loop-again Inv-loop μ-loop
 loop-again c =
-    let w = c .before .before in
-    let k = w .before .before .before in
-    let l = k .before .before .loop in (
-      l .inv .0 ∙ sym (same-len-mid (k .if1 .n) (65536 - k .if1 .n) (l .out) (w .add-line .last .1 .1 .0) (w .add-line .kept .1 .1 .0)),
-      omega (arith, room k, w .add-line .ensures),
-      w .add-line .ensures .2,
-    )
-
-slice-aggregate-flush-2 : tie.Need-slice-aggregate-flush-2 Inv-loop μ-loop
-slice-aggregate-flush-2 c = search needs
-
-flush-requires-2 : tie.Need-flush-requires-2 Inv-loop μ-loop
-flush-requires-2 c κs = search needs
+    let w = c .before .before .before .before .before in
+    (w .before .before .before .loop .inv .0 ∙ sym (w .fill .kept .1 .1 .0), moves w .1)
 
 returns-2 : tie.Need-returns-2 Inv-loop μ-loop
 returns-2 c = search needs
@@ -82,17 +72,12 @@ write-lines-spec =
     μ-loop
     large-buffer-requires
     loop-holds
-    sub-if1
-    slice-aggregate-flush
-    flush-requires
+    slice-aggregate-fill
+    fill-requires
+    slice-aggregate-first
+    first-requires
+    write-all-requires
     returns
-    sub-add-line
-    part-out-start
-    part-out-end
-    add-line-requires
-    add-n
     loop-less
     loop-again
-    slice-aggregate-flush-2
-    flush-requires-2
     returns-2)

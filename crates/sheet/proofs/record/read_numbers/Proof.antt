@@ -5,7 +5,7 @@ use native.Mathlib.Omega.{arith}
 use borrow.Author.Needs.{needs}
 use borrow.Author.Tests.{ne-eqb}
 use Rattle.sheet.specs.Inner.{NumberIs, readBy}
-use Rattle.sheet.proofs.Reading.{Passed, passed-none, passed-more, passed-refused, passed-all}
+use Rattle.sheet.proofs.Reading.{Passed, passed-none, passed-more, number-refused, passed-all}
 use Rattle.sheet.proofs.record.read_numbers.Statement.{statement}
 use Rattle.sheet.proofs.record.read_numbers.Tie as tie
 
@@ -39,7 +39,7 @@ returns c =
     let k = c .before .before .before in
     let l = k .before .before .loop in
     let r = rw (c .before .kind .given .1) at (k .read-number .ensures) in
-    (passed-refused _ _ _ _ _ _ (l .inv) (k .before .loop-test .taken) (r .0) ∙ rw (ne-eqb (c .before .kind .given .0 .0) 0 (λ e. omega arith)), l .inv .within)
+    (number-refused _ _ _ _ _ (k .before .loop-test .taken) (l .inv .so-far) (r .0) ∙ rw (ne-eqb (c .before .kind .given .0 .0) 0 (λ e. omega arith)), l .inv .within)
 
 add-i : tie.Need-add-i Inv-loop μ-loop
 add-i c = search needs

@@ -1,0 +1,82 @@
+-- Document 01: each of 6, 7, 2, 8 and 9 is the reply of this layer in just the situation named. Named statements, each proved once, in proofs/. Definitions only.
+use mathlib.Core.Path.{_≡_}
+use mathlib.Core.Logic.{_↔_}
+use Prim.Native.Nat.{ℕ, suc, _-_, _<_, _≤_}
+use mathlib.Core.Bool.{Bool, true, false, _&&_}
+use mathlib.Core.List.{List, [], _∷_, _++_}
+use lib.ListN.{length, drop}
+use lib.Dec.{leb}
+use Rattle.quote.specs.Refusals.{limits}
+use Rattle.sheet.specs.Refusals.{cutShort, malformed, smallBuffer, longSheet}
+use Rattle.sheet.specs.Record.{taken, numbers, fields, recordOf, recordOk, readRecord}
+use Rattle.sheet.specs.Lines.{refusalLine}
+use Rattle.sheet.specs.Sheet.{mostBytes, leastRoom, line, lineAt, hasRoom, answered}
+use Rattle.sheet.specs.Fill.{filled}
+use Rattle.sheet.specs.declared.record.RecordAnswer.the-variants as RecordAnswer
+use Rattle.sheet.specs.declared.line.LineAnswer.the-variants as LineAnswer
+use Rattle.sheet.specs.declared.fill.FillAnswer.the-variants as FillAnswer
+
+-- ==== 8: the buffer has fewer than 64 bytes, whatever the sheet and the place
+abbrev pub BufferRefusals : Type 0
+BufferRefusals = (s : List ℕ) (at : ℕ) (b : List ℕ) (k : ℕ)
+    → ((answered (hasRoom b) (lineAt s at) ≡ LineAnswer.Refused k) ↔ ((k ≡ smallBuffer) × (length b < leastRoom)))
+    × ((filled s at b ≡ FillAnswer.Refused k) ↔ ((k ≡ smallBuffer) × (length b < leastRoom)))
+
+-- ==== 6 and 7, over the bytes
+-- every byte has its top bit set: another group follows each
+unfoldable pub allTop : List ℕ → Bool
+allTop [] = true
+allTop (b ∷ l) = leb 128 b && allTop l
+
+-- a whole number: fewer than 8 groups that another follows, and the last, which is zero only where it is alone
+abbrev pub WholeNumber : List ℕ → Type 0
+WholeNumber u = (w : List ℕ) × (b : ℕ) × (u ≡ w ++ (b ∷ [])) × (allTop w ≡ true) × (length w < 8) × (b < 128) × (b ≡ 0 → w ≡ [])
+
+-- the bytes end inside a number, or before it
+abbrev pub EndsInside : List ℕ → Type 0
+EndsInside l = (allTop l ≡ true) × (length l < 8)
+
+-- the eighth byte has its top bit set, as those before it
+abbrev pub NinthGroup : List ℕ → Type 0
+NinthGroup l = (w : List ℕ) × (r : List ℕ) × (l ≡ w ++ r) × (allTop w ≡ true) × (length w ≡ 8)
+
+-- of several groups, 8 at most, the last is zero
+abbrev pub ZeroLast : List ℕ → Type 0
+ZeroLast l = (w : List ℕ) × (r : List ℕ) × (l ≡ w ++ (0 ∷ r)) × (allTop w ≡ true) × (0 < length w) × (length w < 8)
+
+-- n whole numbers stand at the head of some bytes, and r after them
+pub data After (l : List ℕ) : ℕ → List ℕ → Type 0 where
+  at-once : After l 0 l
+  further : {n : ℕ} {u r : List ℕ} → After l n (u ++ r) → WholeNumber u → After l (suc n) r
+
+-- after fewer numbers than a record has, the next one does not do: the first met decides
+pub data Stopped (l : List ℕ) : ℕ → Type 0 where
+  by-6 : {n : ℕ} {r : List ℕ} → n < fields → After l n r → EndsInside r → Stopped l cutShort
+  by-7-ninth : {n : ℕ} {r : List ℕ} → n < fields → After l n r → NinthGroup r → Stopped l malformed
+  by-7-zero : {n : ℕ} {r : List ℕ} → n < fields → After l n r → ZeroLast r → Stopped l malformed
+
+abbrev pub RecordRefusals : Type 0
+RecordRefusals = (s : List ℕ) (at k : ℕ) → (readRecord s at ≡ RecordAnswer.Refused k) ↔ Stopped (drop at s) k
+
+-- ==== 2: all numbers are taken, and one is beyond its limit; reading goes on after them
+abbrev pub Beyond : List ℕ → ℕ → ℕ → Type 0
+Beyond s at next = (v : List ℕ) × (r : List ℕ) × (numbers fields (drop at s) ≡ taken v r) × (recordOk (recordOf v) ≡ false) × (next ≡ length s - length r)
+
+abbrev pub RecordSkips : Type 0
+RecordSkips = (s : List ℕ) (at k next : ℕ) → (readRecord s at ≡ RecordAnswer.Skipped k next) ↔ ((k ≡ limits) × Beyond s at next)
+
+-- ==== the lines: `R 9` for a sheet over 65,536 bytes, before its end; else `R 6` and `R 7`, after which nothing is read, and `R 2`, after which reading goes on
+abbrev pub LongLine : Type 0
+LongLine = (s : List ℕ) (at next : ℕ) → (lineAt s at ≡ line (refusalLine longSheet) next) ↔ ((at < length s) × (mostBytes < length s) × (next ≡ length s))
+
+abbrev pub Readable : List ℕ → ℕ → Type 0
+Readable s at = (at < length s) × (length s ≤ mostBytes)
+
+abbrev pub StoppedLine : ℕ → Type 0
+StoppedLine k = (s : List ℕ) (at next : ℕ) → (lineAt s at ≡ line (refusalLine k) next) ↔ (Readable s at × Stopped (drop at s) k × (next ≡ length s))
+
+abbrev pub SkippedLine : Type 0
+SkippedLine = (s : List ℕ) (at next : ℕ) → (lineAt s at ≡ line (refusalLine limits) next) ↔ (Readable s at × Beyond s at next)
+
+abbrev pub LineRefusals : Type 0
+LineRefusals = LongLine × StoppedLine cutShort × StoppedLine malformed × SkippedLine
