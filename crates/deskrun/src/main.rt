@@ -211,10 +211,8 @@ fn run_block() -> bool {
     n == BLOCK
 }
 
-// A proved loop has to end, and nothing says that the input does. So the blocks are counted down,
-// from a number that no run uses up.
 fn main() {
-    let mut blocks: u64 = 0xFFFFFFFFFFFFFFFF;
+    let mut blocks = harness::MANY;
     while blocks > 0 && run_block() {
         blocks -= 1;
     }

@@ -3,6 +3,7 @@
 // each, the float entry's answer: `V`, the steps, bid and ask (`-` if absent), n, the n weights and
 // the n offsets; `C`, the steps needed and the budget left; or `R` and a refusal's number. A float
 // is 16 upper-case hex digits. A record that ends inside itself is the last: `R 6`.
+use harness::MANY;
 use harness::bound_of;
 use harness::float_of;
 use harness::make_room;
@@ -76,26 +77,36 @@ fn put_vector(out: &mut [u8], start: usize, v: ValueVector) -> usize {
     put_floats(out, at, &o, n)
 }
 
-fn put_answer(out: &mut [u8], start: usize, a: FloatAnswer) -> usize {
-    let answer = a.answer;
-    let v = a.vector;
+// `V`, the steps and both sides.
+fn put_distances(out: &mut [u8], start: usize, bid: Distance, ask: Distance, steps: u32) -> usize {
+    let mut at = put(out, start, b"V");
+    at = put_number(out, at, steps as u64);
+    at = put_side(out, at, bid);
+    put_side(out, at, ask)
+}
+
+// `C`, the steps needed and the budget left.
+fn put_cap(out: &mut [u8], start: usize, needed: f64, budget: u32) -> usize {
+    let mut at = put(out, start, b"C");
+    at = put_float(out, at, needed);
+    put_number(out, at, budget as u64)
+}
+
+// `R` and a refusal's number.
+fn put_refusal(out: &mut [u8], start: usize, number: u8) -> usize {
+    let at = put(out, start, b"R");
+    put_number(out, at, number as u64)
+}
+
+// An answer, with its vector where there are distances.
+fn put_answer(out: &mut [u8], start: usize, answer: Answer, v: ValueVector) -> usize {
     match answer {
         Answer::Distances(bid, ask, steps) => {
-            let mut at = put(out, start, b"V");
-            at = put_number(out, at, steps as u64);
-            at = put_side(out, at, bid);
-            at = put_side(out, at, ask);
+            let at = put_distances(out, start, bid, ask, steps);
             put_vector(out, at, v)
         }
-        Answer::OverCap(needed, budget, _) => {
-            let mut at = put(out, start, b"C");
-            at = put_float(out, at, needed);
-            put_number(out, at, budget as u64)
-        }
-        Answer::Refused(number) => {
-            let at = put(out, start, b"R");
-            put_number(out, at, number as u64)
-        }
+        Answer::OverCap(needed, budget, _) => put_cap(out, start, needed, budget),
+        Answer::Refused(number) => put_refusal(out, start, number),
     }
 }
 
@@ -116,9 +127,13 @@ fn answer_at(s: &[u8], at: usize) -> FloatAnswer {
     float_entry(k, alpha, eta, base, bound, tau, q)
 }
 
-fn put_line(out: &mut [u8], start: usize, a: FloatAnswer) -> usize {
-    let at = put_answer(out, start, a);
-    put(out, at, b"\n")
+// The line of the record at a place.
+fn put_line(out: &mut [u8], start: usize, s: &[u8], at: usize) -> usize {
+    let a = answer_at(s, at);
+    let answer = a.answer;
+    let v = a.vector;
+    let end = put_answer(out, start, answer, v);
+    put(out, end, b"\n")
 }
 
 // Puts the lines of the records in the first n bytes of s into `out`, which is written out whenever
@@ -127,7 +142,7 @@ fn put_lines(out: &mut [u8], s: &[u8], n: usize) -> usize {
     let mut used: usize = 0;
     for i in 0..n / RECORD {
         used = make_room(out, used, LINE);
-        used = put_line(out, used, answer_at(s, i * RECORD));
+        used = put_line(out, used, s, i * RECORD);
     }
     used
 }
@@ -143,10 +158,8 @@ fn run_block() -> bool {
     n == BLOCK
 }
 
-// A proved loop has to end, and nothing says that the input does. So the blocks are counted down,
-// from a number that no run uses up.
 fn main() {
-    let mut blocks: u64 = 0xFFFFFFFFFFFFFFFF;
+    let mut blocks = MANY;
     while blocks > 0 && run_block() {
         blocks -= 1;
     }

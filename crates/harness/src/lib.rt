@@ -4,6 +4,7 @@ mod standard;
 mod text;
 mod word;
 
+pub use standard::MANY;
 pub use standard::make_room;
 pub use standard::read_block;
 pub use standard::say;

@@ -6,6 +6,10 @@ ghost use Rattle.harness.specs.Texts.{fits};
 use crate::text::has_room;
 use crate::word::pattern_of;
 
+// A proved loop has to end, and nothing says that the input does. So a program counts its blocks down,
+// from a number that no run uses up.
+pub const MANY: u64 = 0xFFFFFFFFFFFFFFFF;
+
 // Reads until there are `most` bytes, the buffer is full or the input ends, and answers how many bytes
 // it put at the start of the buffer.
 pub fn read_block(buf: &mut [u8], most: usize) -> usize
@@ -17,6 +21,7 @@ pub fn read_block(buf: &mut [u8], most: usize) -> usize
     io::read_full(libc::STDIN_FILENO, buf)
 }
 
+// Writes a text.
 pub fn say(text: &[u8]) {
     io::write_all(libc::STDOUT_FILENO, text);
 }

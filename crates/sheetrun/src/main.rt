@@ -68,10 +68,8 @@ fn run_sheet() -> bool {
     true
 }
 
-// A proved loop has to end, and nothing says that the input does. So the sheets are counted down,
-// from a number that no run uses up.
 fn main() {
-    let mut sheets: u64 = 0xFFFFFFFFFFFFFFFF;
+    let mut sheets = harness::MANY;
     while sheets > 0 && run_sheet() {
         sheets -= 1;
     }

@@ -18,11 +18,8 @@ loop-holds c = search needs
 make-room-requires : tie.Need-make-room-requires Inv-loop μ-loop
 make-room-requires c κs = tt
 
-mul-answer-at : tie.Need-mul-answer-at Inv-loop μ-loop
-mul-answer-at c = search needs
-
-answer-at-requires : tie.Need-answer-at-requires Inv-loop μ-loop
-answer-at-requires c κs = tt
+mul-put-line : tie.Need-mul-put-line Inv-loop μ-loop
+mul-put-line c = search needs
 
 put-line-requires : tie.Need-put-line-requires Inv-loop μ-loop
 put-line-requires c κs = tt
@@ -50,8 +47,7 @@ put-lines-spec =
     μ-loop
     loop-holds
     make-room-requires
-    mul-answer-at
-    answer-at-requires
+    mul-put-line
     put-line-requires
     add-i
     loop-less
