@@ -7,9 +7,14 @@
 // and the steps spent; `P` for a configuration that passes; `M`, a model's seven floats, its bound and
 // the holding in lots; or `R` and a refusal's number. A bound that 32 bits do not hold is refused by
 // 2, and a record that ends inside itself, the last, by 6.
-ghost use Prim.Native.Nat.{_+_, _<_, _≤_};
-ghost use mathlib.Core.Path.{_≡_};
-ghost use lib.ListN.{length};
+use harness::LARGEST_BOUND;
+use harness::bound_of;
+use harness::say;
+use harness::say_float;
+use harness::say_number;
+use harness::signed_of;
+use harness::size_of;
+use harness::word_at;
 use quote::ClosedFormQuotes;
 use quote::ConfigAnswer;
 use quote::ExactQuotes;
@@ -24,52 +29,16 @@ use quote::Price;
 // The bytes of a record.
 const RECORD: usize = 96;
 
-// The bytes read at once.
+// The bytes read at once: 682 records.
 const BLOCK: usize = 65472;
 
-const SIGN: u64 = 0x8000000000000000;
-
-const LARGEST_BOUND: u64 = 0xFFFFFFFF;
-
-fn say(text: &[u8]) {
-    io::write_all(libc::STDOUT_FILENO, text);
-}
-
-fn say_number(n: u64) {
-    say(b" ");
-    io::print_decimal(libc::STDOUT_FILENO, n);
-}
-
-// A float's bits. No report and no model holds a NaN, whose bits cannot be read.
-fn say_float(x: f64) {
-    say(b" ");
-    if x == x {
-        io::print_hex(libc::STDOUT_FILENO, f64::to_bits(x), 16);
-    }
-}
-
-// The size of a number, 0 for a negative one. No quote has a negative price.
-fn size_of(x: i64) -> u64
-    ensures { λ r. ⌜ r < 9223372036854775808 ⌝ }
-{
-    if x < 0 {
-        return 0;
-    }
-    x as u64
-}
-
-// How far a negative number is below -1.
-fn below(x: i64) -> i64 {
-    if x < 0 {
-        return -1 - x;
-    }
-    0
-}
+// The refusal of a bound that 32 bits do not hold.
+const LIMITS: u8 = 2;
 
 fn say_lots(q: i64) {
     if q < 0 {
         say(b" -");
-        io::print_decimal(libc::STDOUT_FILENO, size_of(below(q)) + 1);
+        io::print_decimal(libc::STDOUT_FILENO, size_of(q));
     } else {
         say_number(size_of(q));
     }
@@ -157,55 +126,21 @@ fn say_model(a: ModelAnswer) {
     }
 }
 
-fn wide(b: u8) -> u64
-    ensures { λ r. ⌜ r < 256 ⌝ }
-{
-    b as u64
+// The amount i places after a place.
+fn amount_at(s: &[u8], at: usize, i: usize) -> i64 {
+    signed_of(word_at(s, at, i))
 }
 
-// The number of four bytes, lowest first.
-fn four(s: &[u8], at: usize) -> u64
-    requires { ⌜ at + 4 ≤ length (now s) ⌝ }
-    ensures { λ r. ⌜ r < 4294967296 ⌝ }
-{
-    let low = wide(s[at]) + wide(s[at + 1]) * 256;
-    low + wide(s[at + 2]) * 65536 + wide(s[at + 3]) * 16777216
-}
-
-// The number of eight bytes, lowest first.
-fn eight(s: &[u8], at: usize) -> u64
-    requires { ⌜ at + 8 ≤ length (now s) ⌝ }
-{
-    four(s, at) + four(s, at + 4) * 4294967296
-}
-
-// The number of a word in two's complement.
-fn signed_of(word: u64) -> i64 {
-    if word < SIGN {
-        return word as i64;
-    }
-    -1 - ((0xFFFFFFFFFFFFFFFF - word) as i64)
-}
-
-// The amount at a place.
-fn amount_at(s: &[u8], at: usize) -> i64
-    requires { ⌜ at + 8 ≤ length (now s) ⌝ }
-{
-    signed_of(eight(s, at))
-}
-
-// The configuration of the record at a place, with its bound.
-fn config_at(s: &[u8], at: usize, bound: u32) -> GLFTConfig
-    requires { ⌜ at + 96 ≤ length (now s) ⌝ }
-{
+// The configuration of the record at a place.
+fn config_at(s: &[u8], at: usize) -> GLFTConfig {
     GLFTConfig {
-        risk_aversion: amount_at(s, at + 24),
-        order_intensity_k: amount_at(s, at + 32),
-        intensity_scale_a: amount_at(s, at + 40),
-        max_inventory_lots: bound,
-        lot_size: amount_at(s, at + 56),
-        terminal_time: eight(s, at + 64),
-        min_spread: amount_at(s, at + 80),
+        risk_aversion: amount_at(s, at, 24),
+        order_intensity_k: amount_at(s, at, 32),
+        intensity_scale_a: amount_at(s, at, 40),
+        max_inventory_lots: bound_of(word_at(s, at, 48)),
+        lot_size: amount_at(s, at, 56),
+        terminal_time: word_at(s, at, 64),
+        min_spread: amount_at(s, at, 80),
     }
 }
 
@@ -233,15 +168,14 @@ fn say_untimed(entry: u64, mid: i64, holding: i64, c: GLFTConfig, volatility: i6
     }
 }
 
-// What the entry answers to the record at a place, whose configuration is c.
-fn say_answer(s: &[u8], at: usize, c: GLFTConfig)
-    requires { ⌜ at + 96 ≤ length (now s) ⌝ }
-{
-    let mid = amount_at(s, at);
-    let holding = amount_at(s, at + 8);
-    let volatility = amount_at(s, at + 16);
-    let current = eight(s, at + 72);
-    let entry = eight(s, at + 88);
+// What the entry answers to the record at a place.
+fn say_answer(s: &[u8], at: usize) {
+    let mid = amount_at(s, at, 0);
+    let holding = amount_at(s, at, 8);
+    let volatility = amount_at(s, at, 16);
+    let c = config_at(s, at);
+    let current = word_at(s, at, 72);
+    let entry = word_at(s, at, 88);
     if entry == 0 {
         say_exact(GLFTStrategy::exact_quotes(mid, holding, c, volatility, current));
     } else if entry == 1 {
@@ -252,49 +186,33 @@ fn say_answer(s: &[u8], at: usize, c: GLFTConfig)
 }
 
 // The line of the record at a place.
-fn say_line(s: &[u8], at: usize)
-    requires { ⌜ at + 96 ≤ length (now s) ⌝ }
-{
-    let bound = eight(s, at + 48);
-    if bound > LARGEST_BOUND {
-        say_refusal(2);
+fn say_line(s: &[u8], at: usize) {
+    if word_at(s, at, 48) > LARGEST_BOUND {
+        say_refusal(LIMITS);
     } else {
-        say_answer(s, at, config_at(s, at, bound as u32));
+        say_answer(s, at);
     }
     say(b"\n");
 }
 
-// The lines of a block.
-fn say_block(s: &[u8]) {
-    let mut at: usize = 0;
-    while s.len() - at >= RECORD {
-        say_line(s, at);
-        at += RECORD;
+// The lines of the records in the first n bytes.
+fn say_lines(s: &[u8], n: usize) {
+    for i in 0..n / RECORD {
+        say_line(s, i * RECORD);
     }
-    if at < s.len() {
-        say(b"R 6\n");
-    }
-}
-
-// Room for 682 records.
-fn blank_block() -> [u8; 65472]
-    ensures { λ r. ⌜ 65472 ≡ length r ⌝ }
-{
-    [0; 65472]
 }
 
 // Reads a block and writes its lines. A full one holds whole records, and more may follow it.
 fn run_block() -> bool {
-    let mut block = blank_block();
-    let n = io::read_full(libc::STDIN_FILENO, &mut block);
-    say_block(&block[..n]);
+    let mut block = io::large_buffer();
+    let n = harness::read_block(&mut block, BLOCK);
+    say_lines(&block, n);
+    harness::say_cut(n % RECORD);
     n == BLOCK
 }
 
-// A proved loop has to end, and nothing says that the input does. So the blocks are counted down,
-// from a number that no run uses up.
 fn main() {
-    let mut blocks: u64 = 0xFFFFFFFFFFFFFFFF;
+    let mut blocks = harness::MANY;
     while blocks > 0 && run_block() {
         blocks -= 1;
     }

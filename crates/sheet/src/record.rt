@@ -21,9 +21,6 @@ const MOST: u64 = GLFTConfig::MAX_AMOUNT as u64;
 // The largest bound that is read.
 const MOST_BOUND: u64 = 4294967295;
 
-// An amount, a time or the bound beyond its limit: a number of the quote layer.
-const LIMITS: u8 = 2;
-
 // The eleven numbers of a record.
 pub struct Record {
     pub mid_price: i64,
@@ -182,5 +179,5 @@ pub fn read_record(sheet: &[u8], at: usize) -> RecordAnswer
     if within_limits(values) {
         return RecordAnswer::Record(record_of(values), numbers.next);
     }
-    RecordAnswer::Skipped(LIMITS, numbers.next)
+    RecordAnswer::Skipped(quote::refusals::LIMITS, numbers.next)
 }

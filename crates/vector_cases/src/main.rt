@@ -1,23 +1,9 @@
 // Document 01's cases of the value vector that are not proved as a table: each is run, and a line
 // says what came out.
+use harness::say;
+use harness::say_float;
+use harness::say_number;
 use vector::Outcome;
-
-fn say(text: &[u8]) {
-    io::write_all(libc::STDOUT_FILENO, text);
-}
-
-fn say_number(n: u64) {
-    say(b" ");
-    io::print_decimal(libc::STDOUT_FILENO, n);
-}
-
-// A float's bits in hex. No report holds a NaN, whose bits cannot be read.
-fn say_float(x: f64) {
-    say(b" ");
-    if x == x {
-        io::print_hex(libc::STDOUT_FILENO, f64::to_bits(x), 16);
-    }
-}
 
 // How a run ends: the steps, or the report, or the refusal.
 fn say_outcome(outcome: Outcome) {

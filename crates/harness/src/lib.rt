@@ -1,0 +1,24 @@
+// What the test programs share: words read from bytes, texts placed into a buffer, standard input
+// and output.
+mod standard;
+mod text;
+mod word;
+
+pub use standard::MANY;
+pub use standard::make_room;
+pub use standard::read_block;
+pub use standard::say;
+pub use standard::say_cut;
+pub use standard::say_first;
+pub use standard::say_float;
+pub use standard::say_number;
+pub use text::put;
+pub use text::put_count;
+pub use text::put_hex;
+pub use word::LARGEST_BOUND;
+pub use word::bound_of;
+pub use word::float_of;
+pub use word::pattern_of;
+pub use word::signed_of;
+pub use word::size_of;
+pub use word::word_at;

@@ -1,0 +1,68 @@
+// Texts placed into a buffer that is lent. Each writer leaves the buffer as it is where its text does
+// not fit, and answers the place after it.
+ghost use mathlib.Core.Path.{_≡_};
+ghost use lib.ListN.{length};
+ghost use Rattle.harness.specs.Texts.{fits, placed, after, glyph, hex, count};
+
+// Do n bytes fit from a place on?
+pub(crate) fn has_room(out: &[u8], at: usize, n: usize) -> bool
+    ensures { λ r. ⌜ r ≡ fits (now (out .entry)) at n ⌝ }
+{
+    if n > out.len() {
+        return false;
+    }
+    at <= out.len() - n
+}
+
+// A text as it is.
+pub fn put(out: &mut [u8], at: usize, text: &[u8]) -> usize
+    ensures { λ _. ⌜ now (out .exit) ≡ placed (now (out .entry)) at (now (text .entry)) ⌝ }
+    ensures { λ r. ⌜ r ≡ after (now (out .entry)) at (now (text .entry)) ⌝ }
+{
+    if !has_room(out, at, text.len()) {
+        return at;
+    }
+    let mut i: usize = 0;
+    while i < text.len() {
+        out[at + i] = text[i];
+        i += 1;
+    }
+    at + i
+}
+
+// A count in decimal digits.
+pub fn put_count(out: &mut [u8], at: usize, n: u64) -> usize
+    ensures { λ _. ⌜ now (out .exit) ≡ placed (now (out .entry)) at (count n) ⌝ }
+    ensures { λ r. ⌜ r ≡ after (now (out .entry)) at (count n) ⌝ }
+{
+    let mut text = [0u8; 20];
+    let k = io::decimal(n, &mut text);
+    put(out, at, &text[..k])
+}
+
+// The lowest hex digit of a number, `0` to `9` and `A` to `F`.
+fn digit(n: u64) -> u8
+    ensures { λ r. ⌜ r ≡ glyph n ⌝ }
+{
+    let d = n % 16;
+    if d < 10 {
+        return 48 + d as u8;
+    }
+    55 + d as u8
+}
+
+// A word in 16 hex digits.
+pub fn put_hex(out: &mut [u8], at: usize, bits: u64) -> usize
+    ensures { λ _. ⌜ now (out .exit) ≡ placed (now (out .entry)) at (hex 16 bits) ⌝ }
+    ensures { λ r. ⌜ r ≡ after (now (out .entry)) at (hex 16 bits) ⌝ }
+{
+    if !has_room(out, at, 16) {
+        return at;
+    }
+    let mut left: usize = 16;
+    while left > 0 {
+        left -= 1;
+        out[at + (15 - left)] = digit(bits >> (4 * left));
+    }
+    at + 16
+}
