@@ -11,3 +11,4 @@ pub mod SquareRoot
 pub mod NearestRoot
 pub mod WholeUp
 pub mod LnSplit
+pub mod Refusing

@@ -5,3 +5,4 @@ pub mod Inner
 pub mod Root
 pub mod WholeUp
 pub mod LnSplit
+pub mod Refusing
