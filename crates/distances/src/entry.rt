@@ -1,15 +1,18 @@
 // The float entry: a run, and the distances at a holding from the vector that it gives.
 ghost use mathlib.Core.Path.{_≡_};
-ghost use mathlib.Core.Bool.{true, _&&_};
+ghost use mathlib.Core.Bool.{true};
 ghost use Prim.Native.Nat.{_≤_};
 ghost use lib.IntN.{natAbs};
-ghost use Rattle.elementary.specs.Float.{positive, finite};
+ghost use Rattle.elementary.specs.Float.{0ᶠ};
+ghost use Rattle.vector.specs.Vectors.{fill};
 ghost use Rattle.vector.specs.Run.{boundOk, run};
+ghost use Rattle.vector.specs.Values.{blankVector};
 ghost use Rattle.distances.specs.FloatEntry.{refusedEntry, withVector, answerBy, floatsOk};
 use crate::Answer;
 use crate::FloatAnswer;
 use crate::Sides;
 use vector::MAX_BOUND;
+use vector::MAX_ROWS;
 use vector::Outcome;
 use vector::ValueVector;
 
@@ -31,12 +34,30 @@ pub(crate) fn bound_fits(bound: u32) -> bool
     (1 <= bound) & (bound <= MAX_BOUND)
 }
 
+// A name for the array keeps its 401 entries out of the goals.
+fn zeros() -> [f64; MAX_ROWS]
+    ensures { λ r. ⌜ r ≡ fill 401 0ᶠ ⌝ }
+{
+    [0.0; MAX_ROWS]
+}
+
+// A vector of no entries: every place is 0.0.
+fn blank() -> ValueVector
+    ensures { λ r. ⌜ r ≡ blankVector ⌝ }
+{
+    ValueVector {
+        w: zeros(),
+        log_offset: zeros(),
+        n: 0,
+    }
+}
+
 pub(crate) fn refused_entry(number: u8) -> FloatAnswer
     ensures { λ r. ⌜ r ≡ refusedEntry number ⌝ }
 {
     FloatAnswer {
         answer: Answer::Refused(number),
-        vector: ValueVector::blank(),
+        vector: blank(),
     }
 }
 
@@ -80,7 +101,7 @@ pub(crate) fn entry_within(
         }
         Outcome::OverCap(need, budget, steps) => FloatAnswer {
             answer: Answer::OverCap(need, budget, steps),
-            vector: ValueVector::blank(),
+            vector,
         },
         Outcome::Refused(number) => refused_entry(number),
     }

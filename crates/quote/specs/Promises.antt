@@ -129,9 +129,11 @@ abbrev pub ClosedPriced : ℤ → ℤ → GLFTConfig → ℤ → ℕ → Type 0
 ClosedPriced mid h c vol n = (b : Distance) × (a : Distance) × (closedAnswer mid h c vol ≡ Sides.Distances b a) × Priced mid (c .«min_spread») b a n
 
 -- exact_quotes refuses by n just where the checks do, by 11 where the float entry fails after them, or where the prices do
+abbrev pub ExactRefused : ℤ → ℤ → GLFTConfig → ℤ → ℕ → ℕ → Type 0
+ExactRefused mid h c vol t n = ExactChecked mid h c vol t n ⊎ (((n ≡ numerical) × ExactFails mid h c vol t) ⊎ ExactPriced mid h c vol t n)
+
 abbrev pub ExactRefusals : Type 0
-ExactRefusals = (mid h : ℤ) (c : GLFTConfig) (vol : ℤ) (t n : ℕ)
-    → (exactQuotes mid h c vol t ≡ Exact.Refused n) ↔ (ExactChecked mid h c vol t n ⊎ (((n ≡ numerical) × ExactFails mid h c vol t) ⊎ ExactPriced mid h c vol t n))
+ExactRefusals = (mid h : ℤ) (c : GLFTConfig) (vol : ℤ) (t n : ℕ) → (exactQuotes mid h c vol t ≡ Exact.Refused n) ↔ ExactRefused mid h c vol t n
 
 -- the wrapper refuses where exact_quotes does, and by 12 just where that reports the cap
 abbrev pub OptimalRefusals : Type 0

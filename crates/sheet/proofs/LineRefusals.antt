@@ -53,7 +53,7 @@ checked-apart e by-3 = omega arith
 checked-apart e by-4 = omega arith
 checked-apart e by-5 = omega arith
 
-priced-apart : {mid least : ℤ} {a : _} {k : ℕ} → Priced mid least a k → Apart k
+priced-apart : {mid least : ℤ} {b : _} {a : _} {k : ℕ} → Priced mid least b a k → Apart k
 priced-apart (by-13 h) = omega arith
 priced-apart (by-14 h g) = omega arith
 
@@ -71,7 +71,7 @@ quotes-apart r k h e =
         → ExactRefused (r .«mid_price») (r .inventory) (r .config) (r .volatility) (r .«current_time») k → Apart k
     go l (inl x) = checked-apart l x
     go l (inr (inl x)) = omega (arith, x .0)
-    go l (inr (inr x)) = priced-apart x
+    go l (inr (inr x)) = priced-apart (x .4)
 
 -- ---- what a line `R k` says
 data Said (s : List ℕ) (at k next : ℕ) : Type 0 where

@@ -9,7 +9,7 @@ mod series;
 
 ghost use mathlib.Core.Path.{_≡_};
 ghost use Rattle.vector.specs.Run.{rebalances};
-ghost use Rattle.vector.specs.Values.{blankVector, valueVector};
+ghost use Rattle.vector.specs.Values.{valueVector};
 
 // The largest bound.
 pub const MAX_BOUND: u32 = 200;
@@ -41,19 +41,6 @@ pub struct VectorAnswer {
     pub vector: ValueVector,
 }
 
-impl ValueVector {
-    // A vector of no entries: every place is 0.0.
-    pub fn blank() -> ValueVector
-        ensures { λ r. ⌜ r ≡ blankVector ⌝ }
-    {
-        ValueVector {
-            w: run::zeros(),
-            log_offset: run::zeros(),
-            n: 0,
-        }
-    }
-}
-
 // Whether a step is followed by rebalancing: steps remain, and the smallest weight is below 1e-200.
 pub fn must_rebalance(smallest: f64, steps: u32) -> bool
     ensures { λ r. ⌜ r ≡ rebalances smallest steps ⌝ }
@@ -67,7 +54,7 @@ pub fn value_vector(alpha: f64, eta: f64, bound: u32, tau: f64) -> VectorAnswer
 {
     if run::floats_fit(alpha, eta, tau) {
         if run::bound_fits(bound) {
-            return run::run_vector(ValueVector::blank(), alpha, eta, bound, tau);
+            return run::run_vector(run::blank(), alpha, eta, bound, tau);
         }
         return run::refused_vector(refusals::CONFIGURATION);
     }

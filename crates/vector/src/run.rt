@@ -291,7 +291,7 @@ fn run_later(w: &mut [f64], o: &mut [f64], diag_s: &[f64], eta: f64, tau: f64, n
 }
 
 // A name for the array keeps its 401 entries out of the goals.
-pub(crate) fn zeros() -> [f64; MAX_ROWS]
+fn zeros() -> [f64; MAX_ROWS]
     ensures { λ r. ⌜ r ≡ fill 401 0ᶠ ⌝ }
 {
     [0.0; MAX_ROWS]
@@ -311,12 +311,23 @@ fn ones(zeros: [f64; MAX_ROWS], n: usize) -> [f64; MAX_ROWS]
     w
 }
 
+// A vector of no entries: every place is 0.0.
+pub(crate) fn blank() -> ValueVector
+    ensures { λ r. ⌜ r ≡ blankVector ⌝ }
+{
+    ValueVector {
+        w: zeros(),
+        log_offset: zeros(),
+        n: 0,
+    }
+}
+
 pub(crate) fn refused_vector(number: u8) -> VectorAnswer
     ensures { λ r. ⌜ r ≡ refusedVector number ⌝ }
 {
     VectorAnswer {
         outcome: Outcome::Refused(number),
-        vector: ValueVector::blank(),
+        vector: blank(),
     }
 }
 
@@ -331,7 +342,7 @@ fn answer_of(outcome: Outcome, vector: ValueVector) -> VectorAnswer
         },
         Outcome::OverCap(need, budget, steps) => VectorAnswer {
             outcome: Outcome::OverCap(need, budget, steps),
-            vector: ValueVector::blank(),
+            vector: blank(),
         },
         Outcome::Refused(number) => refused_vector(number),
     }
@@ -354,23 +365,17 @@ pub(crate) fn bound_fits(bound: u32) -> bool
 }
 
 // Takes a blank vector to tau seconds before the end and hands it back filled.
-pub(crate) fn run_vector(
-    blank: ValueVector,
-    alpha: f64,
-    eta: f64,
-    bound: u32,
-    tau: f64,
-) -> VectorAnswer
-    requires { ⌜ (blank ≡ blankVector) × (1 ≤ bound) × (bound ≤ 200) ⌝ }
+pub(crate) fn run_vector(v: ValueVector, alpha: f64, eta: f64, bound: u32, tau: f64) -> VectorAnswer
+    requires { ⌜ (v ≡ blankVector) × (1 ≤ bound) × (bound ≤ 200) ⌝ }
     ensures { λ r. ⌜ r ≡ vectorBy (rows bound) (run bound alpha eta tau) ⌝ }
 {
     let n = (2 * bound + 1) as usize;
-    let zeros = blank.w;
-    let mut w = ones(zeros, n);
-    let mut o = blank.log_offset;
+    let first = v.w;
+    let mut w = ones(first, n);
+    let mut o = v.log_offset;
     let mut outcome = Outcome::Done(0);
     if 0.0 < tau {
-        let mut diag_s = crate::run::zeros();
+        let mut diag_s = zeros();
         crate::operator::fill_shifted_diagonal(alpha, eta, bound, &mut diag_s[..n]);
         outcome = run_later(&mut w[..n], &mut o[..n], &diag_s[..n], eta, tau, n);
     }

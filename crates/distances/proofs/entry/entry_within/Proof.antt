@@ -8,7 +8,7 @@ use mir.Facts.{toZ-ofZ}
 use borrow.Author.Needs.{needs}
 use Rattle.elementary.specs.Float.{finite, positive}
 use Rattle.vector.specs.Run.{Ended, vector, overCap, failed, boundOk, rows, run}
-use Rattle.vector.specs.Values.{vectorOf, blankVector, refusedVector, vectorBy, vectorIf, ratesOk, valueVector}
+use Rattle.vector.specs.Values.{vectorOf, refusedVector, vectorBy, vectorIf, ratesOk, valueVector}
 use Rattle.distances.specs.Distances.{place, exactAt}
 use Rattle.distances.specs.FloatEntry.{refusedEntry, withVector, answerBy, floatsOk}
 use Rattle.vector.specs.declared.ValueVector.{ValueVector}
@@ -25,7 +25,7 @@ use Rattle.distances.proofs.entry.entry_within.Tie as tie
 module _ (b : ℕ) (k base : Float) (q : ℤ) where
   unfoldable entry : Outcome → ValueVector → FloatAnswer
   entry (Outcome.Done s) v = withVector v s (exactAt v k base (place b q))
-  entry (Outcome.OverCap need l s) v = record { answer = Answer.OverCap need l s; vector = blankVector }
+  entry (Outcome.OverCap need l s) v = record { answer = Answer.OverCap need l s; vector = v }
   entry (Outcome.Refused r) v = refusedEntry r
 
   entry-is : (e : Ended) → answerBy b k base q e ≡ entry (vectorBy (rows b) e .outcome) (vectorBy (rows b) e .vector)
@@ -91,9 +91,6 @@ with-vector-requires c κs = search needs
 enum-known-outcome-2 : tie.Need-enum-known-outcome-2
 enum-known-outcome-2 c = search needs
 
-blank-requires : tie.Need-blank-requires
-blank-requires c κs = search needs
-
 enum-known-outcome-3 : tie.Need-enum-known-outcome-3
 enum-known-outcome-3 c = search needs
 
@@ -111,8 +108,8 @@ returns c =
 returns-2 : tie.Need-returns-2
 unfolding entry
 returns-2 c =
-    let o = c .before .before in
-    rw (ended (o .before .before .before), o .outcome2 .given .1, c .blank .ensures)
+    let o = c .before in
+    rw (ended (o .before .before .before), o .outcome2 .given .1)
 
 returns-3 : tie.Need-returns-3
 unfolding entry
@@ -130,7 +127,6 @@ entry-within-spec =
     sides-at-requires
     with-vector-requires
     enum-known-outcome-2
-    blank-requires
     enum-known-outcome-3
     refused-entry-requires
     returns

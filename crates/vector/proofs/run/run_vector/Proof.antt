@@ -33,7 +33,7 @@ unfolding blankVector
 blank-o v e = ap (λ (x : ValueVector). x .«log_offset») e
 
 ones-requires : tie.Need-ones-requires
-ones-requires c κs = let s = c .before in (blank-w (s .args .blank) (s .pre .0), omega (arith, s .pre .2))
+ones-requires c κs = let s = c .before in (blank-w (s .args .v) (s .pre .0), omega (arith, s .pre .2))
 
 zeros-requires : tie.Need-zeros-requires
 zeros-requires c κs = search needs
@@ -42,10 +42,10 @@ array-borrow-prefix-diag-s : tie.Need-array-borrow-prefix-diag-s
 array-borrow-prefix-diag-s c = search needs
 
 slice-aggregate-fill-shifted-diagonal : tie.Need-slice-aggregate-fill-shifted-diagonal
-slice-aggregate-fill-shifted-diagonal c = sym (blank-length _ _ (c .before .zeros2 .ensures) (omega arith))
+slice-aggregate-fill-shifted-diagonal c = sym (blank-length _ _ (c .before .zeros .ensures) (omega arith))
 
 fill-shifted-diagonal-requires : tie.Need-fill-shifted-diagonal-requires
-fill-shifted-diagonal-requires c κs = (c .before .before .before .before .before .before .pre .2, blank-length _ _ (c .before .zeros2 .ensures) (omega arith))
+fill-shifted-diagonal-requires c κs = (c .before .before .before .before .before .before .pre .2, blank-length _ _ (c .before .zeros .ensures) (omega arith))
 
 array-borrow-prefix-w : tie.Need-array-borrow-prefix-w
 array-borrow-prefix-w c = search needs
@@ -54,10 +54,10 @@ slice-aggregate-run-later : tie.Need-slice-aggregate-run-later
 slice-aggregate-run-later c = sym (length-lent _ _ _ (c .before .before .before .before .before .before .before .ones .ensures) (length-replicate (rows (c .before .before .before .before .before .before .before .before .before .args .bound)) 1ᶠ))
 
 array-borrow-prefix-o : tie.Need-array-borrow-prefix-o
-array-borrow-prefix-o c = let s = c .before .before .before .before .before .before .before .before .before in blank-room _ _ (blank-o (s .args .blank) (s .pre .0)) (omega (arith, s .pre .2))
+array-borrow-prefix-o c = let s = c .before .before .before .before .before .before .before .before .before in blank-room _ _ (blank-o (s .args .v) (s .pre .0)) (omega (arith, s .pre .2))
 
 slice-aggregate-run-later-2 : tie.Need-slice-aggregate-run-later-2
-slice-aggregate-run-later-2 c = let s = c .before .before .before .before .before .before .before .before .before .before in sym (blank-length _ _ (blank-o (s .args .blank) (s .pre .0)) (omega (arith, s .pre .2)))
+slice-aggregate-run-later-2 c = let s = c .before .before .before .before .before .before .before .before .before .before in sym (blank-length _ _ (blank-o (s .args .v) (s .pre .0)) (omega (arith, s .pre .2)))
 
 array-share-prefix-diag-s : tie.Need-array-share-prefix-diag-s
 array-share-prefix-diag-s c = stored-room _ _ _ _ (c .before .before .before .fill-shifted-diagonal .ensures)
@@ -73,7 +73,7 @@ run-later-requires c κs =
       omega (arith, l),
       omega (arith, h),
       lent _ _ _ (c .before .before .before .before .before .before .before .before .before .ones .ensures) (length-replicate (rows (s .args .bound)) 1ᶠ),
-      blank-length _ _ (blank-o (s .args .blank) (s .pre .0)) (omega (arith, h)),
+      blank-length _ _ (blank-o (s .args .v) (s .pre .0)) (omega (arith, h)),
       stored-length _ _ _ _ (c .before .before .before .before .fill-shifted-diagonal .ensures),
     )
 
@@ -92,7 +92,7 @@ ends c =
     let s = c .before .before .before .before in
     let n = rows (s .args .bound) in
     let w = c .before .before .ones .ensures in
-    let o = blank-padded n _ (blank-o (s .args .blank) (s .pre .0)) (omega (arith, s .pre .2)) in
+    let o = blank-padded n _ (blank-o (s .args .v) (s .pre .0)) (omega (arith, s .pre .2)) in
     let o-n = length-replicate n 0ᶠ in
     ⊎-elim {C = Ends c}
     (λ t.

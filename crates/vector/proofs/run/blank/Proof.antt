@@ -1,7 +1,7 @@
 use borrow.Author.Needs.{needs}
 use Rattle.vector.specs.Values.{blankVector}
-use Rattle.vector.proofs.ValueVector.blank.Statement.{statement}
-use Rattle.vector.proofs.ValueVector.blank.Tie as tie
+use Rattle.vector.proofs.run.blank.Statement.{statement}
+use Rattle.vector.proofs.run.blank.Tie as tie
 
 zeros-requires : tie.Need-zeros-requires
 zeros-requires c κs = search needs
