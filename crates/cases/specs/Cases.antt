@@ -260,7 +260,7 @@ abbrev pub no-side : Distance
 no-side = Distance.Absent
 
 -- glft.rs, value vector. The current time at the terminal time and past it, or tau not above zero: for every model and holding this is AtTheEnd, among the
--- vector's promises. The default's base distance is LN2. A tau of 5500 has no mark, and stands beside the tau that is over the cap.
+-- promises of `distances`. The default's base distance is LN2. A tau of 5500 has no mark, and stands beside the tau that is over the cap.
 unfoldable pub vectorCases : List Row
 vectorCases =
     reckoning default ⇒ at-end 3 LN2 (by LN2) (by LN2)

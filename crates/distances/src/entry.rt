@@ -11,8 +11,8 @@ ghost use Rattle.distances.specs.FloatEntry.{refusedEntry, withVector, a
 use crate::Answer;
 use crate::FloatAnswer;
 use crate::Sides;
-use vector::MAX_BOUND;
-use vector::MAX_ROWS;
+use vector::MAX_DIM;
+use vector::MAX_INVENTORY_LOTS;
 use vector::Outcome;
 use vector::ValueVector;
 
@@ -31,14 +31,14 @@ pub(crate) fn floats_fit(k: f64, alpha: f64, eta: f64, base: f64, tau: f64) -> b
 pub(crate) fn bound_fits(bound: u32) -> bool
     ensures { λ r. ⌜ r ≡ boundOk bound ⌝ }
 {
-    (1 <= bound) & (bound <= MAX_BOUND)
+    (1 <= bound) & (bound <= MAX_INVENTORY_LOTS)
 }
 
 // A name for the array keeps its 401 entries out of the goals.
-fn zeros() -> [f64; MAX_ROWS]
+fn zeros() -> [f64; MAX_DIM]
     ensures { λ r. ⌜ r ≡ fill 401 0ᶠ ⌝ }
 {
-    [0.0; MAX_ROWS]
+    [0.0; MAX_DIM]
 }
 
 // A vector of no entries: every place is 0.0.

@@ -9,7 +9,7 @@ ghost use Rattle.elementary.specs.Elementary.{LN, orNan};
 ghost use Rattle.distances.specs.Distances.{lengthOk, place, bidAt, askAt, exactAt};
 use crate::Distance;
 use crate::Sides;
-use vector::MAX_BOUND;
+use vector::MAX_INVENTORY_LOTS;
 use vector::ValueVector;
 use vector::refusals::NUMERICAL;
 
@@ -25,7 +25,7 @@ pub(crate) fn length_fits(n: usize) -> bool
     ensures { λ r. ⌜ r ≡ lengthOk n ⌝ }
 {
     let half = n / 2;
-    (1 <= half) & (half <= MAX_BOUND as usize) & (n % 2 == 1)
+    (1 <= half) & (half <= MAX_INVENTORY_LOTS as usize) & (n % 2 == 1)
 }
 
 // The place of q lots: q + bound.

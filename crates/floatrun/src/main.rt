@@ -20,7 +20,7 @@ use harness::say_cut;
 use harness::say_first;
 use harness::signed_of;
 use harness::word_at;
-use vector::MAX_ROWS;
+use vector::MAX_DIM;
 use vector::ValueVector;
 
 // The bytes of a record.
@@ -54,9 +54,9 @@ fn put_side(out: &mut [u8], at: usize, d: Distance) -> usize {
 }
 
 // A space and a float, for each of the first n.
-fn put_floats(out: &mut [u8], start: usize, s: &[f64; MAX_ROWS], n: usize) -> usize {
+fn put_floats(out: &mut [u8], start: usize, s: &[f64; MAX_DIM], n: usize) -> usize {
     let mut at = start;
-    for i in 0..MAX_ROWS {
+    for i in 0..MAX_DIM {
         if i >= n {
             return at;
         }

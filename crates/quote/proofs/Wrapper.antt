@@ -4,8 +4,8 @@ use lib.IntN.{ℤ}
 use Rattle.distances.specs.Promises.{exchanged}
 use Rattle.distances.specs.declared.Answer.{Answer}
 use Rattle.distances.specs.declared.Answer.the-variants.{Distances, OverCap, Refused}
-use Rattle.quote.specs.Quotes.{exactAnswer, exactBy, exactQuotes, wrapped, optimalQuotes}
-use Rattle.quote.specs.Wrapper.{withoutReport, optimalAnswer, OptimalPriced, OptimalMirror}
+use Rattle.quote.specs.Quotes.{exactAnswer, withoutReport, optimalAnswer, exactBy, exactQuotes, wrapped, optimalQuotes}
+use Rattle.quote.specs.Promises.{OptimalPriced, OptimalMirror}
 use Rattle.quote.proofs.Mirrors.{exact-mirror}
 
 priced-alike : (mid least : ℤ) (r : Answer) → wrapped (exactBy mid least r) ≡ wrapped (exactBy mid least (withoutReport r))

@@ -7,5 +7,4 @@ pub mod Quotes
 pub mod Inner
 pub mod Promises
 pub mod Replies
-pub mod Wrapper
 pub mod Presence

@@ -17,12 +17,14 @@ use Rattle.distances.specs.declared.Distance.{Distance}
 use Rattle.distances.specs.declared.Sides.the-variants as Sides
 use Rattle.distances.specs.declared.Answer.the-variants as Answer
 use Rattle.quote.specs.Refusals.{limits, market, capped, beyond, crossed}
-use Rattle.quote.specs.Configuration.{amountOk, above0, timeOk, configOk}
-use Rattle.quote.specs.Model.{lots, modelLimits, marketOk, holdingOk, modelOk, modelOf, tauOf}
+use Rattle.quote.specs.Configuration.{amountOk, above0, timeOk, configLimits, configOk, newConfig}
+use Rattle.quote.specs.Model.{lots, modelLimits, marketOk, holdingOk, modelOk, modelOf, tauOf, newModel}
 use Rattle.quote.specs.ClosedForm.{slope, bidForm, askForm}
-use Rattle.quote.specs.Quotes.{side, widening, bidPrice, askPrice, each, inOrder, exactAnswer, closedAnswer, exactSteps, exactQuotes, optimalQuotes, closedFormQuotes}
+use Rattle.quote.specs.Quotes.{side, widening, bidPrice, askPrice, each, inOrder, exactAnswer, optimalAnswer, closedAnswer, exactSteps, exactBy, exactQuotes, wrapped, optimalQuotes, closedFormQuotes}
 use Rattle.quote.specs.declared.GLFTConfig.{GLFTConfig}
+use Rattle.quote.specs.declared.ConfigAnswer.the-variants as ConfigAnswer
 use Rattle.quote.specs.declared.Model.{Model}
+use Rattle.quote.specs.declared.ModelAnswer.the-variants as ModelAnswer
 use Rattle.quote.specs.declared.Price.{Price}
 use Rattle.quote.specs.declared.Price.the-variants.{At, Absent}
 use Rattle.quote.specs.declared.GlftQuotes.{GlftQuotes}
@@ -38,6 +40,11 @@ use Rattle.quote.specs.declared.ClosedFormQuotes.the-variants as Closed
 abbrev pub ExactMirror : Type 0
 ExactMirror = (mid h : ℤ) (c : GLFTConfig) (vol : ℤ) (t : ℕ)
     → (exactAnswer mid (negℤ h) c vol t ≡ exchanged (exactAnswer mid h c vol t)) × (exactSteps mid (negℤ h) c vol t ≡ exactSteps mid h c vol t) × (exactSteps mid h c vol t ≤ cap)
+
+-- the wrapper's two replies: the same refusal, 12 where the answer is the report; steps as above
+abbrev pub OptimalMirror : Type 0
+OptimalMirror = (mid h : ℤ) (c : GLFTConfig) (vol : ℤ) (t : ℕ)
+    → (optimalAnswer mid (negℤ h) c vol t ≡ exchanged (optimalAnswer mid h c vol t)) × (exactSteps mid (negℤ h) c vol t ≡ exactSteps mid h c vol t) × (exactSteps mid h c vol t ≤ cap)
 
 abbrev pub ClosedMirror : Type 0
 ClosedMirror = (mid h : ℤ) (c : GLFTConfig) (vol : ℤ) → closedAnswer mid (negℤ h) c vol ≡ exchangedSides (closedAnswer mid h c vol)
@@ -61,6 +68,10 @@ ExactPairs = (mid h : ℤ) (c : GLFTConfig) (vol : ℤ) (t : ℕ) (q q′ : Glft
     → exactQuotes mid h c vol t ≡ Exact.Quotes q s → exactQuotes mid (negℤ h) c vol t ≡ Exact.Quotes q′ s′ → Pair mid q q′ × (s ≡ s′) × (s ≡ exactSteps mid h c vol t)
 
 -- ---- (c) the wrapper, and the closed form
+-- the wrapper's quotes are its answer, priced
+abbrev pub OptimalPriced : Type 0
+OptimalPriced = (mid h : ℤ) (c : GLFTConfig) (vol : ℤ) (t : ℕ) → optimalQuotes mid h c vol t ≡ wrapped (exactBy mid (c .«min_spread») (optimalAnswer mid h c vol t))
+
 abbrev pub OptimalPairs : Type 0
 OptimalPairs = (mid h : ℤ) (c : GLFTConfig) (vol : ℤ) (t : ℕ) (q q′ : GlftQuotes) (s s′ : ℕ)
     → optimalQuotes mid h c vol t ≡ Optimal.Quotes q s → optimalQuotes mid (negℤ h) c vol t ≡ Optimal.Quotes q′ s′ → Pair mid q q′ × (s ≡ s′) × (s ≡ exactSteps mid h c vol t)
@@ -88,6 +99,17 @@ ExactChecked mid h c vol t n = Checked (timeOk t && modelLimits mid h c vol) (co
 
 abbrev pub ClosedChecked : ℤ → ℤ → GLFTConfig → ℤ → ℕ → Type 0
 ClosedChecked mid h c vol n = Checked (modelLimits mid h c vol) (configOk c) (marketOk mid vol) (holdingOk h c) (modelOk (modelOf c vol)) n
+
+-- the two constructors: the configuration's is refused by 2, then 1; the model's by all five
+pub data ConfigRefused (c : GLFTConfig) : ℕ → Type 0 where
+  config-2 : configLimits c ≡ false → ConfigRefused c limits
+  config-1 : configLimits c ≡ true → configOk c ≡ false → ConfigRefused c configuration
+
+abbrev pub ConfigRefusals : Type 0
+ConfigRefusals = (c : GLFTConfig) (n : ℕ) → (newConfig c ≡ ConfigAnswer.Refused n) ↔ ConfigRefused c n
+
+abbrev pub ModelRefusals : Type 0
+ModelRefusals = (mid h : ℤ) (c : GLFTConfig) (vol : ℤ) (n : ℕ) → (newModel mid h c vol ≡ ModelAnswer.Refused n) ↔ ClosedChecked mid h c vol n
 
 -- 11: they all pass, and the float entry fails from the model's floats: its run does, or a read of its vector
 abbrev pub ExactFails : ℤ → ℤ → GLFTConfig → ℤ → ℕ → Type 0

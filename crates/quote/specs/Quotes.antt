@@ -98,6 +98,15 @@ exactIf true mid h c vol t = exactFrom (newModel mid h c vol) (tauOf (c .«termi
 unfoldable pub exactAnswer : ℤ → ℤ → GLFTConfig → ℤ → ℕ → Answer
 exactAnswer mid h c vol t = exactIf (timeOk t) mid h c vol t
 
+-- the wrapper's: 12 for a report
+unfoldable pub withoutReport : Answer → Answer
+withoutReport (Answer.Distances b a s) = Answer.Distances b a s
+withoutReport (Answer.OverCap need b s) = Answer.Refused capped
+withoutReport (Answer.Refused r) = Answer.Refused r
+
+unfoldable pub optimalAnswer : ℤ → ℤ → GLFTConfig → ℤ → ℕ → Answer
+optimalAnswer mid h c vol t = withoutReport (exactAnswer mid h c vol t)
+
 unfoldable pub closedFrom : ModelAnswer → Sides
 closedFrom (ModelAnswer.Refused r) = Sides.Refused r
 closedFrom (ModelAnswer.Model m q) = closedFormDistances m q

@@ -12,6 +12,9 @@ ghost use Rattle.quote.specs.Configuration.{newConfig};
 ghost use Rattle.quote.specs.Model.{newModel};
 ghost use Rattle.quote.specs.Quotes.{exactQuotes, optimalQuotes, closedFormQuotes};
 
+// The billionths of a unit.
+pub const BILLION: u64 = 1000000000;
+
 // The configuration. Its fields are public, so every call checks them again.
 pub struct GLFTConfig {
     pub risk_aversion: i64,
@@ -79,7 +82,7 @@ pub enum ClosedFormQuotes {
 pub struct GLFTStrategy;
 
 impl GLFTConfig {
-    pub const MAX_INVENTORY_LOTS: u32 = vector::MAX_BOUND;
+    pub const MAX_INVENTORY_LOTS: u32 = vector::MAX_INVENTORY_LOTS;
 
     pub const MAX_AMOUNT: i64 = 9000000000000000;
 

@@ -13,7 +13,7 @@ use crate::amounts::to_f64;
 const SECONDS_PER_YEAR: f64 = 31536000.0;
 
 // Times are in milliseconds.
-const PER_SECOND: f64 = 1000.0;
+const MILLISECONDS_PER_SECOND: f64 = 1000.0;
 
 // Whether every amount and time of a call is within its limit.
 pub(crate) fn limits_fit(mid: i64, inventory: i64, config: GLFTConfig, volatility: i64) -> bool
@@ -33,7 +33,7 @@ pub(crate) fn seconds_to_terminal(terminal: u64, current: u64) -> f64
     if current < terminal {
         left = terminal - current;
     }
-    std::num::nearest_u64_to_f64(left) / PER_SECOND
+    std::num::nearest_u64_to_f64(left) / MILLISECONDS_PER_SECOND
 }
 
 // The holding in lots, cut toward zero.

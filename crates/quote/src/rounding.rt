@@ -9,6 +9,7 @@ ghost use Rattle.elementary.specs.Float.{positive, hex};
 ghost use Rattle.quote.specs.Configuration.{billion};
 ghost use Rattle.quote.specs.Rounding.{rounded, billionths};
 ghost use Rattle.quote.specs.Inner.{RoundedIs};
+use crate::BILLION;
 use crate::GLFTConfig;
 
 // 2^52, the weight of a significand's leading digit.
@@ -17,8 +18,6 @@ const HIDDEN: u64 = 4503599627370496;
 // 2^28, the high word's weight. Every divisor below is 2^29 at least, so that half of it is a number
 // of high words.
 const WORD: u64 = 268435456;
-
-const BILLION: u64 = 1000000000;
 
 // 2^-31. What is below has less than half a billionth.
 const LEAST: f64 = 4.656612873077393e-10;

@@ -14,6 +14,7 @@ use crate::record::RecordAnswer;
 use crate::record::read_record;
 use crate::refusals::LONG_SHEET;
 use crate::refusals::SMALL_BUFFER;
+use quote::BILLION;
 use quote::ExactQuotes;
 use quote::GLFTStrategy;
 use quote::GlftQuotes;
@@ -87,7 +88,7 @@ fn write_price(out: &mut [u8], n: u64) -> usize
     ensures { λ _. ⌜ now (out .exit) ≡ over (price n) (now (out .entry)) ⌝ }
     ensures { λ r. ⌜ r ≡ length (price n) ⌝ }
 {
-    let k = write_count(out, n / 1000000000);
+    let k = write_count(out, n / BILLION);
     out[k] = b'.';
     let at = k + 1;
     write_digits(&mut out[at..], n, 9);

@@ -18,11 +18,9 @@ use Rattle.vector.specs.Series.{leftAt, rightAt}
 use Rattle.vector.specs.Run.{Ended, vector, overCap, failed, Fixed, Going, Turn, going, ended, cap, needed, start, begin, divided, rebalances, rebalance, next, stepped, turn, runOn, fixed, runFor, run}
 use Rattle.vector.specs.Causes.{Reached, first, later, GoingKeeps, RunsEnd, stepSum, Rebalancing, weightsPositive, Planning, at-first, again, factorsFinite, timesNorm, PlanFails, by-factor, by-norm, RunFails, by-plan, by-series, by-weight, RunsFail, CapReported, CapReports}
 use Rattle.vector.proofs.Plans.{planned-some, planned-within, planned-same}
-use Rattle.vector.proofs.Turns.{TurnOk, begin-ok}
+use Rattle.vector.proofs.RunLaws.{on-ended}
+use Rattle.vector.proofs.Turns.{Any, TurnOk, begin-ok}
 use Rattle.vector.proofs.Summing.{series-refused}
-
-abbrev Any : List Float → List Float → Type 0
-Any w o = Unit {0}
 
 module _ (p : Fixed) (tau : Float) where
   -- ==== from a state to its cause
@@ -87,12 +85,7 @@ module _ (p : Fixed) (tau : Float) where
   meets (later r) = meets r
 
   meets-end : {b : ℕ} {r : Ended} → Reached p tau b (ended r) → runFor true p tau ≡ r
-  unfolding runOn
-  meets-end {b} {r} h = meets h ∙ go b
-    where
-      go : (b : ℕ) → runOn b p (ended r) ≡ r
-      go zero = refl
-      go (suc b) = refl
+  meets-end {b} {r} h = meets h ∙ on-ended p b r
 
   abbrev Ends : Ended → Type 0
   Ends r = (b : ℕ) × Reached p tau b (ended r)

@@ -38,7 +38,7 @@ Scaled p diag (Planned.OverCap need) = Unit {0}
 Scaled p diag Planned.Refused = Unit {0}
 
 -- ---- where a run stands
-on-ended : (p : Fixed) (b : ℕ) (r : Ended) → runOn b p (ended r) ≡ r
+pub on-ended : (p : Fixed) (b : ℕ) (r : Ended) → runOn b p (ended r) ≡ r
 unfolding runOn
 on-ended p zero r = refl
 on-ended p (suc b) r = refl

@@ -9,12 +9,9 @@ use lib.Ieee.{Float, lt}
 use Rattle.elementary.specs.Float.{0ᶠ}
 use Rattle.vector.specs.Run.{Ended, vector, overCap, failed, Fixed, Turn, going, ended, cap, turn, runOn, fixed, runFor, run, spent}
 use Rattle.vector.specs.Promises.{StepsWithin, BudgetWithin, SumOf}
-use Rattle.vector.proofs.Turns.{EndOk, TurnOk, begin-ok, turn-ok}
+use Rattle.vector.proofs.Turns.{Any, EndOk, TurnOk, begin-ok, turn-ok}
 
 -- ---- the run, of whatever weights
-abbrev Any : List Float → List Float → Type 0
-Any w o = Unit {0}
-
 end-any : (P : List Float → List Float → Type 0) (b : ℕ) (r : Ended) → b ≤ cap → EndOk b P r → EndOk cap Any r
 end-any P b (vector w o s) h e = (tt, e .1)
 end-any P b (overCap need c) h e = (le-trans (e .0) h, e .1)

@@ -9,13 +9,9 @@ use Rattle.elementary.specs.Reply.{Reply, value, refusal, given}
 use Rattle.vector.specs.Refusals.{numerical}
 use Rattle.vector.specs.Series.{Operator, term, summing, summed, judge, nextTerm, series, mostTerms, taylorStep}
 use Rattle.vector.specs.Causes.{sumWith, termFinite, termConverged, sumPositive, Summing, begun, more, SeriesFails, not-finite, not-converged, not-positive, SeriesRefused}
+use Rattle.vector.proofs.Terms.{at-end}
 
 module _ (p : Operator) (eta : Float) where
-  at-end : (k j : ℕ) (r : Reply (List Float)) → series k p eta j (summed r) ≡ r
-  unfolding series
-  at-end zero j r = refl
-  at-end (suc k) j r = refl
-
   -- term j by its tests, k terms being left with it
   by-tests : (k j : ℕ) (t s : List Float) (a b : Bool) → 1 ≤ k → termFinite p eta j t s ≡ a → termConverged p eta j t s ≡ b
       → series k p eta j (summing t s) ≡ series (k - 1) p eta (suc j) (judge a b (p .n) (term p eta j t) (sumWith p eta j t s))
@@ -38,7 +34,7 @@ module _ (p : Operator) (eta : Float) where
         → (r : Reply (List Float)) → judge a b (p .n) (term p eta j t) (sumWith p eta j t s) ≡ summed r → taylorStep p eta v ≡ r
     ends {j} {t} {s} m h a b f c r e =
         let k = suc mostTerms - j in
-        meets m ∙ by-tests k j t s a b (omega arith) f c ∙ ap (series (k - 1) p eta (suc j)) e ∙ at-end (k - 1) (suc j) r
+        meets m ∙ by-tests k j t s a b (omega arith) f c ∙ ap (series (k - 1) p eta (suc j)) e ∙ at-end (k - 1) p eta (suc j) r
 
     fails : SeriesFails p eta v → taylorStep p eta v ≡ refusal numerical
     unfolding judge given series
@@ -64,9 +60,9 @@ module _ (p : Operator) (eta : Float) where
             → series k p eta (suc j) (judge a b (p .n) (term p eta j t) (sumWith p eta j t s)) ≡ refusal n
             → (Summing p eta v (suc j) (term p eta j t) (sumWith p eta j t s) → series k p eta (suc j) (summing (term p eta j t) (sumWith p eta j t s)) ≡ refusal n → Refused n)
             → Refused n
-        go false b f c i on = (cc (at-end k (suc j) (refusal numerical)), not-finite r (omega arith) f)
+        go false b f c i on = (cc (at-end k p eta (suc j) (refusal numerical)), not-finite r (omega arith) f)
         go true false f c i on = on (more r (omega arith) f c) i
-        go true true f c i on = over (sumPositive p eta j t s) refl f c (sym (at-end k (suc j) _) ∙ i)
+        go true true f c i on = over (sumPositive p eta j t s) refl f c (sym (at-end k p eta (suc j) _) ∙ i)
 
 pub series-refused : SeriesRefused
 unfolding taylorStep

@@ -63,24 +63,22 @@ one-more n m l diag left right eta j t s next t′ s′ f c r h d e o a i =
     let a′ : Added n next s (1ᶠ ⊘ whole (pos j)) t′ s′ f c = rw e at a in
     rw (← next-is (operatorOver n diag left right) eta j t s next t′ s′ f c o′ a′, add-one j) (rw (u, add-one j) at i)
 
-module _ (k : ℕ) (p : Operator) (eta : Float) (j : ℕ) (r : Reply (List Float)) where
-  ended : (x : Reply (List Float)) → series k p eta j (summed x) ≡ x
-  unfolding series
-  ended x = go k
-    where
-      go : (k : ℕ) → series k p eta j (summed x) ≡ x
-      go zero = refl
-      go (suc k) = refl
+-- a series at its end
+pub at-end : (k : ℕ) (p : Operator) (eta : Float) (j : ℕ) (x : Reply (List Float)) → series k p eta j (summed x) ≡ x
+unfolding series
+at-end zero p eta j x = refl
+at-end (suc k) p eta j x = refl
 
+module _ (k : ℕ) (p : Operator) (eta : Float) (j : ℕ) (r : Reply (List Float)) where
   -- not all finite
   pub unbounded : (f c : Bool) (t s l : List Float) → f ≡ false → series k p eta j (judge f c (p .n) t s) ≡ r → StepIs false l r
   unfolding judge StepIs
-  unbounded f c t s l e h = rw (← (rw e at h), ended) refl
+  unbounded f c t s l e h = rw (← (rw e at h), at-end) refl
 
   -- converged
   pub settled : (f c b : Bool) (t s : List Float) → f ≡ true → c ≡ true → b ≡ every (p .n) (λ i. lt 0ᶠ (at s i)) → series k p eta j (judge f c (p .n) t s) ≡ r → StepIs b s r
   unfolding judge StepIs given
-  settled f c b t s e d g h = rw (← (rw (e, d) at h), ended, ← g) (go b)
+  settled f c b t s e d g h = rw (← (rw (e, d) at h), at-end, ← g) (go b)
     where
       go : (b : Bool) → StepIs b s (given b numerical (value s))
       go true = (refl, refl)

@@ -61,6 +61,10 @@ not-le→lt x y p q h = go (lt y x) (not-lt→le y x q p)
     go true k = tt
     go false k = subst T h (k refl)
 
+-- ---- of whatever weights and offsets
+abbrev pub Any : List Float → List Float → Type 0
+Any w o = Unit {0}
+
 -- ---- P holds of the weights and offsets, the steps spent are within the cap, and a report is of more steps than the budget left, at most b
 abbrev pub EndOk : ℕ → (List Float → List Float → Type 0) → Ended → Type 0
 EndOk b P (vector w o s) = P w o × (s ≤ cap)
@@ -97,7 +101,7 @@ module _ (p : Fixed) (b : ℕ) (g : Going) (v : List Float) (e : taylorStep (ste
 
   next-ok : (s : ℕ) (c : Bool) → TurnOk b (SumOf p g) (next s c p b g (divided (p .n) v))
   unfolding next
-  next-ok zero c = ((v, e, divided-only refl refl), sub-le cap b)
+  next-ok zero c = ((v, e, divided-only refl refl), omega arith)
   next-ok (suc s) false = (v, e, divided-only refl refl)
   next-ok (suc s) true = rebalance-ok _ _
 

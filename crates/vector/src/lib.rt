@@ -12,18 +12,21 @@ ghost use Rattle.vector.specs.Run.{rebalances};
 ghost use Rattle.vector.specs.Values.{valueVector};
 
 // The largest bound.
-pub const MAX_BOUND: u32 = 200;
+pub const MAX_INVENTORY_LOTS: u32 = 200;
 
 // The rows of the largest bound: the places of a vector's arrays.
-pub const MAX_ROWS: usize = 401;
+pub const MAX_DIM: usize = 401;
 
 // The most steps of a run.
-pub const MAX_STEPS: u32 = 11000;
+pub const MAX_EXPM_STEPS: u32 = 11000;
+
+// Below this weight a step is followed by rebalancing.
+const REBALANCE_FLOOR: f64 = 1e-200;
 
 // v_i is proportional to w_i exp(log_offset_i), over the first n entries; the rest is 0.0.
 pub struct ValueVector {
-    pub w: [f64; MAX_ROWS],
-    pub log_offset: [f64; MAX_ROWS],
+    pub w: [f64; MAX_DIM],
+    pub log_offset: [f64; MAX_DIM],
     pub n: usize,
 }
 
@@ -45,7 +48,7 @@ pub struct VectorAnswer {
 pub fn must_rebalance(smallest: f64, steps: u32) -> bool
     ensures { λ r. ⌜ r ≡ rebalances smallest steps ⌝ }
 {
-    (0 < steps) & (smallest < 1e-200)
+    (0 < steps) & (smallest < REBALANCE_FLOOR)
 }
 
 // The value vector at tau seconds before the end: refused by 5, then 1, then 11.

@@ -11,9 +11,9 @@ ghost use Rattle.vector.specs.Vectors.{tab, at, fill, every, fold, large
 ghost use Rattle.vector.specs.Run.{boundOk, rows, cap, run, runOn, begin, divided};
 ghost use Rattle.vector.specs.Values.{padded, blankVector, refusedVector, vectorBy, ratesOk};
 ghost use Rattle.vector.specs.Inner.{fixedOver, outcomeWith, pacedOf, askedOf, stoppedOf, refusedPace, endBy, Sizes, AfterIs, BegunIs, PlanSpent, EndIs};
-use crate::MAX_BOUND;
-use crate::MAX_ROWS;
-use crate::MAX_STEPS;
+use crate::MAX_DIM;
+use crate::MAX_EXPM_STEPS;
+use crate::MAX_INVENTORY_LOTS;
 use crate::Outcome;
 use crate::ValueVector;
 use crate::VectorAnswer;
@@ -42,7 +42,7 @@ fn paced(steps: u32, budget: u32, remaining: f64, dt: f64) -> Pace
         remaining,
         dt,
         ask: false,
-        stop: Outcome::Done(MAX_STEPS - budget),
+        stop: Outcome::Done(MAX_EXPM_STEPS - budget),
     }
 }
 
@@ -85,7 +85,7 @@ fn over_cap(need: f64, budget: u32) -> Pace
     requires { ⌜ budget ≤ cap ⌝ }
     ensures { λ r. ⌜ r ≡ stoppedOf (Outcome.OverCap need budget (cap - budget)) ⌝ }
 {
-    stopped(Outcome::OverCap(need, budget, MAX_STEPS - budget))
+    stopped(Outcome::OverCap(need, budget, MAX_EXPM_STEPS - budget))
 }
 
 // How a run ends: with steps planned, its budget is spent.
@@ -248,7 +248,7 @@ fn run_plans(
         (begin (fixedOver (length (now (w .entry))) (now («diag_s» .entry)) eta) cap (fill (length (now (w .entry))) 1ᶠ) (now (o .entry)) tau))
         r (now (w .exit)) (now (o .exit)) ⌝ }
 {
-    let mut pace = asking(MAX_STEPS, tau);
+    let mut pace = asking(MAX_EXPM_STEPS, tau);
     while pace.ask {
         let first = start(
             o,
@@ -291,14 +291,14 @@ fn run_later(w: &mut [f64], o: &mut [f64], diag_s: &[f64], eta: f64, tau: f64, n
 }
 
 // A name for the array keeps its 401 entries out of the goals.
-fn zeros() -> [f64; MAX_ROWS]
+fn zeros() -> [f64; MAX_DIM]
     ensures { λ r. ⌜ r ≡ fill 401 0ᶠ ⌝ }
 {
-    [0.0; MAX_ROWS]
+    [0.0; MAX_DIM]
 }
 
 // 401 times 0.0, of which the first n become 1.0.
-fn ones(zeros: [f64; MAX_ROWS], n: usize) -> [f64; MAX_ROWS]
+fn ones(zeros: [f64; MAX_DIM], n: usize) -> [f64; MAX_DIM]
     requires { ⌜ (zeros ≡ fill 401 0ᶠ) × (n ≤ 401) ⌝ }
     ensures { λ r. ⌜ r ≡ padded n (fill n 1ᶠ) ⌝ }
 {
@@ -361,7 +361,7 @@ pub(crate) fn floats_fit(alpha: f64, eta: f64, tau: f64) -> bool
 pub(crate) fn bound_fits(bound: u32) -> bool
     ensures { λ r. ⌜ r ≡ boundOk bound ⌝ }
 {
-    (1 <= bound) & (bound <= MAX_BOUND)
+    (1 <= bound) & (bound <= MAX_INVENTORY_LOTS)
 }
 
 // Takes a blank vector to tau seconds before the end and hands it back filled.

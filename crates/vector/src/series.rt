@@ -10,6 +10,8 @@ ghost use Rattle.vector.specs.Inner.{operatorOver, Added, Sizes, StepIs}
 
 const TAYLOR_TOL: f64 = 1e-16;
 
+const MAX_TAYLOR_ORDER: u32 = 100;
+
 // What a new term says: is all finite, and has each entry converged.
 struct Flags {
     finite: bool,
@@ -89,7 +91,7 @@ pub(crate) fn taylor_step(
 {
     copy(v, term);
     let mut order: u32 = 1;
-    while order <= 100 {
+    while order <= MAX_TAYLOR_ORDER {
         crate::operator::apply_operator(term, diag, eta_dt, left, right, next);
         let flags = add_term(next, 1.0 / (order as f64), term, v);
         if !flags.finite {
