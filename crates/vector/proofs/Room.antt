@@ -8,7 +8,8 @@ use lib.Seq.{take-at, drop-at}
 use lib.Ieee.{Float}
 use Rattle.elementary.specs.Float.{0ᶠ}
 use Rattle.vector.specs.Vectors.{tab, fill}
-use Rattle.vector.specs.Values.{room, padded}
+use Rattle.vector.specs.Values.{room, padded, blankVector, vectorOf}
+use Rattle.vector.specs.declared.ValueVector.{ValueVector}
 use Rattle.vector.proofs.Lists.{length-tab}
 
 module _ (n : ℕ) (a l : List Float) (e : a ≡ padded n l) (k : length l ≡ n) where
@@ -18,6 +19,10 @@ module _ (n : ℕ) (a l : List Float) (e : a ≡ padded n l) (k : length l ≡ n
 
   pub length-lent : length (take n a) ≡ n
   length-lent = ap length lent ∙ k
+
+  pub lent-room : n ≤ length a
+  unfolding padded
+  lent-room = rw (e, length-append l (fill (room - n) 0ᶠ), k) (omega arith)
 
   pub back : (v : List Float) → v ++ drop n a ≡ padded n v
   unfolding padded
@@ -47,3 +52,26 @@ module _ (n : ℕ) (f : ℕ → Float) (d r : List Float) (e : d ≡ tab n f) wh
 
   pub stored-room : n ≤ length (d ++ r)
   stored-room = rw (length-append d r, e, length-tab n f) (omega arith)
+
+-- the arrays of the blank vector
+pub blank-w : (v : ValueVector) → v ≡ blankVector → v .w ≡ fill room 0ᶠ
+unfolding blankVector
+blank-w v e = ap (λ (x : ValueVector). x .w) e
+
+pub blank-o : (v : ValueVector) → v ≡ blankVector → v .«log_offset» ≡ fill room 0ᶠ
+unfolding blankVector
+blank-o v e = ap (λ (x : ValueVector). x .«log_offset») e
+
+-- a vector's own arrays
+module _ (n : ℕ) (w o : List Float) (v : ValueVector) (e : v ≡ vectorOf n w o) where
+  pub own-w : v .w ≡ padded n w
+  unfolding vectorOf
+  own-w = ap (λ (x : ValueVector). x .w) e
+
+  pub own-o : v .«log_offset» ≡ padded n o
+  unfolding vectorOf
+  own-o = ap (λ (x : ValueVector). x .«log_offset») e
+
+  pub own-n : v .n ≡ n
+  unfolding vectorOf
+  own-n = ap (λ (x : ValueVector). x .n) e

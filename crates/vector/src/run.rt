@@ -3,13 +3,13 @@
 ghost use mathlib.Core.Path.{_≡_};
 ghost use Prim.Native.Nat.{_-_, _≤_};
 ghost use lib.ListN.{length};
-ghost use lib.Ieee.{inf};
-ghost use mathlib.Core.Bool.{false};
+ghost use lib.Ieee.{inf, lt};
+ghost use mathlib.Core.Bool.{true, false};
 ghost use Rattle.elementary.specs.Float.{_⊕_, _⊗_, _⊘_, 0ᶠ, 1ᶠ, positive};
 ghost use Rattle.elementary.specs.Elementary.{LN, orNan};
 ghost use Rattle.vector.specs.Vectors.{tab, at, fill, every, fold, larger, smaller};
 ghost use Rattle.vector.specs.Run.{boundOk, rows, cap, run, runOn, begin, divided};
-ghost use Rattle.vector.specs.Values.{padded, blankVector, refusedVector, vectorBy, ratesOk};
+ghost use Rattle.vector.specs.Values.{blankVector, vectorOf, refusedVector, vectorBy, ratesOk};
 ghost use Rattle.vector.specs.Inner.{fixedOver, outcomeWith, pacedOf, askedOf, stoppedOf, refusedPace, endBy, Sizes, AfterIs, BegunIs, PlanSpent, EndIs};
 use crate::MAX_DIM;
 use crate::MAX_EXPM_STEPS;
@@ -297,20 +297,6 @@ fn zeros() -> [f64; MAX_DIM]
     [0.0; MAX_DIM]
 }
 
-// 401 times 0.0, of which the first n become 1.0.
-fn ones(zeros: [f64; MAX_DIM], n: usize) -> [f64; MAX_DIM]
-    requires { ⌜ (zeros ≡ fill 401 0ᶠ) × (n ≤ 401) ⌝ }
-    ensures { λ r. ⌜ r ≡ padded n (fill n 1ᶠ) ⌝ }
-{
-    let mut w = zeros;
-    let mut i: usize = 0;
-    while i < n {
-        w[i] = 1.0;
-        i += 1;
-    }
-    w
-}
-
 // A vector of no entries: every place is 0.0.
 pub(crate) fn blank() -> ValueVector
     ensures { λ r. ⌜ r ≡ blankVector ⌝ }
@@ -364,21 +350,33 @@ pub(crate) fn bound_fits(bound: u32) -> bool
     (1 <= bound) & (bound <= MAX_INVENTORY_LOTS)
 }
 
-// Takes a blank vector to tau seconds before the end and hands it back filled.
-pub(crate) fn run_vector(v: ValueVector, alpha: f64, eta: f64, bound: u32, tau: f64) -> VectorAnswer
-    requires { ⌜ (v ≡ blankVector) × (1 ≤ bound) × (bound ≤ 200) ⌝ }
+// A blank vector at the end of the time: its first n weights become 1.0.
+fn at_end(blank: ValueVector, n: usize) -> ValueVector
+    requires { ⌜ (blank ≡ blankVector) × (n ≤ 401) ⌝ }
+    ensures { λ r. ⌜ r ≡ vectorOf n (fill n 1ᶠ) (fill n 0ᶠ) ⌝ }
+{
+    let mut v = blank;
+    let mut i: usize = 0;
+    while i < n {
+        v.w[i] = 1.0;
+        i += 1;
+    }
+    v.n = n;
+    v
+}
+
+// Takes a vector from the end of the time back over tau seconds, above zero.
+fn run_back(v: ValueVector, alpha: f64, eta: f64, bound: u32, tau: f64) -> VectorAnswer
+    requires { ⌜ (1 ≤ bound) × (bound ≤ 200) × (lt 0ᶠ tau ≡ true) ⌝ }
+    requires { ⌜ v ≡ vectorOf (rows bound) (fill (rows bound) 1ᶠ) (fill (rows bound) 0ᶠ) ⌝ }
     ensures { λ r. ⌜ r ≡ vectorBy (rows bound) (run bound alpha eta tau) ⌝ }
 {
     let n = (2 * bound + 1) as usize;
-    let first = v.w;
-    let mut w = ones(first, n);
+    let mut w = v.w;
     let mut o = v.log_offset;
-    let mut outcome = Outcome::Done(0);
-    if 0.0 < tau {
-        let mut diag_s = zeros();
-        crate::operator::fill_shifted_diagonal(alpha, eta, bound, &mut diag_s[..n]);
-        outcome = run_later(&mut w[..n], &mut o[..n], &diag_s[..n], eta, tau, n);
-    }
+    let mut diag_s = zeros();
+    crate::operator::fill_shifted_diagonal(alpha, eta, bound, &mut diag_s[..n]);
+    let outcome = run_later(&mut w[..n], &mut o[..n], &diag_s[..n], eta, tau, n);
     answer_of(
         outcome,
         ValueVector {
@@ -387,4 +385,25 @@ pub(crate) fn run_vector(v: ValueVector, alpha: f64, eta: f64, bound: u32, tau: 
             n,
         },
     )
+}
+
+// Takes a blank vector to tau seconds before the end and hands it back filled.
+pub(crate) fn run_vector(
+    blank: ValueVector,
+    alpha: f64,
+    eta: f64,
+    bound: u32,
+    tau: f64,
+) -> VectorAnswer
+    requires { ⌜ (blank ≡ blankVector) × (1 ≤ bound) × (bound ≤ 200) ⌝ }
+    ensures { λ r. ⌜ r ≡ vectorBy (rows bound) (run bound alpha eta tau) ⌝ }
+{
+    let v = at_end(blank, (2 * bound + 1) as usize);
+    if 0.0 < tau {
+        return run_back(v, alpha, eta, bound, tau);
+    }
+    VectorAnswer {
+        outcome: Outcome::Done(0),
+        vector: v,
+    }
 }
