@@ -8,12 +8,12 @@ use mathlib.Core.List.{List}
 use lib.IntN.{pos}
 use lib.Dec.{T}
 use lib.Ieee.{Float, binary64, lt}
-use Rattle.elementary.specs.Float.{_⊕_, _⊗_, _⊘_, whole, 0ᶠ, 1ᶠ, finite}
+use Rattle.elementary.specs.Float.{_⊕_, _⊖_, _⊗_, _⊘_, whole, 0ᶠ, 1ᶠ, finite}
 use Rattle.elementary.specs.Reply.{Reply, value, given}
 use Rattle.elementary.proofs.Signs.{add-finite}
 use Rattle.vector.specs.Refusals.{numerical}
-use Rattle.vector.specs.Vectors.{tab, at, every}
-use Rattle.vector.specs.Series.{Operator, applied, term, plus, bothFinite, small, converged, summing, summed, judge, nextTerm, series}
+use Rattle.vector.specs.Vectors.{tab, at, before, after, every}
+use Rattle.vector.specs.Series.{Operator, rowAt, applied, term, plus, bothFinite, small, converged, summing, summed, judge, nextTerm, series}
 use Rattle.vector.specs.Inner.{operatorOver, Added, StepIs}
 use Rattle.vector.proofs.Loops.{at-stored}
 use Rattle.vector.proofs.Lists.{tab-ext, every-ext}
@@ -62,6 +62,12 @@ one-more n m l diag left right eta j t s next t′ s′ f c r h d e o a i =
     let o′ : next ≡ applied (operatorOver n diag left right) eta t = rw d at o in
     let a′ : Added n next s (1ᶠ ⊘ whole (pos j)) t′ s′ f c = rw e at a in
     rw (← next-is (operatorOver n diag left right) eta j t s next t′ s′ f c o′ a′, add-one j) (rw (u, add-one j) at i)
+
+-- row i from the entries beside it, as the code reads them
+pub row-is : (p : Operator) (eta : Float) (x : List Float) (i : ℕ) (v lower upper : Float) → lower ≡ before x i → upper ≡ after (p .n) x i
+    → v ≡ eta ⊗ (at (p .left) i ⊗ lower ⊕ at (p .right) i ⊗ upper) ⊖ at (p .diagonal) i ⊗ at x i → v ≡ rowAt p eta x i
+unfolding rowAt
+row-is p eta x i v lower upper l u e = rw (← l, ← u) e
 
 -- a series at its end
 pub at-end : (k : ℕ) (p : Operator) (eta : Float) (j : ℕ) (x : Reply (List Float)) → series k p eta j (summed x) ≡ x

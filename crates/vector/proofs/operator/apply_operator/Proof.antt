@@ -1,5 +1,5 @@
 -- The rows so far are applied. Assumes nothing.
-use mathlib.Core.Path.{_≡_, refl, _∙_}
+use mathlib.Core.Path.{_≡_, refl}
 use Prim.Native.Nat.{_-_, _≤_, _<_}
 use native.Mathlib.Omega.{arith}
 use lib.ListN.{length, length-set}
@@ -7,6 +7,7 @@ use denote.Ref.{now}
 use Rattle.vector.specs.Series.{rowAt, applied}
 use Rattle.vector.specs.Inner.{operatorOver}
 use Rattle.vector.proofs.Loops.{filled, filled-one, stored, stored-last, before-first, before-later, after-within, after-last}
+use Rattle.vector.proofs.Terms.{row-is}
 use Rattle.vector.proofs.operator.apply_operator.Statement.{statement}
 use Rattle.vector.proofs.operator.apply_operator.Tie as tie
 
@@ -26,11 +27,10 @@ slice-write-out : tie.Need-slice-write-out Inv-loop μ-loop
 slice-write-out c = omega arith
 
 loop-holds : tie.Need-loop-holds Inv-loop μ-loop
-unfolding rowAt
 loop-holds c =
     let a = c .before .before .before .before .before .before .before .args in
     let x = now (a .x) in
-    (omega arith, omega arith, simp length-set (omega arith), simp length-set (omega arith), filled-one _ (now (a .out)) _ (omega arith) (c .row-at .ensures ∙ rw (← before-first x 0 refl, ← after-within x (length x) 0 (omega arith))))
+    (omega arith, omega arith, simp length-set (omega arith), simp length-set (omega arith), filled-one _ (now (a .out)) _ (omega arith) (row-is _ _ x 0 _ _ _ (before-first x 0 refl) (after-within x (length x) 0 (omega arith)) (c .row-at .ensures)))
 
 add-loop : tie.Need-add-loop Inv-loop μ-loop
 add-loop c = omega arith
@@ -69,13 +69,12 @@ loop-less : tie.Need-loop-less Inv-loop μ-loop
 loop-less c = omega arith
 
 loop-again : tie.Need-loop-again Inv-loop μ-loop
-unfolding rowAt
 loop-again c =
     let at-loop = c .before .before .before .before in
     let x = now (at-loop .before .before .before .before .before .before .before .before .args .x) in
     let k = at-loop .loop .i in
     let i = at-loop .loop .inv in
-    (omega arith, omega arith, i .2, simp length-set (i .3), stored _ _ _ k _ (omega arith) (i .4) (c .row-at2 .ensures ∙ rw (← before-later x k (omega arith), ← after-within x (length x) k (omega arith))))
+    (omega arith, omega arith, i .2, simp length-set (i .3), stored _ _ _ k _ (omega arith) (i .4) (row-is _ _ x k _ _ _ (before-later x k (omega arith)) (after-within x (length x) k (omega arith)) (c .row-at2 .ensures)))
 
 sub-row-at-2 : tie.Need-sub-row-at-2 Inv-loop μ-loop
 sub-row-at-2 c = omega arith
@@ -99,13 +98,13 @@ same-length : tie.Need-same-length Inv-loop μ-loop
 same-length c = simp length-set (omega arith)
 
 returns : tie.Need-returns Inv-loop μ-loop
-unfolding rowAt applied
+unfolding applied
 returns c =
     let at-loop = c .before .before .before in
     let x = now (at-loop .before .before .before .before .before .before .before .before .args .x) in
     let i = at-loop .loop .inv in
     let j = at-loop .loop .i in
-    stored-last _ _ _ j j (length x) _ (omega arith) refl (i .2) (i .4) (c .row-at3 .ensures ∙ rw (← before-later x j (omega arith), ← after-last x (length x) j (omega arith)))
+    stored-last _ _ _ j j (length x) _ (omega arith) refl (i .2) (i .4) (row-is _ _ x j _ _ _ (before-later x j (omega arith)) (after-last x (length x) j (omega arith)) (c .row-at3 .ensures))
 
 pub apply-operator-spec : {M : Type 1} → statement M
 apply-operator-spec =
