@@ -9,9 +9,13 @@
 // 2, and a record that ends inside itself, the last, by 6.
 use harness::LARGEST_BOUND;
 use harness::bound_of;
-use harness::say;
-use harness::say_float;
-use harness::say_number;
+use harness::first;
+use harness::make_room;
+use harness::pattern_of;
+use harness::put;
+use harness::put_count;
+use harness::put_number;
+use harness::read_block;
 use harness::signed_of;
 use harness::size_of;
 use harness::word_at;
@@ -25,6 +29,7 @@ use quote::Model;
 use quote::ModelAnswer;
 use quote::OptimalQuotes;
 use quote::Price;
+use quote::refusals::LIMITS;
 
 // The bytes of a record.
 const RECORD: usize = 96;
@@ -32,97 +37,124 @@ const RECORD: usize = 96;
 // The bytes read at once: 682 records.
 const BLOCK: usize = 65472;
 
-// The refusal of a bound that 32 bits do not hold.
-const LIMITS: u8 = 2;
+// The most bytes of a line: a letter, seven floats, two numbers with their spaces and a sign, and the
+// line's end.
+const LINE: usize = 164;
 
-fn say_lots(q: i64) {
+// The refusal of a record that ends inside itself.
+const CUT_SHORT: u8 = 6;
+
+// A space and a float's 16 hex digits, in lower case.
+fn put_float(out: &mut [u8], at: usize, x: f64) -> usize {
+    let mut text = [0u8; 16];
+    let k = io::hex(pattern_of(x), 16, &mut text);
+    let next = put(out, at, b" ");
+    put(out, next, &text[..k])
+}
+
+// A space and a number with its sign.
+fn put_lots(out: &mut [u8], at: usize, q: i64) -> usize {
     if q < 0 {
-        say(b" -");
-        io::print_decimal(libc::STDOUT_FILENO, size_of(q));
-    } else {
-        say_number(size_of(q));
+        let next = put(out, at, b" -");
+        return put_count(out, next, size_of(q));
     }
+    put_number(out, at, size_of(q))
 }
 
-fn say_price(p: Price) {
+// A space and a price, of which no quote has a negative one.
+fn put_price(out: &mut [u8], at: usize, p: Price) -> usize {
     match p {
-        Price::At(x) => say_number(size_of(x)),
-        Price::Absent => say(b" -"),
+        Price::At(x) => put_number(out, at, size_of(x)),
+        Price::Absent => put(out, at, b" -"),
     }
 }
 
-fn say_quotes(q: GlftQuotes) {
+// `Q`, bid and ask.
+fn put_quotes(out: &mut [u8], start: usize, q: GlftQuotes) -> usize {
     let bid = q.bid;
     let ask = q.ask;
-    say(b"Q");
-    say_price(bid);
-    say_price(ask);
+    let mut at = put(out, start, b"Q");
+    at = put_price(out, at, bid);
+    put_price(out, at, ask)
 }
 
-fn say_refusal(number: u8) {
-    say(b"R");
-    say_number(number as u64);
+// `R` and a refusal's number.
+fn put_refusal(out: &mut [u8], start: usize, number: u8) -> usize {
+    let at = put(out, start, b"R");
+    put_number(out, at, number as u64)
 }
 
-fn say_exact(a: ExactQuotes) {
+// `Q`, bid, ask and the steps.
+fn put_counted(out: &mut [u8], start: usize, q: GlftQuotes, steps: u32) -> usize {
+    let at = put_quotes(out, start, q);
+    put_number(out, at, steps as u64)
+}
+
+// `C`, the steps needed, the budget left and the steps spent.
+fn put_cap(out: &mut [u8], start: usize, needed: f64, budget: u32, steps: u32) -> usize {
+    let mut at = put(out, start, b"C");
+    at = put_float(out, at, needed);
+    at = put_number(out, at, budget as u64);
+    put_number(out, at, steps as u64)
+}
+
+fn put_exact(out: &mut [u8], at: usize, a: ExactQuotes) -> usize {
     match a {
-        ExactQuotes::Quotes(q, steps) => {
-            say_quotes(q);
-            say_number(steps as u64);
-        }
-        ExactQuotes::OverStepCap(needed, budget, steps) => {
-            say(b"C");
-            say_float(needed);
-            say_number(budget as u64);
-            say_number(steps as u64);
-        }
-        ExactQuotes::Refused(number) => say_refusal(number),
+        ExactQuotes::Quotes(q, steps) => put_counted(out, at, q, steps),
+        ExactQuotes::OverStepCap(needed, budget, steps) => put_cap(out, at, needed, budget, steps),
+        ExactQuotes::Refused(number) => put_refusal(out, at, number),
     }
 }
 
-fn say_optimal(a: OptimalQuotes) {
+fn put_optimal(out: &mut [u8], at: usize, a: OptimalQuotes) -> usize {
     match a {
-        OptimalQuotes::Quotes(q, steps) => {
-            say_quotes(q);
-            say_number(steps as u64);
-        }
-        OptimalQuotes::Refused(number) => say_refusal(number),
+        OptimalQuotes::Quotes(q, steps) => put_counted(out, at, q, steps),
+        OptimalQuotes::Refused(number) => put_refusal(out, at, number),
     }
 }
 
-fn say_closed_form(a: ClosedFormQuotes) {
+fn put_closed_form(out: &mut [u8], at: usize, a: ClosedFormQuotes) -> usize {
     match a {
-        ClosedFormQuotes::Quotes(q) => say_quotes(q),
-        ClosedFormQuotes::Refused(number) => say_refusal(number),
+        ClosedFormQuotes::Quotes(q) => put_quotes(out, at, q),
+        ClosedFormQuotes::Refused(number) => put_refusal(out, at, number),
     }
 }
 
-fn say_config(a: ConfigAnswer) {
+fn put_config(out: &mut [u8], at: usize, a: ConfigAnswer) -> usize {
     match a {
-        ConfigAnswer::Config(_) => say(b"P"),
-        ConfigAnswer::Refused(number) => say_refusal(number),
+        ConfigAnswer::Config(_) => put(out, at, b"P"),
+        ConfigAnswer::Refused(number) => put_refusal(out, at, number),
     }
 }
 
-fn say_floats(m: Model) {
-    say_float(m.k);
-    say_float(m.gamma);
-    say_float(m.a);
-    say_float(m.sigma2);
-    say_float(m.alpha);
-    say_float(m.eta);
-    say_float(m.base);
+// A model's four given floats.
+fn put_given(out: &mut [u8], start: usize, m: Model) -> usize {
+    let mut at = put_float(out, start, m.k);
+    at = put_float(out, at, m.gamma);
+    at = put_float(out, at, m.a);
+    put_float(out, at, m.sigma2)
 }
 
-fn say_model(a: ModelAnswer) {
+// The three reckoned from them, and the bound.
+fn put_reckoned(out: &mut [u8], start: usize, m: Model) -> usize {
+    let mut at = put_float(out, start, m.alpha);
+    at = put_float(out, at, m.eta);
+    at = put_float(out, at, m.base);
+    put_number(out, at, m.q_max as u64)
+}
+
+// `M`, a model, and the holding in lots.
+fn put_lots_of(out: &mut [u8], start: usize, m: Model, q: i64) -> usize {
+    let mut at = put(out, start, b"M");
+    at = put_given(out, at, m);
+    at = put_reckoned(out, at, m);
+    put_lots(out, at, q)
+}
+
+fn put_model(out: &mut [u8], start: usize, a: ModelAnswer) -> usize {
     match a {
-        ModelAnswer::Model(m, q) => {
-            say(b"M");
-            say_floats(m);
-            say_number(m.q_max as u64);
-            say_lots(q);
-        }
-        ModelAnswer::Refused(number) => say_refusal(number),
+        ModelAnswer::Model(m, q) => put_lots_of(out, start, m, q),
+        ModelAnswer::Refused(number) => put_refusal(out, start, number),
     }
 }
 
@@ -158,18 +190,30 @@ fn renewed(c: GLFTConfig) -> ConfigAnswer {
 }
 
 // What an entry without a current time answers.
-fn say_untimed(entry: u64, mid: i64, holding: i64, c: GLFTConfig, volatility: i64) {
+fn put_untimed(
+    out: &mut [u8],
+    start: usize,
+    entry: u64,
+    mid: i64,
+    holding: i64,
+    c: GLFTConfig,
+    volatility: i64,
+) -> usize {
     if entry == 2 {
-        say_closed_form(GLFTStrategy::closed_form_quotes(mid, holding, c, volatility));
-    } else if entry == 3 {
-        say_config(renewed(c));
-    } else {
-        say_model(Model::new(mid, holding, c, volatility));
+        return put_closed_form(
+            out,
+            start,
+            GLFTStrategy::closed_form_quotes(mid, holding, c, volatility),
+        );
     }
+    if entry == 3 {
+        return put_config(out, start, renewed(c));
+    }
+    put_model(out, start, Model::new(mid, holding, c, volatility))
 }
 
 // What the entry answers to the record at a place.
-fn say_answer(s: &[u8], at: usize) {
+fn put_answer(out: &mut [u8], start: usize, s: &[u8], at: usize) -> usize {
     let mid = amount_at(s, at, 0);
     let holding = amount_at(s, at, 8);
     let volatility = amount_at(s, at, 16);
@@ -177,37 +221,59 @@ fn say_answer(s: &[u8], at: usize) {
     let current = word_at(s, at, 72);
     let entry = word_at(s, at, 88);
     if entry == 0 {
-        say_exact(GLFTStrategy::exact_quotes(mid, holding, c, volatility, current));
-    } else if entry == 1 {
-        say_optimal(GLFTStrategy::calculate_optimal_quotes(mid, holding, c, volatility, current));
-    } else {
-        say_untimed(entry, mid, holding, c, volatility);
+        let a = GLFTStrategy::exact_quotes(mid, holding, c, volatility, current);
+        return put_exact(out, start, a);
     }
+    if entry == 1 {
+        let a = GLFTStrategy::calculate_optimal_quotes(mid, holding, c, volatility, current);
+        return put_optimal(out, start, a);
+    }
+    put_untimed(out, start, entry, mid, holding, c, volatility)
+}
+
+// The record at a place, without its line's end.
+fn put_record(out: &mut [u8], start: usize, s: &[u8], at: usize) -> usize {
+    if word_at(s, at, 48) > LARGEST_BOUND {
+        return put_refusal(out, start, LIMITS);
+    }
+    put_answer(out, start, s, at)
 }
 
 // The line of the record at a place.
-fn say_line(s: &[u8], at: usize) {
-    if word_at(s, at, 48) > LARGEST_BOUND {
-        say_refusal(LIMITS);
-    } else {
-        say_answer(s, at);
-    }
-    say(b"\n");
+fn put_line(out: &mut [u8], start: usize, s: &[u8], at: usize) -> usize {
+    let end = put_record(out, start, s, at);
+    put(out, end, b"\n")
 }
 
-// The lines of the records in the first n bytes.
-fn say_lines(s: &[u8], n: usize) {
+// Puts the lines of the records in the first n bytes of s into `out`, which is written out whenever
+// it is full. Answers how many bytes are left in it.
+fn put_lines(out: &mut [u8], s: &[u8], n: usize) -> usize {
+    let mut used: usize = 0;
     for i in 0..n / RECORD {
-        say_line(s, i * RECORD);
+        used = make_room(out, used, LINE);
+        used = put_line(out, used, s, i * RECORD);
     }
+    used
+}
+
+// After the lines, that of a record that ends inside itself, if any of its bytes are left.
+fn put_cut(out: &mut [u8], used: usize, left: usize) -> usize {
+    if left == 0 {
+        return used;
+    }
+    let start = make_room(out, used, LINE);
+    let end = put_refusal(out, start, CUT_SHORT);
+    put(out, end, b"\n")
 }
 
 // Reads a block and writes its lines. A full one holds whole records, and more may follow it.
 fn run_block() -> bool {
     let mut block = io::large_buffer();
-    let n = harness::read_block(&mut block, BLOCK);
-    say_lines(&block, n);
-    harness::say_cut(n % RECORD);
+    let n = read_block(&mut block, BLOCK);
+    let mut out = io::large_buffer();
+    let lines = put_lines(&mut out, &block, n);
+    let used = put_cut(&mut out, lines, n % RECORD);
+    io::write_all(libc::STDOUT_FILENO, first(&out, used));
     n == BLOCK
 }
 

@@ -62,5 +62,5 @@ fn main() {
     let n = io::read_full(libc::STDIN_FILENO, &mut input);
     let mut out = io::large_buffer();
     let used = put_lines(&mut out, &input, n);
-    harness::say_first(&out, used);
+    io::write_all(libc::STDOUT_FILENO, harness::first(&out, used));
 }

@@ -9,15 +9,13 @@ use distances::FloatAnswer;
 use distances::float_entry;
 use harness::MANY;
 use harness::bound_of;
+use harness::first;
 use harness::float_of;
 use harness::make_room;
-use harness::pattern_of;
 use harness::put;
-use harness::put_count;
-use harness::put_hex;
+use harness::put_float;
+use harness::put_number;
 use harness::read_block;
-use harness::say_cut;
-use harness::say_first;
 use harness::signed_of;
 use harness::word_at;
 use vector::MAX_DIM;
@@ -33,17 +31,8 @@ const BLOCK: usize = 65520;
 // end.
 const LINE: usize = 13712;
 
-// A space and a float.
-fn put_float(out: &mut [u8], at: usize, x: f64) -> usize {
-    let next = put(out, at, b" ");
-    put_hex(out, next, pattern_of(x))
-}
-
-// A space and a number.
-fn put_number(out: &mut [u8], at: usize, n: u64) -> usize {
-    let next = put(out, at, b" ");
-    put_count(out, next, n)
-}
+// The refusal of a record that ends inside itself.
+const CUT_SHORT: u8 = 6;
 
 // A space and a side's distance.
 fn put_side(out: &mut [u8], at: usize, d: Distance) -> usize {
@@ -145,14 +134,24 @@ fn put_lines(out: &mut [u8], s: &[u8], n: usize) -> usize {
     used
 }
 
+// After the lines, that of a record that ends inside itself, if any of its bytes are left.
+fn put_cut(out: &mut [u8], used: usize, left: usize) -> usize {
+    if left == 0 {
+        return used;
+    }
+    let start = make_room(out, used, LINE);
+    let end = put_refusal(out, start, CUT_SHORT);
+    put(out, end, b"\n")
+}
+
 // Reads a block and writes its lines. A full one holds whole records, and more may follow it.
 fn run_block() -> bool {
     let mut block = io::large_buffer();
     let n = read_block(&mut block, BLOCK);
     let mut out = io::large_buffer();
-    let used = put_lines(&mut out, &block, n);
-    say_first(&out, used);
-    say_cut(n % RECORD);
+    let lines = put_lines(&mut out, &block, n);
+    let used = put_cut(&mut out, lines, n % RECORD);
+    io::write_all(libc::STDOUT_FILENO, first(&out, used));
     n == BLOCK
 }
 

@@ -23,6 +23,16 @@ placed l at t = placedBy (fits l at (length t)) l at t
 unfoldable pub after : List ℕ → ℕ → List ℕ → ℕ
 after l at t = cond (fits l at (length t)) (at + length t) at
 
+-- a space and a text, each where it fits, and the place after them
+abbrev pub space : List ℕ
+space = 32 ∷ []
+
+unfoldable pub spaced : List ℕ → ℕ → List ℕ → List ℕ
+spaced l at t = placed (placed l at space) (after l at space) t
+
+unfoldable pub afterSpaced : List ℕ → ℕ → List ℕ → ℕ
+afterSpaced l at t = after (placed l at space) (after l at space) t
+
 -- ---- digits
 -- the lowest hex digit of a number: `0` to `9`, then `A` to `F`
 unfoldable pub glyph : ℕ → ℕ

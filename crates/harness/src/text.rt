@@ -2,7 +2,9 @@
 // not fit, and answers the place after it.
 ghost use mathlib.Core.Path.{_≡_};
 ghost use lib.ListN.{length};
-ghost use Rattle.harness.specs.Texts.{fits, placed, after, glyph, hex, count};
+ghost use lib.Ieee.{binary64, toBits};
+ghost use Rattle.harness.specs.Texts.{fits, placed, after, spaced, afterSpaced, glyph, hex, count};
+use crate::word::pattern_of;
 
 // Do n bytes fit from a place on?
 pub(crate) fn has_room(out: &[u8], at: usize, n: usize) -> bool
@@ -65,4 +67,22 @@ pub fn put_hex(out: &mut [u8], at: usize, bits: u64) -> usize
         out[at + (15 - left)] = digit(bits >> (4 * left));
     }
     at + 16
+}
+
+// A space and a count.
+pub fn put_number(out: &mut [u8], at: usize, n: u64) -> usize
+    ensures { λ _. ⌜ now (out .exit) ≡ spaced (now (out .entry)) at (count n) ⌝ }
+    ensures { λ r. ⌜ r ≡ afterSpaced (now (out .entry)) at (count n) ⌝ }
+{
+    let next = put(out, at, b" ");
+    put_count(out, next, n)
+}
+
+// A space and a float's pattern in 16 hex digits.
+pub fn put_float(out: &mut [u8], at: usize, x: f64) -> usize
+    ensures { λ _. ⌜ now (out .exit) ≡ spaced (now (out .entry)) at (hex 16 (toBits binary64 x)) ⌝ }
+    ensures { λ r. ⌜ r ≡ afterSpaced (now (out .entry)) at (hex 16 (toBits binary64 x)) ⌝ }
+{
+    let next = put(out, at, b" ");
+    put_hex(out, next, pattern_of(x))
 }

@@ -3,8 +3,8 @@
 // last sheet is zeros.
 ghost use mathlib.Core.Path.{_≡_};
 ghost use lib.ListN.{length};
+use harness::first;
 use harness::read_block;
-use harness::say;
 use sheet::LineAnswer;
 
 // One byte more than the longest sheet.
@@ -18,7 +18,7 @@ fn say_line(s: &[u8], at: usize) -> usize {
     let mut line = [0u8; sheet::LEAST_ROOM];
     match sheet::next_line(s, at, &mut line) {
         LineAnswer::Written(n, next) => {
-            harness::say_first(&line, n);
+            io::write_all(libc::STDOUT_FILENO, first(&line, n));
             next
         }
         LineAnswer::End => s.len(),
@@ -61,7 +61,7 @@ fn run_sheet() -> bool {
     let mut sheet = blank_sheet();
     read_block(&mut sheet, n);
     say_lines(&sheet[..n]);
-    say(b".\n");
+    io::write_all(libc::STDOUT_FILENO, b".\n");
     true
 }
 

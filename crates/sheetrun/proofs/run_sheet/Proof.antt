@@ -29,11 +29,11 @@ slice-aggregate-say-lines c = sym (length-take-le _ _ (array-share-prefix-sheet 
 say-lines-requires : tie.Need-say-lines-requires
 say-lines-requires c κs = search needs
 
-slice-aggregate-say : tie.Need-slice-aggregate-say
-slice-aggregate-say c = search needs
+slice-aggregate-write-all : tie.Need-slice-aggregate-write-all
+slice-aggregate-write-all c = search needs
 
-say-requires : tie.Need-say-requires
-say-requires c κs = search needs
+write-all-requires : tie.Need-write-all-requires
+write-all-requires c κs = search needs
 
 returns-2 : tie.Need-returns-2
 returns-2 c = search needs
@@ -50,6 +50,6 @@ run-sheet-spec =
     array-share-prefix-sheet
     slice-aggregate-say-lines
     say-lines-requires
-    slice-aggregate-say
-    say-requires
+    slice-aggregate-write-all
+    write-all-requires
     returns-2)

@@ -10,11 +10,14 @@ has-room-requires c κs = search needs
 returns : tie.Need-returns
 returns c = rw (sym (c .before .has-room .ensures) ∙ c .if1 .taken)
 
-say-first-requires : tie.Need-say-first-requires
-say-first-requires c κs = search needs
+first-requires : tie.Need-first-requires
+first-requires c κs = search needs
+
+write-all-requires : tie.Need-write-all-requires
+write-all-requires c κs = search needs
 
 returns-2 : tie.Need-returns-2
-returns-2 c = rw (sym (c .before .before .has-room .ensures) ∙ c .before .if1 .left)
+returns-2 c = rw (sym (c .before .before .before .has-room .ensures) ∙ c .before .before .if1 .left)
 
 pub make-room-spec : {M : Type 1} → statement M
-make-room-spec = tie.close (tie.spec has-room-requires returns say-first-requires returns-2)
+make-room-spec = tie.close (tie.spec has-room-requires returns first-requires write-all-requires returns-2)
