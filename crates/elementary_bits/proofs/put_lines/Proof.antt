@@ -1,4 +1,4 @@
--- `elementary_bits::put_lines` is safe and ends. The loop's invariant: `out` keeps its length, and the input holds the patterns to come. Assumes nothing.
+-- The loop's invariant: `out` keeps its length, and the input holds the patterns to come. Assumes nothing.
 use Prim.Native.Nat.{_*_, _-_, _≤_}
 use mathlib.Core.Path.{_≡_}
 use borrow.Author.Needs.{needs}
@@ -9,56 +9,7 @@ use Rattle.elementary_bits.proofs.put_lines.Tie as tie
 abbrev Inv-loop : tie.InvT-loop
 Inv-loop out₀ s n used₀ i₀ i-end out used i = (length out ≡ length out₀) × (i ≤ i-end) × (i-end * 8 ≤ n)
 
-abbrev μ-loop : tie.MeasureT-loop
-μ-loop out₀ s n used₀ i₀ i-end out used i = i-end - i
-
-put-line-requires : tie.Need-put-line-requires Inv-loop μ-loop
-put-line-requires c κs = tt
-
-loop-holds : tie.Need-loop-holds Inv-loop μ-loop
-loop-holds c = search needs
-
-make-room-requires : tie.Need-make-room-requires Inv-loop μ-loop
-make-room-requires c κs = tt
-
-mul-word-at : tie.Need-mul-word-at Inv-loop μ-loop
-mul-word-at c = search needs
-
-word-at-requires : tie.Need-word-at-requires Inv-loop μ-loop
-word-at-requires c κs = tt
-
-put-line-requires-2 : tie.Need-put-line-requires-2 Inv-loop μ-loop
-put-line-requires-2 c κs = tt
-
-add-i : tie.Need-add-i Inv-loop μ-loop
-add-i c = search needs
-
-loop-less : tie.Need-loop-less Inv-loop μ-loop
-loop-less c = search needs
-
-loop-again : tie.Need-loop-again Inv-loop μ-loop
-loop-again c = search needs
-
-same-length : tie.Need-same-length Inv-loop μ-loop
-same-length c = search needs
-
-returns : tie.Need-returns Inv-loop μ-loop
-returns c = tt
-
 pub put-lines-spec : {M : Type 1} → statement M
 put-lines-spec =
     tie.close
-    (tie.spec
-    Inv-loop
-    μ-loop
-    put-line-requires
-    loop-holds
-    make-room-requires
-    mul-word-at
-    word-at-requires
-    put-line-requires-2
-    add-i
-    loop-less
-    loop-again
-    same-length
-    returns)
+    (tie.spec Inv-loop (λ out₀ s n used₀ i₀ i-end out used i. i-end - i) (λ c κs. tt) (λ c. search needs) (λ c κs. tt) (λ c. search needs) (λ c κs. tt) (λ c κs. tt) (λ c. search needs) (λ c. search needs) (λ c. search needs) (λ c. search needs) (λ c. tt))
