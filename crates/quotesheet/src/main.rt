@@ -1,4 +1,5 @@
-// Reads a sheet from standard input and prints the line of each record.
+// Reads a sheet from standard input and prints the line of each record. Input that cannot be read, or output that cannot
+// be written, is told on standard error.
 ghost use mathlib.Core.Path.{_≡_};
 ghost use Prim.Native.Nat.{_≤_};
 ghost use lib.ListN.{length, take};
@@ -33,22 +34,35 @@ fn first(out: &[u8], n: usize) -> &[u8]
     &out[..n]
 }
 
-// Writes the lines of a sheet, many with one call, and stops where standard output is closed.
-fn write_lines(s: &[u8]) {
+// Writes the lines of a sheet, many with one call; false where standard output does not take them.
+fn write_lines(s: &[u8]) -> bool {
     let mut out = io::large_buffer();
     let mut at: usize = 0;
     while at < s.len() {
         let lines = fill(s, at, &mut out);
         if !io::write_all(libc::STDOUT_FILENO, first(&out, lines.count)) {
-            return;
+            return false;
         }
         at = lines.next;
     }
+    true
+}
+
+// Did a read fail? At the end of the input one more answers 0, and after a failure -1 once more.
+fn read_fails() -> bool {
+    let mut one = [0u8; 1];
+    libc::read(libc::STDIN_FILENO, &mut one) < 0
 }
 
 fn main() {
     // One byte more than the longest sheet tells one that is longer.
     let mut input = [0u8; sheet::MOST_BYTES + 1];
     let n = io::read_full(libc::STDIN_FILENO, &mut input);
-    write_lines(&input[..n]);
+    if n <= sheet::MOST_BYTES && read_fails() {
+        os::fail(b"quotesheet: standard input");
+        return;
+    }
+    if !write_lines(&input[..n]) {
+        os::fail(b"quotesheet: standard output");
+    }
 }
