@@ -154,7 +154,7 @@ def main():
     floatrun, deskrun = sys.argv[1:]
     faults = Faults()
     absolute = relative = price = 0
-    print("%-28s %6s  %-22s  %s" % ("", "", "floatrun, in units:", "deskrun, absolute, in billionths:"))
+    print("%-28s %6s  %-22s  %s" % ("", "", "floatrun's distances:", "deskrun's prices, absolute, in billionths:"))
     print("%-28s %6s  %-11s %-11s %-13s %s" % ("case", "steps", "absolute", "relative", "exact quotes", "closed form"))
     for case in exact.CASES:
         steps, *errors = measured(case, floatrun, deskrun, faults)
