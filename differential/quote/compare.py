@@ -137,8 +137,8 @@ class Comparison:
         if floats is None or note.floats is None:
             return False, None if floats == note.floats else "a model on one side alone"
         others = [x for x in zip(FLOATS, floats, note.floats) if x[1] != x[2]]
-        self.others[kind(ours)] += bool(others)
         off = [name for name, a, b in others if abs(a - b) > MOST_APART[name] * a]
+        self.others[kind(ours)] += bool(others) and not off
         return bool(others), "other floats: " + " ".join(off) if off else None
 
     def quotes(self, ours, routed, distances):
