@@ -126,10 +126,15 @@ def read(path):
         return [bits for (bits,) in struct.iter_unpack("<Q", file.read())]
 
 
+def lines(path):
+    yield line("NAN", math.nan)
+    for bits in read(path):
+        yield line("%016X" % bits, float_of(bits))
+
+
 def main():
-    print(line("NAN", math.nan))
-    for bits in read(sys.argv[1]):
-        print(line("%016X" % bits, float_of(bits)))
+    for told in lines(sys.argv[1]):
+        print(told)
 
 
 if __name__ == "__main__":

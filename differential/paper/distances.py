@@ -8,8 +8,10 @@ For each case of exact.py and each q from -Q to Q:
   paper's, and its two distances are held to Theorem 1's;
 - DESKRUN, the quotes, gets amounts. Sigma goes from root seconds to root years of 365 days, to the
   nearest billionth. Mid less bid and ask less mid are held to Theorem 1's distances (`exact_quotes`)
-  and to the closed form's (`closed_form_quotes`). A price is a whole number of billionths, so half of
-  one is what can be expected; the status is 1 where a price is more than one away.
+  and to the closed form's (`closed_form_quotes`).
+
+A distance or price further off than the bounds below, a side that only one of both has, and a line that
+is no answer are faults. The first of them are told, and the status is 1 where there is one.
 """
 import os
 import struct
@@ -27,28 +29,55 @@ BILLION = 10**9
 MID = 1000 * BILLION
 YEAR = 31536000
 DIGITS = 80
+SIDES = ("bid", "ask")
+TOLD = 10
+# errors of a float distance: the largest that were measured are 4.64e-14 units and, relatively, 3.26e-13, both in the
+# case "Q 100, two minutes", the latter of a distance of -0.023
+ABSOLUTE_BOUND = 4.7e-14
+RELATIVE_BOUND = 3.3e-13
+# error of a price, in billionths: half of one by rounding, and what the float distance before it was measured to be
+# off, with sigma as it is typed: up to 0.0006 in exact quotes, and 0.0017 in the closed form
+PRICE_BOUND = 0.502
 
 
-def run(program, records):
-    out = subprocess.run([program], input=b"".join(records), stdout=subprocess.PIPE, check=True).stdout
-    return out.decode().splitlines()
+class Faults:
+    """Counts the faults, and tells the first."""
+
+    def __init__(self):
+        self.count = 0
+
+    def tell(self, *what):
+        self.count += 1
+        if self.count <= TOLD:
+            print("fault: " + ", ".join(what))
 
 
 def lots(case):
     return range(-case.bound, case.bound + 1)
 
 
-def from_floats(program, case):
+def answers(program, kind, case, records, faults):
+    """The fields of each q's line, where that is an answer."""
+    out = subprocess.run([program], input=b"".join(records), stdout=subprocess.PIPE, check=True).stdout
+    lines = out.decode().splitlines()
+    if len(lines) != len(records):
+        faults.tell(case.name, "%d lines for %d records" % (len(lines), len(records)))
+    fields = {q: line.split() for q, line in zip(lots(case), lines)}
+    for q in fields:
+        if fields[q][:1] != [kind]:
+            faults.tell(case.name, "q %d" % q, "no answer: " + " ".join(fields[q])[:60])
+    return {q: f for q, f in fields.items() if f[:1] == [kind]}
+
+
+def from_floats(program, case, faults):
     """The float entry's distances for each q, and its steps."""
     with mp.workdps(exact.DIGITS):
         s = exact.scales(case)
-        floats = [float(x) for x in (s.k, s.alpha, s.eta, s.base)]
+        # per unit of price: k and base go back from a lot to a unit; alpha and eta, per second, have no price in them
+        floats = [float(x) for x in (s.k * s.lot, s.alpha, s.eta, s.base / s.lot)]
     records = [struct.pack("<4dQdq", *floats, case.bound, float(case.seconds), q) for q in lots(case)]
-    distances, steps = {}, None
-    for q, line in zip(lots(case), run(program, records)):
-        fields = line.split()
-        if fields[0] != "V":
-            sys.exit("distances.py: %s, q %d: %s" % (case.name, q, line[:60]))
+    distances, steps = {}, 0
+    for q, fields in answers(program, "V", case, records, faults).items():
         steps = int(fields[1])
         distances[q] = [None if f == "-" else struct.unpack(">d", bytes.fromhex(f))[0] for f in fields[2:4]]
     return distances, steps
@@ -62,42 +91,81 @@ def desk(case, q):
                         amount["lot"], 1000 * int(case.seconds), 0, 0)
 
 
-def from_quotes(program, case, entry):
-    """Mid less bid and ask less mid for each q, in units."""
+def from_quotes(program, case, entry, faults):
+    """Mid less bid and ask less mid for each q, in billionths."""
+    records = [quoting.pack(desk(case, q), entry) for q in lots(case)]
     distances = {}
-    for q, line in zip(lots(case), run(program, [quoting.pack(desk(case, q), entry) for q in lots(case)])):
-        fields = line.split()
-        if fields[0] != "Q":
-            sys.exit("distances.py: %s, q %d: %s" % (case.name, q, line))
-        bid, ask = fields[1:3]
+    for q, (_, bid, ask, *_) in answers(program, "Q", case, records, faults).items():
         distances[q] = [None if bid == "-" else MID - int(bid), None if ask == "-" else int(ask) - MID]
     return distances
 
 
-def farthest(ours, papers, scale=1):
-    """The largest difference, and the largest relative one."""
+def pairs(what, case, ours, papers, faults):
+    """Our distance and the paper's wherever there are both; one alone is a fault."""
+    both = []
+    for q in ours:
+        for side, a, b in zip(SIDES, ours[q], papers[q]):
+            if (a is None) != (b is None):
+                faults.tell(case.name, "q %d" % q, side, what + (": absent" if a is None else ": present")
+                            + " here and not in the paper")
+            elif a is not None:
+                both.append((q, side, mpf(a), b))
+    return both
+
+
+def floats_off(case, ours, papers, faults):
+    """The largest absolute error of floatrun and the largest relative one; one above its bound is a fault."""
+    largest = [mpf(0), mpf(0)]
+    for q, side, a, b in pairs("floatrun", case, ours, papers, faults):
+        errors = abs(a - b), abs(a - b) / abs(b)
+        largest = list(map(max, largest, errors))
+        if not (errors[0] <= ABSOLUTE_BOUND and errors[1] <= RELATIVE_BOUND):  # a NaN is off too
+            faults.tell(case.name, "q %d" % q, side, "floatrun: off by %s units, relatively %s"
+                        % tuple(mp.nstr(e, 3) for e in errors))
+    return largest
+
+
+def prices_off(what, case, ours, papers, faults):
+    """The largest error of deskrun in billionths; one above its bound is a fault."""
+    largest = mpf(0)
+    for q, side, a, b in pairs(what, case, ours, papers, faults):
+        error = abs(a - b * BILLION)
+        largest = max(largest, error)
+        if not error <= PRICE_BOUND:
+            faults.tell(case.name, "q %d" % q, side, "%s: off by %s billionths" % (what, mp.nstr(error, 4)))
+    return largest
+
+
+def measured(case, floatrun, deskrun, faults):
+    """The steps, and the four largest errors of a case."""
+    theorem = exact.exact(case)
+    with mp.workdps(exact.DIGITS):
+        form = exact.closed_form(exact.scales(case), case.bound)
+    floats, steps = from_floats(floatrun, case, faults)
+    quotes = from_quotes(deskrun, case, quoting.EXACT, faults)
+    forms = from_quotes(deskrun, case, quoting.CLOSED_FORM, faults)
     with mp.workdps(DIGITS):
-        pairs = [(mpf(a) / scale, b) for q in ours for a, b in zip(ours[q], papers[q]) if b is not None]
-        return max(abs(a - b) for a, b in pairs), max(abs(a - b) / abs(b) for a, b in pairs)
+        return (steps, *floats_off(case, floats, theorem, faults),
+                prices_off("exact quotes", case, quotes, theorem, faults),
+                prices_off("closed form", case, forms, form, faults))
 
 
 def main():
     floatrun, deskrun = sys.argv[1:]
-    worst = 0
-    print("%-28s %6s  %-22s  %s" % ("", "", "floatrun, units:", "deskrun, billionths:"))
-    print("%-28s %6s  %-11s %-11s %-11s %-11s" % ("case", "steps", "largest", "relative", "exact", "closed form"))
+    faults = Faults()
+    absolute = relative = price = 0
+    print("%-28s %6s  %-22s  %s" % ("", "", "floatrun's distances:", "deskrun's prices, absolute, in billionths:"))
+    print("%-28s %6s  %-11s %-11s %-13s %s" % ("case", "steps", "absolute", "relative", "exact quotes", "closed form"))
     for case in exact.CASES:
-        theorem = exact.exact(case)
-        with mp.workdps(exact.DIGITS):
-            form = exact.closed_form(exact.scales(case), case.bound)
-        floats, steps = from_floats(floatrun, case)
-        absolute, relative = farthest(floats, theorem)
-        quotes, _ = farthest(from_quotes(deskrun, case, quoting.EXACT), theorem, BILLION)
-        forms, _ = farthest(from_quotes(deskrun, case, quoting.CLOSED_FORM), form, BILLION)
-        worst = max(worst, quotes * BILLION, forms * BILLION)
-        shown = [mp.nstr(x, 3) for x in (absolute, relative, quotes * BILLION, forms * BILLION)]
-        print("%-28s %6d  %-11s %-11s %-11s %-11s" % (case.name, steps, *shown))
-    sys.exit(1 if worst > 1 else 0)
+        steps, *errors = measured(case, floatrun, deskrun, faults)
+        absolute, relative, price = max(absolute, errors[0]), max(relative, errors[1]), max(price, *errors[2:])
+        shown = [mp.nstr(e, 3) for e in errors]
+        print("%-28s %6d  %-11s %-11s %-13s %s" % (case.name, steps, *shown))
+    print("%d cases, %d faults; largest relative error %s (bound %s), absolute error %s units (bound %s), "
+          "price error %s billionths (bound %s)"
+          % (len(exact.CASES), faults.count, mp.nstr(relative, 3), RELATIVE_BOUND, mp.nstr(absolute, 3), ABSOLUTE_BOUND,
+             mp.nstr(price, 3), PRICE_BOUND))
+    sys.exit(1 if faults.count else 0)
 
 
 if __name__ == "__main__":

@@ -2,13 +2,18 @@
 
     python3 exact.py
 
-For a desk of the paper (sigma per root second, A, k, gamma, T - t in seconds, Q, and a lot size, by
-which gamma is multiplied), every step is over mpmath's numbers of DIGITS digits:
+For a desk of the paper (sigma per root second, A, k, gamma, T - t in seconds and Q), every step is over
+mpmath's numbers of DIGITS digits:
 
     alpha = k gamma sigma^2 / 2,  eta = A (1 + gamma/k)^-(1 + k/gamma)
     M tridiagonal over q = -Q .. Q: alpha q^2 on the diagonal, -eta beside it
     v = exp(-M (T - t)) 1
     bid's distance = ln(v_q / v_(q+1)) / k + ln(1 + gamma/k) / gamma, ask's with q - 1
+
+The paper's orders are of one unit. A desk of lots is the paper's with one lot as the unit: the price of a
+lot is the lot size times that of a unit, so sigma is multiplied by the lot size and k, per unit of price,
+is divided by it; gamma, per unit of money, stays, as A and the time do. The distances are then prices of
+a lot, and the lot size divides them in the end.
 
 The exponential is its power series. With s = alpha Q^2, sI - M has no negative entry, and exp(-M t) is
 exp(-s t) exp((sI - M) t): the factor drops out of every ratio, and what is left is a sum of positive
@@ -41,15 +46,16 @@ CASES = [
     Case("sigma 5, Q 100, rebalanced", "5", "0.9", "0.3", "0.01", "10", 100, "1"),
 ]
 
-Scales = collections.namedtuple("Scales", "k gamma a sigma2 alpha eta base tau")
+Scales = collections.namedtuple("Scales", "lot k gamma a sigma2 alpha eta base tau")
 
 
 def scales(case):
-    sigma, a, k, seconds = map(mpf, (case.sigma, case.a, case.k, case.seconds))
-    gamma = mpf(case.gamma) * mpf(case.lot)
+    """The paper's numbers, with one lot as the unit."""
+    lot, a, gamma, seconds = map(mpf, (case.lot, case.a, case.gamma, case.seconds))
+    k = mpf(case.k) / lot
+    sigma2 = (mpf(case.sigma) * lot) ** 2
     eta = a * (1 + gamma / k) ** -(1 + k / gamma)
-    return Scales(k, gamma, a, sigma * sigma, k * gamma * sigma * sigma / 2, eta, mp.log(1 + gamma / k) / gamma,
-                  seconds)
+    return Scales(lot, k, gamma, a, sigma2, k * gamma * sigma2 / 2, eta, mp.log(1 + gamma / k) / gamma, seconds)
 
 
 def vector(s, bound):
@@ -71,19 +77,22 @@ def vector(s, bound):
             return total
 
 
-def sides(bound, bid, ask):
-    """Both distances for each q; None for the one that is withheld."""
-    return {q: (bid(q) if q < bound else None, ask(q) if q > -bound else None) for q in range(-bound, bound + 1)}
+def sides(s, bound, bid, ask):
+    """Both distances for each q, as prices of a unit; None for the one that is withheld."""
+    return {q: (bid(q) / s.lot if q < bound else None, ask(q) / s.lot if q > -bound else None)
+            for q in range(-bound, bound + 1)}
 
 
 def theorem_1(s, bound, v):
     logs = {q: mp.log(x) for q, x in zip(range(-bound, bound + 1), v)}
-    return sides(bound, lambda q: (logs[q] - logs[q + 1]) / s.k + s.base, lambda q: (logs[q] - logs[q - 1]) / s.k + s.base)
+    return sides(s, bound,
+                 lambda q: (logs[q] - logs[q + 1]) / s.k + s.base,
+                 lambda q: (logs[q] - logs[q - 1]) / s.k + s.base)
 
 
 def closed_form(s, bound):
     c = mp.sqrt(s.sigma2 * s.gamma / (2 * s.k * s.a) * (1 + s.gamma / s.k) ** (1 + s.k / s.gamma))
-    return sides(bound, lambda q: s.base + (2 * q + 1) * c / 2, lambda q: s.base - (2 * q - 1) * c / 2)
+    return sides(s, bound, lambda q: s.base + (2 * q + 1) * c / 2, lambda q: s.base - (2 * q - 1) * c / 2)
 
 
 def exact(case, digits=DIGITS):

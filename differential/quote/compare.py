@@ -12,6 +12,11 @@ platform` did. The status is 1 where a desk is not as document 01 expects:
   or by 13 or 14, where module 5, with its limits and its rounding to billionths, gives deskrun's line
   for the Rust's own distances (quoting.py reckons it).
 
+Where the Rust has quoting.py's model floats and time, its distances are ours, and module 5 over them has to
+be deskrun's line, whichever that is. rust_decimal's conversion is not always the nearest float, so the Rust
+may have other floats. Such desks are counted apart; a cap report's steps needed may differ there, as the
+prices may, but floats that differ by more than a conversion makes are a fault.
+
 Beside that, each line of OURS has to be quoting.py's, byte for byte, but for runs of more than MOST
 (4,000 if it is not given) rows and steps, multiplied. PLATFORM is glft.rs as published: it is
 measured, not held to.
@@ -29,6 +34,12 @@ PLANS = {0: "no run", 1: "1 step", quoting.STEPS: "11,000 steps"}
 NEAR = 1000.0
 WITHIN = 2
 SIZES = (NEAR, 1e4, 1e5, 1e6, 1e7)
+FLOATS = (*quoting.Model._fields[:7], "tau")
+# by how much of itself a float may differ: one that is converted, and one that is reckoned from such
+CONVERTED, RECKONED = 1e-15, 1e-13
+MOST_APART = {name: CONVERTED if name in ("k", "a", "tau") else RECKONED for name in FLOATS}
+
+Note = collections.namedtuple("Note", "rebalancings distances floats")
 
 
 def float_of(digits):
@@ -40,12 +51,27 @@ def kind(line):
     return " ".join(fields[:2]) if fields[0] == "R" else fields[0]
 
 
-def distances_of(note):
-    """The Rust's two distances, None for an absent one, or no pair where there are none."""
-    fields = note.split(" ", 3)[1:3]
-    if "." in fields:
+def note_of(line):
+    """The Rust's distances, None for an absent one, and its floats, None for no time; no such where it has none."""
+    count, *fields = line.split(" ", 11)[:11]
+    distances, floats = ([None if f in "-." else float_of(f) for f in part] for part in (fields[:2], fields[2:]))
+    return Note(int(count), None if "." in fields[:2] else distances, None if fields[2] == "." else floats)
+
+
+def floats_of(desk, entry):
+    """Document 01's model floats and time, None for no time; no such where there is no model."""
+    timed = entry in (quoting.EXACT, quoting.WRAPPER)
+    try:
+        model, _ = quoting.model_of(desk, desk.current if timed else 0)
+    except quoting.Refused:
         return None
-    return tuple(None if f == "-" else float_of(f) for f in fields)
+    return [*model[:7], quoting.time_left(desk) if timed else None]
+
+
+def near_cap(ours, routed):
+    """Whether two cap reports differ in the steps needed alone, and there by no more than other floats make."""
+    (a, *left), (b, *others) = ours.split()[1:], routed.split()[1:]
+    return left == others and abs(float_of(a) - float_of(b)) <= 1.0 + RECKONED * float_of(a)  # both rounded up
 
 
 def size_of(distances):
@@ -67,7 +93,9 @@ def beyond_limits(desk, entry):
 
 
 def module_5(desk, distances, steps):
-    """deskrun's line for the Rust's distances."""
+    """deskrun's line for the Rust's distances, None where it has none."""
+    if distances is None:
+        return None
     try:
         return " ".join([quoting.prices(*quoting.build_quotes(desk, distances))] + steps)
     except quoting.Refused as refusal:
@@ -99,27 +127,48 @@ class Comparison:
         self.counts = collections.Counter()
         self.design = collections.Counter()
         self.otherwise = collections.Counter()
+        self.others = collections.Counter()
         self.routed, self.published = Prices(), Prices()
-        self.reckoned = self.exactly = self.quoted = 0
+        self.reckoned = self.exactly = 0
+
+    def other_floats(self, desk, entry, ours, note):
+        """Whether the Rust's floats are others than document 01's, and what is wrong with them, or None."""
+        floats = floats_of(desk, entry)
+        if floats is None or note.floats is None:
+            return False, None if floats == note.floats else "a model on one side alone"
+        others = [x for x in zip(FLOATS, floats, note.floats) if x[1] != x[2]]
+        off = [name for name, a, b in others if abs(a - b) > MOST_APART[name] * a]
+        self.others[kind(ours)] += bool(others) and not off
+        return bool(others), "other floats: " + " ".join(off) if off else None
+
+    def quotes(self, ours, routed, distances):
+        """What is wrong with quotes where the Rust quotes, or None."""
+        far = difference(ours, routed)
+        if far is None or ours.split()[3:] != routed.split()[3:]:
+            return "other sides or steps"
+        self.routed.take(distances, far)
+        return "a price is off" if size_of(distances) < NEAR and far > WITHIN else None
 
     def fault(self, desk, entry, ours, routed, note):
         """What is wrong with a line, or None."""
-        distances = distances_of(note)
         ours_kind, routed_kind = kind(ours), kind(routed)
-        if ours_kind == routed_kind == "Q":
-            far = difference(ours, routed)
-            if far is None or ours.split()[3:] != routed.split()[3:]:
-                return "other sides or steps"
-            self.quoted += 1
-            self.exactly += ours == module_5(desk, distances, routed.split()[3:])
-            self.routed.take(distances, far)
-            return "a price is off" if size_of(distances) < NEAR and far > WITHIN else None
-        if ours == routed:
-            return None
         if ours_kind == "R 2" and beyond_limits(desk, entry):
-            self.design["2, a limit, where the Rust gives %s" % routed_kind] += 1
+            if ours != routed:
+                self.design["2, a limit, where the Rust gives %s" % routed_kind] += 1
             return None
-        if ours_kind in ("R 13", "R 14") and distances and ours == module_5(desk, distances, []):
+        others, wrong = self.other_floats(desk, entry, ours, note)
+        if wrong:
+            return wrong
+        line = module_5(desk, note.distances, routed.split()[3:] if routed_kind == "Q" else [])
+        if line and not others:
+            if ours != line:
+                return "module 5 over the Rust's distances is " + line
+            self.exactly += ours_kind == "Q"
+        if ours_kind == routed_kind == "Q":
+            return self.quotes(ours, routed, note.distances)
+        if ours == routed or others and ours_kind == routed_kind == "C" and near_cap(ours, routed):
+            return None
+        if ours_kind in ("R 13", "R 14") and ours == line:
             self.design["%s, where the Rust gives %s" % (ours_kind[2:], routed_kind)] += 1
             return None
         return "another end"
@@ -146,7 +195,6 @@ class Comparison:
             self.counts["%s: %s, after rebalancing" % (name, fields[0])] += 1
 
     def measure(self, ours, routed, note, platform):
-        distances = distances_of(note)
         if kind(routed) != kind(platform):
             self.otherwise["%s for %s" % (kind(platform), kind(routed))] += 1
         elif kind(ours) == kind(platform) == "Q":
@@ -154,7 +202,7 @@ class Comparison:
             if far is None:
                 self.otherwise["other sides"] += 1
             else:
-                self.published.take(distances, far)
+                self.published.take(note.distances, far)
 
     def take(self, record, ours, routed, note, platform):
         """The faults of a line."""
@@ -163,7 +211,8 @@ class Comparison:
         if len(record) < quoting.RECORD.size:
             return [] if ours == routed == "R 6" else ["a record that is cut short"]
         desk, entry = quoting.unpack(record)
-        self.count(entry, ours, int(note.split()[0]))
+        note = note_of(note)
+        self.count(entry, ours, note.rebalancings)
         self.measure(ours, routed, note, platform)
         faults = [self.fault(desk, entry, ours, routed, note), self.reckon(desk, entry, ours)]
         return [f for f in faults if f]
@@ -175,7 +224,9 @@ class Comparison:
         for name in sorted(self.design):
             print("%7d  %s" % (self.design[name], name))
         self.routed.show("the routed glft.rs")
-        print("  of %d quotes, %d are module 5's over the Rust's own distances" % (self.quoted, self.exactly))
+        print("  quotes with the Rust's own floats, exactly module 5's over its distances: %d" % self.exactly)
+        print("  desks whose model floats differ by the decimals' conversion: %d %s"
+              % (sum(self.others.values()), dict(+self.others) or ""))
         self.published.show("glft.rs as published")
         print("  calls of it that end otherwise than the routed one's: %d %s"
               % (sum(self.otherwise.values()), dict(self.otherwise) or ""))

@@ -6,8 +6,9 @@
 //! glft.rs as published, whose steps nothing counts (its lines have 0 for them). A line is deskrun's,
 //! but its prices are the decimals that glft.rs gives. A refusal has document 01's number for the
 //! error's kind; where one kind has several, the place that it came from decides. NOTES gets a line a
-//! record: the rebalancings, the bits of the distances (`-` if absent, `.` if there are none), and the
-//! words of glft.rs where it fails.
+//! record: the rebalancings, the bits of the two distances (`-` if absent, `.` if there are none), of the
+//! model's seven floats (`.` if there is no model) and of the time left (`.` in the closed form too), and
+//! the words of glft.rs where it fails.
 #![allow(dead_code, unexpected_cfgs)]
 
 use std::cell::Cell;
@@ -24,6 +25,9 @@ include!("around.rs");
 
 const RECORD: usize = 96;
 
+/// The note of a record that glft.rs is not asked about, but for its words.
+const NOTHING: &str = "0 . . . . . . . . . .";
+
 /// What a call of either glft.rs gave, in one form.
 enum Answer {
     Quotes(Option<Decimal>, Option<Decimal>),
@@ -31,12 +35,16 @@ enum Answer {
     Error { error: MMError, has_model: bool },
 }
 
-/// The distances, where `build_quotes` is reached.
-type Distances = Option<(Option<f64>, Option<f64>)>;
+/// What glft.rs reckons with and gets: the distances, where `build_quotes` is reached, and the model's
+/// floats and the time, where there are such.
+struct Inside {
+    distances: Option<(Option<f64>, Option<f64>)>,
+    floats: Option<([f64; 7], Option<f64>)>,
+}
 
 macro_rules! ask {
     ($glft:ident, $desk:expr) => {{
-        use strategy::$glft::inside::{distances, has_model};
+        use strategy::$glft::inside::{distances, floats};
         use strategy::$glft::{ExactQuotes, GLFTConfig, GLFTStrategy};
         let desk: &Desk = $desk;
         // made field by field, so that each call checks it
@@ -59,18 +67,19 @@ macro_rules! ask {
                 .map(ExactQuotes::Quotes),
         };
         let counts = (STEPS.get(), REBALANCINGS.get());
+        let exact = (desk.words[11] < 2).then_some(current);
+        let inside = Inside {
+            distances: distances(mid, inventory, &config, volatility, exact),
+            floats: floats(mid, inventory, &config, volatility, exact),
+        };
         let answer = match asked {
             Ok(ExactQuotes::Quotes(quotes)) => Answer::Quotes(quotes.bid, quotes.ask),
             Ok(ExactQuotes::OverStepCap { steps_needed, budget }) => {
                 Answer::OverCap { steps_needed, budget }
             }
-            Err(error) => {
-                let has_model = has_model(mid, inventory, &config, volatility);
-                Answer::Error { error, has_model }
-            }
+            Err(error) => Answer::Error { error, has_model: inside.floats.is_some() },
         };
-        let exact = (desk.words[11] < 2).then_some(current);
-        (answer, counts, distances(mid, inventory, &config, volatility, exact))
+        (answer, counts, inside)
     }};
 }
 
@@ -138,15 +147,25 @@ fn line_of(answer: &Answer, exact: bool, steps: u32) -> String {
     line
 }
 
-fn note_of(answer: &Answer, rebalancings: u32, distances: Distances) -> String {
-    let mut note = rebalancings.to_string();
-    let both = distances.map_or([None, None], |(bid, ask)| [bid, ask]);
-    for distance in both {
-        match distance {
-            Some(d) => write!(note, " {:016x}", d.to_bits()).unwrap(),
-            None => note.push_str(if distances.is_some() { " -" } else { " ." }),
-        }
+/// A space and a float's bits, or what stands for a float that there is not.
+fn bits(note: &mut String, float: Option<f64>, none: char) {
+    match float {
+        Some(x) => write!(note, " {:016x}", x.to_bits()).unwrap(),
+        None => write!(note, " {none}").unwrap(),
     }
+}
+
+fn note_of(answer: &Answer, rebalancings: u32, inside: &Inside) -> String {
+    let mut note = rebalancings.to_string();
+    let (bid, ask) = inside.distances.unwrap_or_default();
+    let absent = if inside.distances.is_some() { '-' } else { '.' };
+    bits(&mut note, bid, absent);
+    bits(&mut note, ask, absent);
+    let (model, tau) = inside.floats.map_or(([None; 7], None), |(m, tau)| (m.map(Some), tau));
+    for float in model {
+        bits(&mut note, float, '.');
+    }
+    bits(&mut note, tau, '.');
     if let Answer::Error { error, .. } = answer {
         write!(note, " {error:?}").unwrap();
     }
@@ -156,15 +175,15 @@ fn note_of(answer: &Answer, rebalancings: u32, distances: Distances) -> String {
 /// A record's line and note.
 fn answer(routed: bool, record: &[u8]) -> (String, String) {
     if record.len() < RECORD {
-        return ("R 6".to_string(), "0 . . the record ends inside itself".to_string());
+        return ("R 6".to_string(), format!("{NOTHING} the record ends inside itself"));
     }
     let Some(desk) = Desk::new(record) else {
-        return ("R 2".to_string(), "0 . . the bound has no u32".to_string());
+        return ("R 2".to_string(), format!("{NOTHING} the bound has no u32"));
     };
-    let (answer, (steps, rebalancings), distances) =
+    let (answer, (steps, rebalancings), inside) =
         if routed { ask!(routed, &desk) } else { ask!(platform, &desk) };
     let line = line_of(&answer, desk.words[11] < 2, steps);
-    (line, note_of(&answer, rebalancings, distances))
+    (line, note_of(&answer, rebalancings, &inside))
 }
 
 fn main() {

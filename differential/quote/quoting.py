@@ -170,6 +170,11 @@ def model_of(desk, current=0):
     return model, q
 
 
+def time_left(desk):
+    """Tau, in seconds."""
+    return float(max(0, desk.terminal - desk.current)) / 1000.0
+
+
 def sides(q, bound, bid, ask):
     """The distances that are present; one not finite is 11."""
     both = bid() if q < bound else None, ask() if q > -bound else None
@@ -233,8 +238,7 @@ def build_quotes(desk, distances):
 def exact_quotes(desk, most=math.inf):
     """The two prices and the steps."""
     model, q = model_of(desk, desk.current)
-    tau = float(max(0, desk.terminal - desk.current)) / 1000.0
-    weights, offsets, steps = value_vector(model.alpha, model.eta, model.bound, tau, most)
+    weights, offsets, steps = value_vector(model.alpha, model.eta, model.bound, time_left(desk), most)
     return build_quotes(desk, exact_distances(weights, offsets, model.k, model.base, q)), steps
 
 
