@@ -105,6 +105,18 @@ def plan(tau, diagonal, eta, left, right, budget):
     return int(steps), tau / steps
 
 
+def advance(weights, scaled, eta_dt, left, right, steps):
+    """A plan's steps, until they end or a weight is below 1e-200: the weights, and the steps that remain."""
+    while steps > 0:
+        weights = series(weights, scaled, eta_dt, left, right)
+        steps -= 1
+        largest = max(weights)
+        weights = [w / largest for w in weights]
+        if min(weights) < 1e-200:
+            break
+    return weights, steps
+
+
 def value_vector(alpha, eta, bound, tau, most=math.inf):
     """Weights, offsets and steps spent."""
     lots = [float(q) for q in range(-bound, bound + 1)]
@@ -118,13 +130,11 @@ def value_vector(alpha, eta, bound, tau, most=math.inf):
     while steps > 0:
         if steps * len(lots) > most:
             raise TooLong
-        scaled = [d * dt for d in diagonal]
-        weights = series(weights, scaled, eta * dt, left, right)
-        steps, budget, tau = steps - 1, budget - 1, tau - dt
-        most -= len(lots)
-        largest = max(weights)
-        weights = [w / largest for w in weights]
-        if steps > 0 and min(weights) < 1e-200:
+        planned, scaled = steps, [d * dt for d in diagonal]
+        weights, steps = advance(weights, scaled, eta * dt, left, right, planned)
+        for _ in range(planned - steps):
+            budget, tau, most = budget - 1, tau - dt, most - len(lots)
+        if steps > 0:
             need(all(map(positive, weights)), 11)
             offsets = [o + elementary.ln(w) for o, w in zip(offsets, weights)]
             weights = [1.0] * len(lots)

@@ -17,6 +17,9 @@ USUAL = Desk(100 * ONE, 0, ONE, ONE, ONE, ONE, 1, ONE, 1000, 1000, 0)
 EXAMPLE = Desk(1000 * ONE, 0, 1684700000000, ONE // 100, 3 * ONE // 10, 9 * ONE // 10, 30, ONE, 600000, 588000, 0)
 BEYOND = b"\xff" * 7 + b"\x7f"  # 8 groups, beyond every limit
 QUOTE = "Q 99.306852819 100.693147181 0\n"
+# The usual record's model: gamma and k are 1, and LN1P(1) is LN2. EXP(-2 * LN2) is 1/4, for N is -2 and r below
+# 10^-16; so eta is 1/4, and alpha is 1/63,072,000. The norm is the middle row's, 2 * eta + eta * (1 + 1) = 1, and
+# tau seconds take tau / 2 steps, rounded up.
 
 
 def changed(**changes):
@@ -64,7 +67,8 @@ def runs():
     """Lines with steps: quotes of a run, and the cap."""
     yield b"".join(packed(EXAMPLE._replace(holding=q * ONE)) for q in (0, 1, -1, 30, -30)), None
     yield packed(EXAMPLE._replace(bound=200, terminal=MOST_TIME, current=0)), None
-    yield changed(terminal=MOST_TIME, current=0) + changed(), None
+    # 4.5 * 10^12 steps, which is 2^42 + 101,953,488,896: hex 429, and 101,953,488,896 * 2^10
+    yield changed(terminal=MOST_TIME, current=0) + changed(), "C 42905EF39B200000 11000\n" + QUOTE
 
 
 def cuts():
@@ -82,9 +86,13 @@ def lengths():
         yield numbers({place: BEYOND}) + changed(), "R 2\n" + QUOTE
         yield numbers({place: nine}) + changed(), "R 7\n"
         yield numbers({place: b"\x80\x00"}) + changed(), "R 7\n"
-    yield numbers({0: groups(2**49)}), None  # 8 groups and within the limit
-    yield numbers({8: b"\x80\x80\x80\x80\x80\x80\x80\x01"}), None
-    yield numbers({9: b"\x00", 8: b"\x01"}), None  # a zero of one group
+    # 8 groups and within the limit: 562,949.953421312 less and more 0.693147181
+    yield numbers({0: groups(2**49)}), "Q 562949.260274131 562950.646568493 0\n"
+    # 562,949,953,420.312 seconds take 281,474,976,711 steps, 2^38 + 6,597,069,767: hex 425, and 6,597,069,767 * 2^14
+    yield numbers({8: b"\x80\x80\x80\x80\x80\x80\x80\x01"}), "C 4250624DD2F1C000 11000\n"
+    # a zero of one group: one step of t = 0.001 seconds. To 10^-10 the middle weight is 1 - t^2/16, and those beside it
+    # are 1 - t/4 + t^2/16; the logarithms are t/4 - 3t^2/32 apart: 0.00024990625 + 0.69314718056 = 0.69339708681
+    yield numbers({9: b"\x00", 8: b"\x01"}), "Q 99.306602913 100.693397087 1\n"
     yield numbers({0: b"\x80" * 7 + b"\x00"}), "R 7\n"
     # of 6 and 7 the first met decides
     yield b"\xff" * 7, "R 6\n"
@@ -98,10 +106,14 @@ def long():
     """The longest sheet, whose last record ends at its last byte, and one byte more."""
     wide = numbers({place: BEYOND for place in range(11)})
     big = 2**49
-    last = changed(mid=2**52, volatility=big, risk_aversion=big, k=big, a=big, lot_size=big, current=2**21, min_spread=big)
+    last = changed(mid=2**52, volatility=big, risk_aversion=big, k=big, a=big, lot_size=big, current=2**21,
+                   min_spread=big)
     longest = wide * (MOST_BYTES // len(wide)) + last
     assert len(longest) == MOST_BYTES
-    yield longest, "R 2\n" * (MOST_BYTES // len(wide)) + "".join(sheet.lines(last))
+    # k is 562,949.95 and gamma k^2: base is LN1P(k) / k^2, about 13.2 / (3.2 * 10^11), and rounds to 0 billionths.
+    # Both prices are mid, 16 * 2^48, and half of min spread moves each by 2^48: to 15 * 2^48 and 17 * 2^48
+    told = "Q 4222124.650659840 4785074.604081152 0\n"
+    yield longest, "R 2\n" * (MOST_BYTES // len(wide)) + told
     yield longest + b"\0", "R 9\n"
 
 

@@ -6,7 +6,6 @@ SHEETS and LINES are what sheetrun reads and writes: before each sheet stands it
 bytes, lowest first, and after its lines comes a line `.`. The quotes are those of
 differential/quote/quoting.py.
 """
-import math
 import os
 import sys
 
@@ -65,10 +64,10 @@ def price(count):
     return "-" if count is None else "%d.%09d" % divmod(count, BILLION)
 
 
-def line(desk, most=math.inf):
+def line(desk):
     try:
         need(desk.bound <= MOST_BOUND, 2)
-        (bid, ask), steps = quoting.exact_quotes(desk, most)
+        (bid, ask), steps = quoting.exact_quotes(desk)
         return "Q %s %s %d\n" % (price(bid), price(ask), steps)
     except OverCap as report:
         return "C %016X %d\n" % (elementary.bits_of(report.needed), report.budget)
@@ -76,19 +75,23 @@ def line(desk, most=math.inf):
         return "R %d\n" % refusal.number
 
 
-def lines(sheet, most=math.inf):
-    """What quotesheet prints for a sheet, line by line."""
+def answers(sheet):
+    """The desks of a sheet, None for what is none, and what quotesheet prints for each."""
     if len(sheet) > MOST_BYTES:
-        yield "R 9\n"
+        yield None, "R 9\n"
         return
     at = 0
     while at < len(sheet):
         try:
             desk, at = record(sheet, at)
         except Refused as refusal:
-            yield "R %d\n" % refusal.number
+            yield None, "R %d\n" % refusal.number
             return
-        yield line(desk, most)
+        yield desk, line(desk)
+
+
+def lines(sheet):
+    return [line for _, line in answers(sheet)]
 
 
 # ---- sheets one after the other
