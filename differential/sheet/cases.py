@@ -5,6 +5,7 @@
 A case is a sheet and, where document 01's text tells the lines, those; sheet.py is held to them. The
 stored output is sheet.py's. Nothing of the library takes part.
 """
+import os
 import sys
 
 import sheet
@@ -17,6 +18,7 @@ USUAL = Desk(100 * ONE, 0, ONE, ONE, ONE, ONE, 1, ONE, 1000, 1000, 0)
 EXAMPLE = Desk(1000 * ONE, 0, 1684700000000, ONE // 100, 3 * ONE // 10, 9 * ONE // 10, 30, ONE, 600000, 588000, 0)
 BEYOND = b"\xff" * 7 + b"\x7f"  # 8 groups, beyond every limit
 QUOTE = "Q 99.306852819 100.693147181 0\n"
+OPERATORS = os.path.join(os.path.dirname(os.path.abspath(__file__)), "..", "..", "docs", "operators")
 # The usual record's model: gamma and k are 1, and LN1P(1) is LN2. EXP(-2 * LN2) is 1/4, for N is -2 and r below
 # 10^-16; so eta is 1/4, and alpha is 1/63,072,000. The norm is the middle row's, 2 * eta + eta * (1 + 1) = 1, and
 # tau seconds take tau / 2 steps, rounded up.
@@ -46,6 +48,16 @@ def document():
         + "R 4\n"
         + "R 1\n")
     yield b"", ""
+
+
+def training():
+    """The operators' sheet, whole and cut inside its third record."""
+    with open(os.path.join(OPERATORS, "training.sheet"), "rb") as file:
+        s = file.read()
+    with open(os.path.join(OPERATORS, "training.lines")) as file:
+        lines = file.readlines()
+    yield s, "".join(lines)
+    yield s[:100], "".join(lines[:2]) + "R 6\n"
 
 
 def refusals():
@@ -118,7 +130,7 @@ def long():
 
 
 def main():
-    for kind in (document, refusals, runs, cuts, lengths, long):
+    for kind in (document, training, refusals, runs, cuts, lengths, long):
         for record, told in kind():
             lines = "".join(sheet.lines(record))
             if told is not None and lines != told:

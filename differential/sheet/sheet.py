@@ -1,10 +1,11 @@
 """The lines of sheets: document 01, module 6, reckoned apart from the library.
 
     python3 sheet.py < SHEETS > LINES
+    python3 sheet.py SHEET > LINES
 
 SHEETS and LINES are what sheetrun reads and writes: before each sheet stands its length in three
-bytes, lowest first, and after its lines comes a line `.`. The quotes are those of
-differential/quote/quoting.py.
+bytes, lowest first, and after its lines comes a line `.`. SHEET is a file with one sheet and nothing
+else, as quotesheet reads it. The quotes are those of differential/quote/quoting.py.
 """
 import os
 import sys
@@ -105,6 +106,10 @@ def sheets(file):
 
 
 def main():
+    if len(sys.argv) > 1:
+        with open(sys.argv[1], "rb") as file:
+            sys.stdout.write("".join(lines(file.read())))
+        return
     for sheet in sheets(sys.stdin.buffer):
         sys.stdout.write("".join(lines(sheet)) + ".\n")
 

@@ -2,10 +2,10 @@
 
     python3 route.py GLFT FOLDER
 
-FOLDER/platform.rs is the file as published. FOLDER/routed.rs has its elementary calls led to
-document 01's functions (elementary.rs), a call that counts each finished step, and one that counts
-each rebalancing. Both end in a line that adds the child module inside.rs. Every change is counted,
-so a file that is not the expected one is refused.
+FOLDER/platform.rs is the file as published, without its tests, if it has any. FOLDER/routed.rs has its
+elementary calls led to document 01's functions (elementary.rs), a call that counts each finished step,
+and one that counts each rebalancing. Both end in a line that adds the child module inside.rs. Every
+change is counted, so a file that is not the expected one is refused.
 """
 import pathlib
 import re
@@ -31,7 +31,7 @@ def routed(text):
 
 
 def main():
-    published = pathlib.Path(sys.argv[1]).read_text()
+    published = pathlib.Path(sys.argv[1]).read_text().split("\n#[cfg(test)]")[0]
     folder = pathlib.Path(sys.argv[2])
     child = '\n#[path = "../inside.rs"]\npub mod inside;\n'
     (folder / "platform.rs").write_text(published + child)
