@@ -11,28 +11,23 @@ SIGMA = "0.3"
 HELD = (0, 10, 20, 25, 29, 30)
 
 
-def case(desk, lot=1):
-    """The paper's desk with prices times `lot`: with the desk's own lot size its orders are of one unit."""
+def case(desk):
     sigma = mpf(desk.volatility) / ONE / mp.sqrt(YEAR)
-    a, k, gamma, size = (mpf(x) / ONE for x in (desk.a, desk.k, desk.risk_aversion, desk.lot_size))
+    a, k, gamma, lot = (mpf(x) / ONE for x in (desk.a, desk.k, desk.risk_aversion, desk.lot_size))
     seconds = mpf(max(0, desk.terminal - desk.current)) / 1000
-    return exact.Case("", sigma * lot, a, k / lot, gamma, seconds, desk.bound, size / lot)
+    return exact.Case("", sigma, a, k, gamma, seconds, desk.bound, lot)
 
 
-def prices(desk, distances, lot=1):
-    """To the billionth, from distances that are scaled so."""
-    bid, ask = (mp.nint(d / lot * ONE) for d in distances)
+def prices(desk, distances):
+    """To the billionth."""
+    bid, ask = (mp.nint(d * ONE) for d in distances)
     return "%s / %s" % (price(desk.mid - int(bid)), price(desk.mid + int(ask)))
 
 
-def theorem(desk, lot=1):
+def theorem(desk):
+    """Theorem 1, of unit orders: exact.py takes one lot for the unit."""
     with mp.workdps(exact.DIGITS):
-        return prices(desk, exact.exact(case(desk, lot))[desk.holding // desk.lot_size], lot)
-
-
-def unit_orders(desk):
-    """Theorem 1 as it stands, in prices of one lot."""
-    return theorem(desk, mpf(desk.lot_size) / ONE)
+        return prices(desk, exact.exact(case(desk))[desk.holding // desk.lot_size])
 
 
 def form(desk):
@@ -58,7 +53,7 @@ def row(ask, where, paper, entry=EXACT, **changes):
 
 
 def rows(ask):
-    yield row(ask, "The lot size", unit_orders, lot_size=ONE // 2, current=0)
+    yield row(ask, "The lot size", theorem, lot_size=ONE // 2, current=0)
     yield row(ask, "The step cap", theorem, terminal=22000001, current=0)
     yield row(ask, "The closed form at the end", theorem, CLOSED_FORM)
     yield row(ask, "The closed form at a bound", form, CLOSED_FORM, holding=ONE)
