@@ -7,8 +7,9 @@
 // and the steps spent; `P` for a configuration that passes; `M`, a model's seven floats, its bound and
 // the holding in lots; or `R` and a refusal's number. A bound that 32 bits do not hold is refused by
 // 2, and a record that ends inside itself, the last, by 6.
+use desk::amount_at;
+use desk::config_at;
 use harness::LARGEST_BOUND;
-use harness::bound_of;
 use harness::first;
 use harness::make_room;
 use harness::pattern_of;
@@ -16,7 +17,6 @@ use harness::put;
 use harness::put_count;
 use harness::put_number;
 use harness::read_block;
-use harness::signed_of;
 use harness::size_of;
 use harness::word_at;
 use quote::ClosedFormQuotes;
@@ -155,24 +155,6 @@ fn put_model(out: &mut [u8], start: usize, a: ModelAnswer) -> usize {
     match a {
         ModelAnswer::Model(m, q) => put_lots_of(out, start, m, q),
         ModelAnswer::Refused(number) => put_refusal(out, start, number),
-    }
-}
-
-// The amount i places after a place.
-fn amount_at(s: &[u8], at: usize, i: usize) -> i64 {
-    signed_of(word_at(s, at, i))
-}
-
-// The configuration of the record at a place.
-fn config_at(s: &[u8], at: usize) -> GLFTConfig {
-    GLFTConfig {
-        risk_aversion: amount_at(s, at, 24),
-        order_intensity_k: amount_at(s, at, 32),
-        intensity_scale_a: amount_at(s, at, 40),
-        max_inventory_lots: bound_of(word_at(s, at, 48)),
-        lot_size: amount_at(s, at, 56),
-        terminal_time: word_at(s, at, 64),
-        min_spread: amount_at(s, at, 80),
     }
 }
 

@@ -4,8 +4,8 @@ mod standard;
 mod text;
 mod word;
 
+pub use feed::first;
 pub use standard::MANY;
-pub use standard::first;
 pub use standard::make_room;
 pub use standard::read_block;
 pub use text::put;

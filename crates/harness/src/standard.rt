@@ -3,9 +3,9 @@
 ghost use mathlib.Core.Path.{_≡_};
 ghost use mathlib.Core.Bool.{cond};
 ghost use Prim.Native.Nat.{_≤_};
-ghost use lib.ListN.{take};
 ghost use Rattle.harness.specs.Texts.{fits};
 use crate::text::has_room;
+use feed::first;
 
 // A proved loop has to end, and nothing says that the input does. So a program counts its blocks down,
 // from a number that no run uses up.
@@ -20,16 +20,6 @@ pub fn read_block(buf: &mut [u8], most: usize) -> usize
         return io::read_full(libc::STDIN_FILENO, &mut buf[..most]);
     }
     io::read_full(libc::STDIN_FILENO, buf)
-}
-
-// The first n bytes of a text, or all where it has fewer: what a program hands on to be written.
-pub fn first(text: &[u8], n: usize) -> &[u8]
-    ensures { λ r. ⌜ now r ≡ take n (now (text .entry)) ⌝ }
-{
-    if n < text.len() {
-        return &text[..n];
-    }
-    text
 }
 
 // Makes room for n bytes after the first `used` of a buffer, which are written out where they leave

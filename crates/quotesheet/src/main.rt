@@ -2,10 +2,12 @@
 // be written, is told on standard error.
 ghost use mathlib.Core.Path.{_≡_};
 ghost use Prim.Native.Nat.{_≤_};
-ghost use lib.ListN.{length, take};
+ghost use lib.ListN.{length};
 ghost use Rattle.sheet.specs.Fill.{filled, leftIn};
 ghost use Rattle.sheet.specs.Sheet.{leastRoom};
 ghost use Rattle.sheet.specs.declared.fill.FillAnswer.the-variants.{Filled};
+use feed::Feed;
+use feed::first;
 use sheet::FillAnswer;
 
 // What a fill put into the buffer, and the place after it.
@@ -26,14 +28,6 @@ fn fill(s: &[u8], at: usize, out: &mut [u8]) -> Lines
     }
 }
 
-// The first n bytes.
-fn first(out: &[u8], n: usize) -> &[u8]
-    requires { ⌜ n ≤ length (now out) ⌝ }
-    ensures { λ r. ⌜ now r ≡ take n (now (out .entry)) ⌝ }
-{
-    &out[..n]
-}
-
 // Writes the lines of a sheet, many with one call; false where standard output does not take them.
 fn write_lines(s: &[u8]) -> bool {
     let mut out = io::large_buffer();
@@ -48,21 +42,15 @@ fn write_lines(s: &[u8]) -> bool {
     true
 }
 
-// Did a read fail? At the end of the input one more answers 0, and after a failure -1 once more.
-fn read_fails() -> bool {
-    let mut one = [0u8; 1];
-    libc::read(libc::STDIN_FILENO, &mut one) < 0
-}
-
 fn main() {
     // One byte more than the longest sheet tells one that is longer.
     let mut input = [0u8; sheet::MOST_BYTES + 1];
-    let n = io::read_full(libc::STDIN_FILENO, &mut input);
-    if n <= sheet::MOST_BYTES && read_fails() {
-        os::fail(b"quotesheet: standard input");
-        return;
-    }
-    if !write_lines(&input[..n]) {
-        os::fail(b"quotesheet: standard output");
+    match feed::read_sheet(&mut input) {
+        Feed::Bytes(n) => {
+            if !write_lines(first(&input, n)) {
+                os::fail(b"quotesheet: standard output");
+            }
+        }
+        Feed::Failed => os::fail(b"quotesheet: standard input"),
     }
 }

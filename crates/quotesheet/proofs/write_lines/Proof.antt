@@ -5,7 +5,7 @@ use Prim.Native.Nat.{_-_, _<_, _≤_}
 use native.Mathlib.Omega.{arith}
 use lib.ListN.{length}
 use denote.Ref.{now}
-use Rattle.sheet.proofs.Fills.{fills-fit, fills-move}
+use Rattle.sheet.proofs.Fills.{fills-move}
 use borrow.Author.Needs.{needs}
 use Rattle.quotesheet.proofs.write_lines.Statement.{statement}
 use Rattle.quotesheet.proofs.write_lines.Tie as tie
@@ -31,21 +31,14 @@ fill-requires c κs = search needs
 slice-aggregate-first : tie.Need-slice-aggregate-first Inv-loop μ-loop
 slice-aggregate-first c = search needs
 
--- a fill stays within its buffer, and goes on
-fits : (c : tie.After-fill Inv-loop μ-loop) → c .fill .result .count ≤ 65536
-fits c =
-    let l = c .before .before .before in
-    omega (arith, fills-fit (now (l .before .before .before .args .s)) (l .loop .at) (l .loop .out) _ _ (c .fill .ensures .0))
-
+-- a fill goes on
 moves : (c : tie.After-fill Inv-loop μ-loop) → let l = c .before .before .before in (l .loop .at < c .fill .result .next) × (c .fill .result .next ≤ length (now (l .before .before .before .args .s)))
 moves c =
     let l = c .before .before .before in
     fills-move (now (l .before .before .before .args .s)) (l .loop .at) (l .loop .out) _ _ (c .fill .ensures .0) (c .before .before .loop-test .taken)
 
 first-requires : tie.Need-first-requires Inv-loop μ-loop
-first-requires c κs =
-    let w = c .before .before in
-    omega (arith, fits w, w .fill .kept .1 .1 .0)
+first-requires c κs = search needs
 
 write-all-requires : tie.Need-write-all-requires Inv-loop μ-loop
 write-all-requires c κs = search needs

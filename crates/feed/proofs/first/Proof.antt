@@ -1,4 +1,4 @@
--- `harness::standard::first` meets its contract: the first n bytes of a text that has no more are all of it. Assumes nothing.
+-- `feed::first` meets its contract: the first n bytes of a text that has no more are all of it. Assumes nothing.
 use mathlib.Core.Path.{_≡_, refl, sym, ap}
 use Prim.Native.Nat.{ℕ, zero, suc, _≤_}
 use native.Mathlib.Omega.{arith}
@@ -6,8 +6,8 @@ use mathlib.Core.List.{List, [], _∷_}
 use lib.ListN.{length, take}
 use lib.Seq.{length-take-le}
 use borrow.Author.Needs.{needs}
-use Rattle.harness.proofs.standard.first.Statement.{statement}
-use Rattle.harness.proofs.standard.first.Tie as tie
+use Rattle.feed.proofs.first.Statement.{statement}
+use Rattle.feed.proofs.first.Tie as tie
 
 whole : (l : List ℕ) (n : ℕ) → length l ≤ n → l ≡ take n l
 whole [] zero h = refl
