@@ -7,6 +7,7 @@ mod quotes;
 pub mod refusals;
 mod rounding;
 
+pub use parameters::limits_fit;
 ghost use mathlib.Core.Path.{_≡_};
 ghost use Rattle.quote.specs.Configuration.{newConfig};
 ghost use Rattle.quote.specs.Model.{newModel};

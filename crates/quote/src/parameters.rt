@@ -16,7 +16,7 @@ const SECONDS_PER_YEAR: f64 = 31536000.0;
 const MILLISECONDS_PER_SECOND: f64 = 1000.0;
 
 // Whether every amount and time of a call is within its limit.
-pub(crate) fn limits_fit(mid: i64, inventory: i64, config: GLFTConfig, volatility: i64) -> bool
+pub fn limits_fit(mid: i64, inventory: i64, config: GLFTConfig, volatility: i64) -> bool
     ensures { λ r. ⌜ r ≡ modelLimits mid inventory config volatility ⌝ }
 {
     amount_fits(mid)

@@ -7,7 +7,7 @@ use mathlib.Core.List.{List, [], _∷_, _++_, append-assoc}
 use lib.ListN.{length, drop, length-append, length-drop}
 use lib.Seq.{drop-at, drop-drop}
 use lib.Dec.{ltb, eqb}
-use Rattle.sheet.specs.Record.{Read, taken, refused, _then_, group, groups, number, numbers, fields}
+use Rattle.sheet.specs.Record.{Read, taken, refused, _then_, group, groups, mostGroups, number, numbers, fields}
 
 -- r is what is left of l, of which m bytes at least were taken
 pub record Left (m : ℕ) (l r : List ℕ) : Type 0 where
@@ -49,7 +49,7 @@ numbers-left (suc n) l v r e =
     let y = after (number (x .1)) _ v r (x .3) in
     let z : y .1 ≡ r = cc in
     let p = numbers-left n l (x .0) (x .1) (x .2) in
-    let q = groups-left 8 false (x .1) (y .0) (y .1) (y .2) in
+    let q = groups-left mostGroups false (x .1) (y .0) (y .1) (y .2) in
     record {
       before = p .before ++ q .before;
       whole = p .whole ∙ ap (λ (m : List ℕ). p .before ++ m) (q .whole ∙ ap (λ (m : List ℕ). q .before ++ m) z) ∙ sym (append-assoc (p .before) (q .before) r);

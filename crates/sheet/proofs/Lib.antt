@@ -5,7 +5,10 @@ pub mod Texts
 pub mod Widths
 pub mod Steps
 pub mod Left
+pub mod Groups
 pub mod Whole
+pub mod Saving
+pub mod Saved
 pub mod Filling
 pub mod Fills
 pub mod Numbers

@@ -1,17 +1,32 @@
--- The limits of a record's numbers, as its stored numbers keep them. Assumes nothing.
+-- The limits of a record's numbers, as its stored numbers and the machine's keep them. Assumes nothing.
 use mathlib.Core.Path.{_≡_, refl, sym, _∙_, subst}
 use Prim.Native.Nat.{ℕ, suc, _*_, _/_, _%_, _<_, _≤_}
 use native.Mathlib.Omega.{arith}
 use mathlib.Core.Bool.{Bool, true, false, _&&_}
 use mathlib.Core.List.{List}
 use borrow.Author.Tests.{leb-true, leb-false, le-leb, lt-leb, eqb-true, eqb-false}
-use lib.IntN.{natAbs}
+use lib.IntN.{ℤ, pos, negsuc, natAbs}
 use lib.ListN.{getD}
+use lib.Signed.{leZ, nonNeg}
 use lib.Dec.{T, leb, eqb, leb→le}
+use mir.Syntax.{w64}
+use mir.Val.{Fits, toZ, ofZ}
 use Rattle.quote.specs.Configuration.{amountLimit, timeLimit, amountOk, timeOk, configLimits}
 use Rattle.quote.specs.Model.{modelLimits}
+use Rattle.quote.proofs.Limits.{kept}
 use Rattle.sheet.specs.Record.{holdingBy, holding, recordOf, mostBound, recordOk}
 
+-- ---- an amount within the limit, as the machine holds it
+pub same-bits : (z : ℤ) → natAbs z ≤ amountLimit → toZ w64 (ofZ w64 z) ≡ z
+same-bits (pos n) h = kept (pos n) (omega arith)
+same-bits (negsuc n) h = kept (negsuc n) (omega arith)
+
+-- one that is not below zero can be cast
+pub casts : (z : ℤ) → T (leZ (pos 0) z) → natAbs z ≤ amountLimit → T (nonNeg (toZ w64 (ofZ w64 z))) × Fits w64 (natAbs (toZ w64 (ofZ w64 z)))
+casts (pos n) p h = rw (same-bits (pos n) h) (tt, omega arith)
+casts (negsuc n) p h = absurd p
+
+-- ---- stored numbers
 -- two bounds that hold together
 same-bound : (a b x y : ℕ) → (a ≤ b → x ≤ y) → (b < a → y < x) → leb a b ≡ leb x y
 same-bound a b x y f g = go (leb a b) refl

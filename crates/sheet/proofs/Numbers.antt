@@ -10,7 +10,7 @@ use borrow.Author.Tests.{lt-ltb, le-ltb, leb-true, leb-false, ne-eqb, eqb-true, 
 use lib.ListN.{length}
 use lib.Dec.{leb, eqb}
 use Rattle.sheet.specs.Refusals.{cutShort, malformed}
-use Rattle.sheet.specs.Record.{Read, taken, refused, _then_, group, groups, number, numbers, fields}
+use Rattle.sheet.specs.Record.{Read, taken, refused, _then_, group, groups, mostGroups, number, numbers, fields}
 use Rattle.sheet.specs.Refusing.{allTop, WholeNumber, EndsInside, NinthGroup, ZeroLast, After, at-once, further, Stopped, by-6, by-7-ninth, by-7-zero}
 use Rattle.sheet.proofs.Left.{after}
 use Rattle.sheet.proofs.Reading.{number-refused}
@@ -51,24 +51,24 @@ open-groups (b ∷ w) k later l h =
     same [] = refl
     same (c ∷ v) = refl
 
-after-open : (w l : List ℕ) → allTop w ≡ true → length w ≤ 8 → bare (number (w ++ l)) ≡ bare (groups (8 - length w) (passed false w) l)
+after-open : (w l : List ℕ) → allTop w ≡ true → length w ≤ mostGroups → bare (number (w ++ l)) ≡ bare (groups (mostGroups - length w) (passed false w) l)
 unfolding number
 after-open w l h k =
-    let e : length w + (8 - length w) ≡ 8 = omega arith in
-    subst (λ (n : ℕ). bare (groups n false (w ++ l)) ≡ bare (groups (8 - length w) (passed false w) l)) e (open-groups w (8 - length w) false l h)
+    let e : length w + (mostGroups - length w) ≡ mostGroups = omega arith in
+    subst (λ (n : ℕ). bare (groups n false (w ++ l)) ≡ bare (groups (mostGroups - length w) (passed false w) l)) e (open-groups w (mostGroups - length w) false l h)
 
 -- ---- the four situations, and what is read in each
 number-cut : (l : List ℕ) → EndsInside l → number l ≡ refused cutShort
 unfolding bare groups
 number-cut l h =
-    let e : 8 - length l ≡ suc (7 - length l) = omega (arith, h .1) in
+    let e : mostGroups - length l ≡ suc (mostGroups - 1 - length l) = omega (arith, h .1) in
     bare-refused (number l) cutShort (ap (λ (m : List ℕ). bare (number m)) (sym (append-nil l)) ∙ after-open l [] (h .0) (omega (arith, h .1)) ∙ rw e)
 
 number-ninth : (l : List ℕ) → NinthGroup l → number l ≡ refused malformed
 unfolding bare groups
 number-ninth l h =
     let w = h .0 in
-    let e : 8 - length w ≡ 0 = omega (arith, h .4) in
+    let e : mostGroups - length w ≡ 0 = omega (arith, h .4) in
     bare-refused (number l) malformed (ap (λ (m : List ℕ). bare (number m)) (h .2) ∙ after-open w (h .1) (h .3) (omega (arith, h .4)) ∙ rw e)
 
 passed-some : (w : List ℕ) → 0 < length w → passed false w ≡ true
@@ -80,7 +80,7 @@ number-zero : (l : List ℕ) → ZeroLast l → number l ≡ refused malformed
 unfolding bare groups group
 number-zero l h =
     let w = h .0 in
-    let e : 8 - length w ≡ suc (7 - length w) = omega (arith, h .5) in
+    let e : mostGroups - length w ≡ suc (mostGroups - 1 - length w) = omega (arith, h .5) in
     bare-refused (number l) malformed (ap (λ (m : List ℕ). bare (number m)) (h .2) ∙ after-open w (0 ∷ h .1) (h .3) (omega (arith, h .5)) ∙ rw (e, passed-some w (h .4)))
 
 not-zero : (w : List ℕ) (b : ℕ) → (b ≡ 0 → w ≡ []) → (passed false w && eqb b 0) ≡ false
@@ -93,7 +93,7 @@ unfolding bare groups group
 number-whole u r h =
     let w = h .0 in
     let b = h .1 in
-    let e : 8 - length w ≡ suc (7 - length w) = omega (arith, h .4) in
+    let e : mostGroups - length w ≡ suc (mostGroups - 1 - length w) = omega (arith, h .4) in
     let q : u ++ r ≡ w ++ (b ∷ r) = ap (λ (m : List ℕ). m ++ r) (h .2) ∙ append-assoc w (b ∷ []) r in
     bare-taken (number (u ++ r)) r (ap (λ (m : List ℕ). bare (number m)) q ∙ after-open w (b ∷ r) (h .3) (omega (arith, h .4)) ∙ rw (e, lt-ltb b 128 (h .5), not-zero w b (h .6)))
 
@@ -125,9 +125,9 @@ data Situation (l : List ℕ) : Read ℕ → Type 0 where
   zeroed : ZeroLast l → Situation l (refused malformed)
 
 situation : (l : List ℕ) → Situation l (number l)
-situation l = go (view 8 l)
+situation l = go (view mostGroups l)
   where
-    made : (w : List ℕ) (b : ℕ) (r : List ℕ) → l ≡ w ++ (b ∷ r) → allTop w ≡ true → length w < 8 → b < 128 → (b ≡ 0 → w ≡ []) → Situation l (number l)
+    made : (w : List ℕ) (b : ℕ) (r : List ℕ) → l ≡ w ++ (b ∷ r) → allTop w ≡ true → length w < mostGroups → b < 128 → (b ≡ 0 → w ≡ []) → Situation l (number l)
     made w b r i h m j z =
         let u = w ++ (b ∷ []) in
         let n : WholeNumber u = (w, b, refl, h, m, j, z) in
@@ -135,14 +135,14 @@ situation l = go (view 8 l)
         let x = number-whole u r n in
         subst (Situation l) (sym (ap number q ∙ x .1)) (whole u n q)
 
-    ends : (w : List ℕ) (b : ℕ) (r : List ℕ) → l ≡ w ++ (b ∷ r) → allTop w ≡ true → length w < 8 → b < 128 → (t : Bool) → eqb b 0 ≡ t → Situation l (number l)
+    ends : (w : List ℕ) (b : ℕ) (r : List ℕ) → l ≡ w ++ (b ∷ r) → allTop w ≡ true → length w < mostGroups → b < 128 → (t : Bool) → eqb b 0 ≡ t → Situation l (number l)
     ends [] b r i h m j t e = made [] b r i h m j (λ z. refl)
     ends (c ∷ w) b r i h m j false e = made (c ∷ w) b r i h m j (λ z. absurd (eqb-false b 0 e z))
     ends (c ∷ w) b r i h m j true e =
         let z : ZeroLast l = (c ∷ w, r, i ∙ ap (λ (n : ℕ). c ∷ (w ++ (n ∷ r))) (eqb-true b 0 e), h, omega arith, m) in
         subst (Situation l) (sym (number-zero l z)) (zeroed z)
 
-    go : View 8 l → Situation l (number l)
+    go : View mostGroups l → Situation l (number l)
     go (short h m) = subst (Situation l) (sym (number-cut l (h, m))) (inside (h, m))
     go (full w r i h m) = subst (Situation l) (sym (number-ninth l (w, r, i, h, m))) (ninth (w, r, i, h, m))
     go (last w b r i h m j) = ends w b r i h m j (eqb b 0) refl

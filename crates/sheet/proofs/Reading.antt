@@ -11,7 +11,7 @@ use lib.ListN.{length, getD, take, drop, set, length-set, drop-of-length-le}
 use lib.Seq.{drop-cons, take-all, take-suc-set}
 use lib.Dec.{ltb, eqb, lit<}
 use Rattle.sheet.specs.Refusals.{cutShort, malformed}
-use Rattle.sheet.specs.Record.{Read, taken, refused, _then_, group, groups, number, numbers, fields}
+use Rattle.sheet.specs.Record.{Read, taken, refused, _then_, group, groups, mostGroups, number, numbers, fields}
 
 -- a number whose groups so far make a, the next being worth u
 pub scaled : ℕ → ℕ → Read ℕ → Read ℕ
@@ -20,10 +20,10 @@ scaled a u (refused k) = refused k
 
 -- ---- a number whose first k groups make a value, the next being worth a unit
 pub record Grouped (s : List ℕ) (at value unit k : ℕ) : Type 0 where
-  pub few : k ≤ 8
+  pub few : k ≤ mostGroups
   pub small : value < unit
   pub worth : unit ≡ 128 ^ k
-  pub so-far : number (drop at s) ≡ scaled value unit (groups (8 - k) (ltb 0 k) (drop (at + k) s))
+  pub so-far : number (drop at s) ≡ scaled value unit (groups (mostGroups - k) (ltb 0 k) (drop (at + k) s))
 
 scaled-all : (x : Read ℕ) → x ≡ scaled 0 1 x
 unfolding scaled
@@ -36,7 +36,7 @@ grouped-none s at = record {
   few = omega arith;
   small = omega arith;
   worth = refl;
-  so-far = rw (add-zero at) (scaled-all (groups 8 false (drop at s)));
+  so-far = rw (add-zero at) (scaled-all (groups mostGroups false (drop at s)));
 }
 
 scaled-under : (a u g : ℕ) (x : Read ℕ) → scaled a u (x then λ n r. taken (g + 128 * n) r) ≡ scaled (a + g * u) (u * 128) x
@@ -47,15 +47,15 @@ scaled-under a u g (refused k) = refl
 low-bits : (b : ℕ) → b % 128 ≤ 127
 low-bits b = omega arith
 
-module _ (s : List ℕ) (at value unit k : ℕ) (g : Grouped s at value unit k) (more : k < 8) where
-  left : 8 - k ≡ suc (8 - suc k)
+module _ (s : List ℕ) (at value unit k : ℕ) (g : Grouped s at value unit k) (more : k < mostGroups) where
+  left : mostGroups - k ≡ suc (mostGroups - suc k)
   left = omega arith
 
-  -- a group that is added keeps the value below 2 ^ 56
-  pub unit-fits : unit ≤ 2 ^ 49
-  unit-fits = rw (g .worth) (pow-le-pow-right {n = 128} (lit< tt) {j = 7} (omega arith))
+  -- a group that is added keeps the value within the most groups
+  pub unit-fits : unit ≤ 128 ^ (mostGroups - 1)
+  unit-fits = rw (g .worth) (pow-le-pow-right {n = 128} (lit< tt) {j = mostGroups - 1} (omega arith))
 
-  pub group-fits : (x : ℕ) → x ≤ 127 → value + x * unit < 2 ^ 56
+  pub group-fits : (x : ℕ) → x ≤ 127 → value + x * unit < 128 ^ mostGroups
   group-fits x h = omega (arith, unit-fits, g .small, mul-le-mul-right unit h)
 
   -- no byte is left
@@ -66,7 +66,7 @@ module _ (s : List ℕ) (at value unit k : ℕ) (g : Grouped s at value unit k) 
   -- the byte b comes next
   module _ (b : ℕ) (there : at + k < length s) (is : b ≡ getD s (at + k) 0) where
     next : number (drop at s)
-        ≡ scaled value unit (group (ltb b 128) (ltb 0 k && eqb b 0) b (drop (suc (at + k)) s) (groups (8 - suc k) true (drop (suc (at + k)) s) then λ n r. taken (b % 128 + 128 * n) r))
+        ≡ scaled value unit (group (ltb b 128) (ltb 0 k && eqb b 0) b (drop (suc (at + k)) s) (groups (mostGroups - suc k) true (drop (suc (at + k)) s) then λ n r. taken (b % 128 + 128 * n) r))
     unfolding groups
     next = g .so-far ∙ rw (left, drop-cons s (at + k) 0 there, is)
 
@@ -84,13 +84,13 @@ module _ (s : List ℕ) (at value unit k : ℕ) (g : Grouped s at value unit k) 
       few = omega arith;
       small = omega (arith, mul-le-mul-right unit (low-bits b));
       worth = rw (add-one k, pow-suc 128 k) (ap (λ (m : ℕ). m * 128) (g .worth));
-      so-far = next ∙ rw (le-ltb b 128 h, scaled-under value unit (b % 128) (groups (8 - suc k) true (drop (suc (at + k)) s)), add-one k, lt-ltb 0 (suc k) (omega arith), add-suc at k);
+      so-far = next ∙ rw (le-ltb b 128 h, scaled-under value unit (b % 128) (groups (mostGroups - suc k) true (drop (suc (at + k)) s)), add-one k, lt-ltb 0 (suc k) (omega arith), add-suc at k);
     }
 
--- all eight had their top bit set
-pub group-ninth : (s : List ℕ) (at value unit k : ℕ) → Grouped s at value unit k → 8 ≤ k → number (drop at s) ≡ refused malformed
+-- all that may come had their top bit set
+pub group-ninth : (s : List ℕ) (at value unit k : ℕ) → Grouped s at value unit k → mostGroups ≤ k → number (drop at s) ≡ refused malformed
 unfolding groups scaled
-group-ninth s at value unit k g h = g .so-far ∙ let e : 8 - k ≡ 0 = omega arith in rw e
+group-ninth s at value unit k g h = g .so-far ∙ let e : mostGroups - k ≡ 0 = omega arith in rw e
 
 -- ---- a record of which i numbers are read
 pub record Passed (s : List ℕ) (at : ℕ) (values : List ℕ) (next i : ℕ) : Type 0 where

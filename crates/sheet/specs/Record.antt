@@ -37,9 +37,12 @@ groups zero later l = refused malformed
 groups (suc k) later [] = refused cutShort
 groups (suc k) later (b ∷ l) = group (ltb b 128) (later && eqb b 0) b l (groups k true l then λ n r. taken (b % 128 + 128 * n) r)
 
--- at most 8 groups
+-- the most groups of a number
+abbrev pub mostGroups : ℕ
+mostGroups = 8
+
 unfoldable pub number : List ℕ → Read ℕ
-number l = groups 8 false l
+number l = groups mostGroups false l
 
 -- n numbers in order
 unfoldable pub numbers : ℕ → List ℕ → Read (List ℕ)

@@ -1,4 +1,4 @@
--- The numbers that refuse in this layer, after document 01's list. 2 stands in the layer below. Definitions only.
+-- The numbers that refuse in this layer, after document 01's list and the change requests'. 2 stands in the layer below. Definitions only.
 use Prim.Native.Nat.{ℕ}
 
 -- a record that ends inside itself
@@ -16,3 +16,7 @@ smallBuffer = 8
 -- a sheet over 65,536 bytes
 abbrev pub longSheet : ℕ
 longSheet = 9
+
+-- a record's buffer under 88 bytes
+abbrev pub smallRecordBuffer : ℕ
+smallRecordBuffer = 20

@@ -1,20 +1,23 @@
--- Document 01: each of 6, 7, 2, 8 and 9 is the reply of this layer in just the situation named. Named statements, each proved once, in proofs/. Definitions only.
+-- Document 01 and change request 1: each of 6, 7, 2, 8, 9 and 20 is the reply of this layer in just the situation named. Named statements, each proved once, in proofs/. Definitions only.
 use mathlib.Core.Path.{_≡_}
-use mathlib.Core.Logic.{_↔_}
+use mathlib.Core.Logic.{_⊎_, _↔_}
 use Prim.Native.Nat.{ℕ, suc, _-_, _<_, _≤_}
 use mathlib.Core.Bool.{Bool, true, false, _&&_}
 use mathlib.Core.List.{List, [], _∷_, _++_}
 use lib.ListN.{length, drop}
 use lib.Dec.{leb}
 use Rattle.quote.specs.Refusals.{limits}
-use Rattle.sheet.specs.Refusals.{cutShort, malformed, smallBuffer, longSheet}
-use Rattle.sheet.specs.Record.{taken, numbers, fields, recordOf, recordOk, readRecord}
+use Rattle.sheet.specs.Refusals.{cutShort, malformed, smallBuffer, longSheet, smallRecordBuffer}
+use Rattle.sheet.specs.Record.{taken, mostGroups, numbers, fields, recordOf, recordOk, readRecord}
 use Rattle.sheet.specs.Lines.{refusalLine}
 use Rattle.sheet.specs.Sheet.{mostBytes, leastRoom, line, lineAt, hasRoom, answered}
 use Rattle.sheet.specs.Fill.{filled}
+use Rattle.sheet.specs.Save.{noneBelow, recordRoom, saved, savedIn}
+use Rattle.sheet.specs.declared.record.Record.{Record}
 use Rattle.sheet.specs.declared.record.RecordAnswer.the-variants as RecordAnswer
 use Rattle.sheet.specs.declared.line.LineAnswer.the-variants as LineAnswer
 use Rattle.sheet.specs.declared.fill.FillAnswer.the-variants as FillAnswer
+use Rattle.sheet.specs.declared.save.SaveAnswer.the-variants as SaveAnswer
 
 -- ==== 8: the buffer has fewer than 64 bytes, whatever the sheet and the place
 abbrev pub BufferRefusals : Type 0
@@ -28,21 +31,21 @@ unfoldable pub allTop : List ℕ → Bool
 allTop [] = true
 allTop (b ∷ l) = leb 128 b && allTop l
 
--- a whole number: fewer than 8 groups that another follows, and the last, which is zero only where it is alone
+-- a whole number: fewer than the most groups that another follows, and the last, which is zero only where it is alone
 abbrev pub WholeNumber : List ℕ → Type 0
-WholeNumber u = (w : List ℕ) × (b : ℕ) × (u ≡ w ++ (b ∷ [])) × (allTop w ≡ true) × (length w < 8) × (b < 128) × (b ≡ 0 → w ≡ [])
+WholeNumber u = (w : List ℕ) × (b : ℕ) × (u ≡ w ++ (b ∷ [])) × (allTop w ≡ true) × (length w < mostGroups) × (b < 128) × (b ≡ 0 → w ≡ [])
 
 -- the bytes end inside a number, or before it
 abbrev pub EndsInside : List ℕ → Type 0
-EndsInside l = (allTop l ≡ true) × (length l < 8)
+EndsInside l = (allTop l ≡ true) × (length l < mostGroups)
 
 -- the eighth byte has its top bit set, as those before it
 abbrev pub NinthGroup : List ℕ → Type 0
-NinthGroup l = (w : List ℕ) × (r : List ℕ) × (l ≡ w ++ r) × (allTop w ≡ true) × (length w ≡ 8)
+NinthGroup l = (w : List ℕ) × (r : List ℕ) × (l ≡ w ++ r) × (allTop w ≡ true) × (length w ≡ mostGroups)
 
--- of several groups, 8 at most, the last is zero
+-- of several groups, no more than the most, the last is zero
 abbrev pub ZeroLast : List ℕ → Type 0
-ZeroLast l = (w : List ℕ) × (r : List ℕ) × (l ≡ w ++ (0 ∷ r)) × (allTop w ≡ true) × (0 < length w) × (length w < 8)
+ZeroLast l = (w : List ℕ) × (r : List ℕ) × (l ≡ w ++ (0 ∷ r)) × (allTop w ≡ true) × (0 < length w) × (length w < mostGroups)
 
 -- n whole numbers stand at the head of some bytes, and r after them
 pub data After (l : List ℕ) : ℕ → List ℕ → Type 0 where
@@ -80,3 +83,10 @@ SkippedLine = (s : List ℕ) (at next : ℕ) → (lineAt s at ≡ line (refusalL
 
 abbrev pub LineRefusals : Type 0
 LineRefusals = LongLine × StoppedLine cutShort × StoppedLine malformed × SkippedLine
+
+-- ==== a record that is saved: 20 where the buffer has fewer than 88 bytes, whatever the record; then 2 where a number is past its limit, or below zero and not the holding; no other, and a refusal leaves the buffer as it was
+abbrev pub SaveRefusals : Type 0
+SaveRefusals = (r : Record) (b : List ℕ)
+    → ((saved r b ≡ SaveAnswer.Refused smallRecordBuffer) ↔ (length b < recordRoom))
+    × ((saved r b ≡ SaveAnswer.Refused limits) ↔ ((recordRoom ≤ length b) × ((recordOk r ≡ false) ⊎ (noneBelow r ≡ false))))
+    × ((k : ℕ) → saved r b ≡ SaveAnswer.Refused k → ((k ≡ smallRecordBuffer) ⊎ (k ≡ limits)) × (savedIn r b ≡ b))

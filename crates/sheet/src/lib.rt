@@ -3,6 +3,7 @@ mod fill;
 mod line;
 mod record;
 pub mod refusals;
+mod save;
 
 pub use fill::FillAnswer;
 pub use fill::fill_lines;
@@ -13,3 +14,6 @@ pub use line::next_line;
 pub use record::Record;
 pub use record::RecordAnswer;
 pub use record::read_record;
+pub use save::RECORD_ROOM;
+pub use save::SaveAnswer;
+pub use save::save_record;

@@ -11,10 +11,10 @@ use crate::refusals::MALFORMED;
 use quote::GLFTConfig;
 
 // The numbers of a record.
-const FIELDS: usize = 11;
+pub(crate) const FIELDS: usize = 11;
 
 // The most groups of a number.
-const MOST_GROUPS: usize = 8;
+pub(crate) const MOST_GROUPS: usize = 8;
 
 const MOST: u64 = GLFTConfig::MAX_AMOUNT as u64;
 

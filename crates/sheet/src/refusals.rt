@@ -11,3 +11,6 @@ pub const SMALL_BUFFER: u8 = 8;
 
 // A sheet over 65,536 bytes.
 pub const LONG_SHEET: u8 = 9;
+
+// A record's buffer under 88 bytes.
+pub const SMALL_RECORD_BUFFER: u8 = 20;

@@ -1,8 +1,9 @@
--- `sheet::record::read_number` meets its contract. The loop's invariant: the groups passed make the value. The measure is what is left of eight groups. Assumes nothing.
+-- `sheet::record::read_number` meets its contract. The loop's invariant: the groups passed make the value. The measure is what is left of the most groups. Assumes nothing.
 use mathlib.Core.Path.{refl}
 use Prim.Native.Nat.{_+_, _-_, _*_, _^_, _<_}
 use native.Mathlib.Omega.{arith}
 use borrow.Author.Needs.{needs}
+use Rattle.sheet.specs.Record.{mostGroups}
 use Rattle.sheet.specs.Inner.{NumberIs}
 use Rattle.sheet.proofs.Reading.{Grouped, grouped-none, unit-fits, group-fits, group-cut, group-zero, group-last, group-more, group-ninth}
 use Rattle.sheet.proofs.record.read_number.Statement.{statement}
@@ -12,7 +13,7 @@ abbrev Inv-loop : tie.InvT-loop
 Inv-loop s at value₀ unit₀ groups₀ value unit groups = Grouped s at value unit groups
 
 abbrev μ-loop : tie.MeasureT-loop
-μ-loop s at value₀ unit₀ groups₀ value unit groups = 8 - groups
+μ-loop s at value₀ unit₀ groups₀ value unit groups = mostGroups - groups
 
 loop-holds : tie.Need-loop-holds Inv-loop μ-loop
 loop-holds c = grouped-none _ _
@@ -39,12 +40,12 @@ wide-requires : tie.Need-wide-requires Inv-loop μ-loop
 wide-requires c κs = search needs
 
 -- the value with its last group, and with another
-last-fits : (c : tie.After-wide Inv-loop μ-loop) → c .before .before .before .before .before .before .loop .value + c .wide .result * c .before .before .before .before .before .before .loop .unit < 2 ^ 56
+last-fits : (c : tie.After-wide Inv-loop μ-loop) → c .before .before .before .before .before .before .loop .value + c .wide .result * c .before .before .before .before .before .before .loop .unit < 128 ^ mostGroups
 last-fits c =
     let k = c .before .before .before .before .before in
     rw (c .wide .ensures) (group-fits _ _ _ _ _ (k .before .loop .inv) (k .loop-test .taken) _ (omega (arith, c .before .before .if2 .taken)))
 
-more-fits : (c : tie.After-wide2 Inv-loop μ-loop) → c .before .before .before .before .before .loop .value + c .wide2 .result * c .before .before .before .before .before .loop .unit < 2 ^ 56
+more-fits : (c : tie.After-wide2 Inv-loop μ-loop) → c .before .before .before .before .before .loop .value + c .wide2 .result * c .before .before .before .before .before .loop .unit < 128 ^ mostGroups
 more-fits c =
     let k = c .before .before .before .before in
     rw (c .wide2 .ensures) (group-fits _ _ _ _ _ (k .before .loop .inv) (k .loop-test .taken) _ (omega arith))

@@ -1,0 +1,78 @@
+-- `sheet::save::numbers_of` meets its contract: amounts within their limits and not below zero are cast as they are. Assumes nothing.
+use lib.Dec.{le→leb}
+use lib.IntN.{natAbs}
+use borrow.Author.Needs.{needs}
+use Rattle.quote.specs.Configuration.{amountLimit, amountOk}
+use Rattle.sheet.specs.Save.{numbersOf}
+use Rattle.sheet.proofs.Limits.{same-bits, casts, Bounds}
+use Rattle.sheet.proofs.Saving.{NotBelow, not-below, limits-kept, holding-kept}
+use Rattle.sheet.proofs.save.numbers_of.Statement.{statement}
+use Rattle.sheet.proofs.save.numbers_of.Tie as tie
+
+held : (c : tie.Start) → Bounds (numbersOf (c .args .r))
+held c = limits-kept (c .args .r) (c .pre)
+
+above : (c : tie.Start) → NotBelow (c .args .r)
+above c = not-below (c .args .r) (c .pre)
+
+cast-t3 : tie.Need-cast-t3
+unfolding numbersOf
+cast-t3 c = let s = c .before .before .before in casts (s .args .r .«mid_price») (above s .mid) (held s .mid)
+
+stored-of-requires : tie.Need-stored-of-requires
+unfolding amountOk
+stored-of-requires c κs =
+    let s = c .before .before .before .before in
+    let k = holding-kept (s .args .r) (s .pre) in
+    rw (same-bits (s .args .r .inventory) k) (le→leb (natAbs (s .args .r .inventory)) amountLimit k)
+
+cast-t5 : tie.Need-cast-t5
+unfolding numbersOf
+cast-t5 c = let s = c .before .before .before .before .before .before .before in casts (s .args .r .volatility) (above s .volatility) (held s .volatility)
+
+cast-t6 : tie.Need-cast-t6
+unfolding numbersOf
+cast-t6 c = let s = c .before .before .before .before .before .before .before .before .before in casts (s .args .r .config .«risk_aversion») (above s .risk) (held s .risk)
+
+cast-t7 : tie.Need-cast-t7
+unfolding numbersOf
+cast-t7 c = let s = c .before .before .before .before .before .before .before .before .before .before .before in casts (s .args .r .config .«order_intensity_k») (above s .k) (held s .k)
+
+cast-t8 : tie.Need-cast-t8
+unfolding numbersOf
+cast-t8 c = let s = c .before .before .before .before .before .before .before .before .before .before .before .before .before in casts (s .args .r .config .«intensity_scale_a») (above s .scale) (held s .scale)
+
+cast-t9 : tie.Need-cast-t9
+cast-t9 c = search needs
+
+cast-t10 : tie.Need-cast-t10
+unfolding numbersOf
+cast-t10 c = let s = c .before .before .before .before .before .before .before .before .before .before .before .before .before .before .before .before in casts (s .args .r .config .«lot_size») (above s .lot) (held s .lot)
+
+cast-t11 : tie.Need-cast-t11
+unfolding numbersOf
+cast-t11 c = let s = c .before .before .before .before .before .before .before .before .before .before .before .before .before .before .before .before .before .before in casts (s .args .r .config .«min_spread») (above s .spread) (held s .spread)
+
+returns : tie.Need-returns
+unfolding numbersOf
+returns c =
+    let h = c .before .before .before .before .before .before .before .before .before .before .before .before .before in
+    let s = h .before .before .before .before .before in
+    let r = s .args .r in
+    let k = held s in
+    rw (same-bits (r .«mid_price») (k .mid), h .stored-of .ensures, same-bits (r .inventory) (holding-kept r (s .pre)), same-bits (r .volatility) (k .volatility), same-bits (r .config .«risk_aversion») (k .risk), same-bits (r .config .«order_intensity_k») (k .k), same-bits (r .config .«intensity_scale_a») (k .scale), same-bits (r .config .«lot_size») (k .lot), same-bits (r .config .«min_spread») (k .spread))
+
+pub numbers-of-spec : {M : Type 1} → statement M
+numbers-of-spec =
+    tie.close
+    (tie.spec
+    cast-t3
+    stored-of-requires
+    cast-t5
+    cast-t6
+    cast-t7
+    cast-t8
+    cast-t9
+    cast-t10
+    cast-t11
+    returns)
