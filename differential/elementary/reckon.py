@@ -1,4 +1,4 @@
-"""The elementary functions of document 01, module 1, reckoned apart from the library.
+"""The elementary functions of document 01, module 1, with change request 2, reckoned apart from the library.
 
     python3 reckon.py ARGUMENTS > LINES
 
@@ -22,7 +22,6 @@ def float_of(bits):
     return struct.unpack("<d", struct.pack("<Q", bits))[0]
 
 
-LN2 = float_of(0x3FE62E42FEFA39EF)
 LOG2E = float_of(0x3FF71547652B82FE)
 HI = float_of(0x3FE62E42FEE00000)
 LO = float_of(0x3DEA39EF35793C76)
@@ -45,6 +44,11 @@ def series(s):
     return (2.0 * s) * horner(ODDS, z)
 
 
+def join(e, s):
+    """e * HI + ((2 * s) * P + e * LO)."""
+    return e * HI + (series(s) + e * LO)
+
+
 def ln(x):
     if not math.isfinite(x) or x <= 0.0:
         return REFUSED
@@ -52,8 +56,7 @@ def ln(x):
     f, e = half * 2.0, e - 1
     if f > 1.5:
         f, e = f / 2.0, e + 1
-    s = (f - 1.0) / (f + 1.0)
-    return float(e) * LN2 + series(s)
+    return join(float(e), (f - 1.0) / (f + 1.0))
 
 
 def ln_1p(r):

@@ -31,10 +31,10 @@ YEAR = 31536000
 DIGITS = 80
 SIDES = ("bid", "ask")
 TOLD = 10
-# errors of a float distance: the largest that were measured are 4.64e-14 units and, relatively, 3.26e-13, both in the
+# errors of a float distance: the largest that were measured are 4.04e-14 units and, relatively, 1.89e-13, both in the
 # case "Q 100, two minutes", the latter of a distance of -0.023
-ABSOLUTE_BOUND = 4.7e-14
-RELATIVE_BOUND = 3.3e-13
+ABSOLUTE_BOUND = 4.1e-14
+RELATIVE_BOUND = 1.9e-13
 # error of a price, in billionths: half of one by rounding, and what the float distance before it was measured to be
 # off, with sigma as it is typed: up to 0.0006 in exact quotes, and 0.0017 in the closed form
 PRICE_BOUND = 0.502

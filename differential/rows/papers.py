@@ -76,9 +76,8 @@ def own_desk(seconds, q):
                         600000, 600000 - 1000 * seconds, 0)
 
 
-def distances(ask, seconds, q, entry=EXACT):
+def distances(ask, desk, entry=EXACT):
     """Ours in billionths, None for a side that is withheld."""
-    desk = own_desk(seconds, q)
     bid, given = ask.desk(desk, entry)[1:3]
     return [None if bid == "-" else desk.mid - int(bid), None if given == "-" else int(given) - desk.mid]
 
@@ -98,8 +97,8 @@ def distance_rows(ask):
     theorem_1 = [(600, exact.exact(long)), (1, exact.exact(late))]
     form_of = exact.closed_form(exact.scales(long), 30)
     for q in HELD:
-        columns = [held(distances(ask, seconds, q), papers[q]) for seconds, papers in theorem_1]
-        columns.append(held(distances(ask, 600, q, CLOSED_FORM), form_of[q]))
+        columns = [held(distances(ask, own_desk(seconds, q)), papers[q]) for seconds, papers in theorem_1]
+        columns.append(held(distances(ask, own_desk(600, q), CLOSED_FORM), form_of[q]))
         yield [str(q)] + [short(column[side]) for side in (0, 1) for column in columns]
 
 
@@ -108,6 +107,7 @@ def error_rows(ask):
     for seconds in 600, 60, 1:
         gaps = {}
         for q in range(-30, 31):
-            pairs = zip(distances(ask, seconds, q), distances(ask, seconds, q, CLOSED_FORM))
+            desk = own_desk(seconds, q)
+            pairs = zip(distances(ask, desk), distances(ask, desk, CLOSED_FORM))
             gaps[q] = max(abs(a - b) for a, b in pairs if a is not None)
         yield ["%d s" % seconds] + [short(max(gaps[q] for q in gaps if abs(q) <= most)) for most in (10, 20, 25, 30)]

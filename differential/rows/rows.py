@@ -17,6 +17,7 @@ from distance import TRUE
 import errors
 import items
 import papers
+import parts
 import quoting
 
 DOCUMENT = os.path.join(HERE, "..", "..", "docs", "DIFFERENCES.md")
@@ -201,7 +202,10 @@ TABLES = [
     ("Where|Input|The Rust|Here", price_rows),
     ("Kind|From|Input|Here", kind_rows),
     ("Where|Input|The paper|The Rust, and here", papers.rows),
-    ("Function|Arguments|Largest error|Mean|At", errors.rows),
+    ("Function|Arguments|Largest error|Mean|At|One part: largest|Mean|At", errors.rows),
+    ("Argument|Logarithm|One part, off by|Two parts, off by", parts.far_rows),
+    ("Lots held|Bid, one part|Bid, two parts|The paper", parts.long_rows),
+    ("LN in|Prices|The paper's to the billionth|Largest error|Mean", parts.noise_rows),
     ("Amounts|Not the nearest|From|To|Largest error", sample_rows),
     ("q|Bid, 600 s left|1 s left|closed form|Ask, 600 s left|1 s left|closed form", papers.distance_rows),
     ("Time left|q within 10|within 20|within 25|within 30", papers.error_rows),

@@ -1,7 +1,6 @@
-//! Document 01's elementary functions, module 1, in Rust: what the routed glft.rs calls in place of
-//! the platform's. A refusal is a NaN, which glft.rs reports as a numerical error.
+//! Document 01's elementary functions, module 1, with change request 2, in Rust: what the routed glft.rs
+//! calls in place of the platform's. A refusal is a NaN, which glft.rs reports as a numerical error.
 
-const LN2: u64 = 0x3FE62E42FEFA39EF;
 const LOG2E: u64 = 0x3FF71547652B82FE;
 const HI: u64 = 0x3FE62E42FEE00000;
 const LO: u64 = 0x3DEA39EF35793C76;
@@ -64,7 +63,8 @@ impl Routed for f64 {
             f /= 2.0;
             e += 1;
         }
-        e as f64 * f64::from_bits(LN2) + series((f - 1.0) / (f + 1.0))
+        let e = e as f64;
+        e * f64::from_bits(HI) + (series((f - 1.0) / (f + 1.0)) + e * f64::from_bits(LO))
     }
 
     fn routed_ln_1p(self) -> f64 {

@@ -11,4 +11,5 @@ pub mod SquareRoot
 pub mod NearestRoot
 pub mod WholeUp
 pub mod LnSplit
+pub mod LnTwo
 pub mod Refusing

@@ -1,4 +1,4 @@
--- Document 01, module 1: LN, LN1P, EXP, the square root and rounding up to a whole number. Definitions only.
+-- Document 01, module 1: LN as change request 2 has it, LN1P, EXP, the square root and rounding up to a whole number. Definitions only.
 use Prim.Native.Nat.{ℕ, zero, suc, _+_, _-_, _*_, _/_, _^_}
 use mathlib.Core.Bool.{Bool, true, false, cond}
 use mathlib.Core.List.{List, [], _∷_}
@@ -29,10 +29,17 @@ horner [] z = 0ᶠ
 horner (c ∷ []) z = c
 horner (c ∷ d ∷ cs) z = horner (d ∷ cs) z ⊗ z ⊕ c
 
--- ---- LN
+-- ---- the logarithm of 2, and its two parts, which LN and EXP take: HI has 32 binary digits, and LO is the rest
 abbrev pub LN2 : Float
 LN2 = hex 0x3FE62E42FEFA39EF
 
+abbrev pub HI : Float
+HI = hex 0x3FE62E42FEE00000
+
+abbrev pub LO : Float
+LO = hex 0x3DEA39EF35793C76
+
+-- ---- LN
 -- x = f * 2 ^ e with f in [1, 2): where x is n units of 2 ^ -1074 and n has k + 1 binary digits, f is n / 2 ^ k and e is k - 1074
 unfoldable pub mantissa : Float → Float
 mantissa x = round binary64 false (count binary64 x) (2 ^ (size (count binary64 x) - 1))
@@ -53,9 +60,9 @@ lnSum z = horner (odds 0 12) z
 unfoldable pub lnSeries : Float → Float
 lnSeries s = 2ᶠ ⊗ s ⊗ lnSum (s ⊗ s)
 
--- the parts put together: e * LN2 + (2 * s) * P
+-- the parts put together: e * HI + ((2 * s) * P + e * LO)
 unfoldable pub lnJoin : Float → Float → Float
-lnJoin e s = e ⊗ LN2 ⊕ lnSeries s
+lnJoin e s = e ⊗ HI ⊕ (lnSeries s ⊕ e ⊗ LO)
 
 unfoldable pub lnParts : Float → ℤ → Float
 lnParts f e = lnJoin (whole e) ((f ⊖ 1ᶠ) ⊘ (f ⊕ 1ᶠ))
@@ -82,12 +89,6 @@ LN1P r = given (positive r) outside (ln1pOf (lt r ½ᶠ) r)
 -- ---- EXP
 abbrev pub LOG2E : Float
 LOG2E = hex 0x3FF71547652B82FE
-
-abbrev pub HI : Float
-HI = hex 0x3FE62E42FEE00000
-
-abbrev pub LO : Float
-LO = hex 0x3DEA39EF35793C76
 
 -- 1.0 / j! for n values of j, from this one up; a is j!
 unfoldable pub factorials : ℕ → ℕ → ℕ → List Float

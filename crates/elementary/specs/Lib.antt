@@ -5,4 +5,5 @@ pub mod Inner
 pub mod Root
 pub mod WholeUp
 pub mod LnSplit
+pub mod LnTwo
 pub mod Refusing

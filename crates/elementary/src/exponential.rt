@@ -7,12 +7,10 @@ ghost use lib.IntN.{pos, negsuc};
 ghost use lib.Ieee.{lt, le, minus};
 ghost use Rattle.elementary.specs.Float.{finite, whole, 0ᶠ};
 ghost use Rattle.elementary.specs.Elementary.{expSum, expRest, expBy, expOf, expN, power2};
+use crate::ln2::HI;
+use crate::ln2::LO;
 
 const LOG2E: f64 = 1.4426950408889634;
-
-const LN2_HI: f64 = 0.6931471803691238;
-
-const LN2_LO: f64 = 1.9082149292705877e-10;
 
 // The sum of r^j / j!, j = 0..13.
 fn exp_sum(r: f64) -> f64
@@ -34,11 +32,11 @@ fn exp_sum(r: f64) -> f64
     p * r + 1.0 / 1.0
 }
 
-// (x - n * HI) - n * LO.
+// x less n times ln 2, part by part.
 fn exp_rest(x: f64, n: f64) -> f64
     ensures { λ r. ⌜ r ≡ expRest x n ⌝ }
 {
-    (x - n * LN2_HI) - n * LN2_LO
+    (x - n * HI) - n * LO
 }
 
 // 2^(n - 1023), for a normal result.

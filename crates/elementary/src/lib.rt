@@ -1,7 +1,8 @@
-// Elementary functions on f64, after document 01, module 1: a fixed order of operations, and one
-// rounding for each.
+// Elementary functions on f64, after document 01, module 1, and change request 2: a fixed order of operations, and
+// one rounding for each.
 mod ceiling;
 mod exponential;
+mod ln2;
 mod logarithm;
 mod root;
 mod split;

@@ -6,8 +6,8 @@ ghost use lib.IntN.{pos};
 ghost use lib.Ieee.{binary64, minus, ofInt};
 ghost use Rattle.elementary.specs.Float.{positive, whole};
 ghost use Rattle.elementary.specs.Elementary.{lnSum, lnSeries, lnJoin, lnParts, lnOf};
-
-const LN2: f64 = 0.6931471805599453;
+use crate::ln2::HI;
+use crate::ln2::LO;
 
 // The bits of 1.0 without its fraction's.
 const ONE_BITS: u64 = 4607182418800017408;
@@ -37,11 +37,11 @@ pub(crate) fn ln_series(s: f64) -> f64
     (2.0 * s) * ln_sum(s * s)
 }
 
-// The parts put together.
+// The parts put together: e * HI + ((2 * s) * P + e * LO).
 fn ln_join(e: f64, s: f64) -> f64
     ensures { λ r. ⌜ r ≡ lnJoin e s ⌝ }
 {
-    e * LN2 + ln_series(s)
+    e * HI + (ln_series(s) + e * LO)
 }
 
 // The logarithm of f * 2^(size - 1075).
