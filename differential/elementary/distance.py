@@ -41,6 +41,10 @@ RANGES = {
 TRUE = {"LN": mpmath.log, "LN1P": mpmath.log1p, "EXP": mpmath.exp}
 
 
+def range_of(function, x):
+    return next(name for name, test in RANGES[function] if test(x))
+
+
 def float_of(digits):
     return struct.unpack(">d", bytes.fromhex(digits))[0]
 
@@ -84,9 +88,8 @@ def main():
                 if function == "EXP" and not -708.0 <= x <= 709.0:
                     ruled[by_rule(x)] = ruled.get(by_rule(x), 0) + 1
                     continue
-                name = next(name for name, test in RANGES[function] if test(x))
                 error = units(float_of(answer), TRUE[function](mpmath.mpf(x)))
-                errors[function][name].append((error, x))
+                errors[function][range_of(function, x)].append((error, x))
     print("%-5s %-38s %5s  %6s  %6s  %s" % ("", "range", "count", "max", "mean", "worst argument"))
     for function, parts in errors.items():
         for name, part in parts.items():
