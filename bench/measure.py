@@ -18,7 +18,7 @@ import sys
 ROUNDS = 11
 K, ALPHA, ETA, BASE = 0.3, 0.3 * 0.01 * 0.09 / 2.0, 0.3257, 3.279
 # bound, tau, records: a little below the cap of 11,000 steps each
-RUNS = ((200, 3300.0, 6), (30, 15000.0, 40))
+RUNS = ((200, 3300.0, 6), (30, 15000.0, 40), (1, 16000.0, 200))
 # one record, whose plan has 11,000 steps
 MOST_STEPS = 11000
 LONGEST = (200, 3308.7, 1)

@@ -3,11 +3,11 @@ use mathlib.Core.Path.{_≡_, refl, sym, ap, _∙_, subst}
 use Prim.Native.Nat.{ℕ, zero, suc, _+_, _-_, _*_, _/_, _%_, _^_, _≤_, _<_}
 use native.Mathlib.Nat.{le-trans, le-of-eq, le-of-suc-le-suc, lt-of-lt-of-le, lt-of-not-le, lt-irrefl, zero-lt-suc, zero-mul, one-mul, mul-one, mul-comm, mul-assoc, mul-right-comm, mul-pos, le-mul-of-pos-right, mul-lt-mul-of-pos-right, lt-of-mul-lt-mul-right, eq-of-mul-eq-mul-right, mul-mul-mul-comm, mul-sub, add-mul, suc-add, add-suc, add-zero, zero-add, sub-zero, le-add-right, le-add-left, le-of-lt, not-le-of-lt}
 use native.Mathlib.Omega.{arith}
-use mathlib.Core.Bool.{Bool, true, false, not, _&&_, Bool·beq, cond}
+use mathlib.Core.Bool.{Bool, true, false, not, _&&_, _||_, Bool·beq, cond, false≢true}
 use lib.IntN.{ℤ, pos, negsuc, negℤ, sucℤ, natAbs, _+ℤ_, _-ℤ_, _*ℤ_, +ℤ-idl, +ℤ-idr, +ℤ-one, sucℤ-+ℤ}
 use lib.Dec.{T, leb, ltb, eqb, ltb→lt, lt→ltb, nltb→le, leb→le, nleb→lt, eqb→eq, leb·zero, leb·suc-zero, eqb·suc-zero}
 use lib.Pow.{pow-add, pow-pos, pow-mono, pow-lt}
-use lib.Ieee.{Float, nan, inf, fin, Format, binary32, binary64, unlike, prec, emax, low, up, down, minus, size, round, neg, sum, add, sub, mul, div, ofInt, fits, hid, top, ofBits, toBits}
+use lib.Ieee.{Float, nan, inf, fin, Format, binary32, binary64, unlike, prec, emax, low, up, down, minus, size, round, neg, sum, add, sub, mul, div, eq, ofInt, fits, hid, top, ofBits, toBits}
 use lib.Ieee.Digits.{back}
 use lib.Ieee.Fits.{two, two-le-pos, round-fits, up-pos, down-pos, and-l, and-r}
 use lib.Ieee.Bits.{ofBits-toBits, ofBits-fits, is-true}
@@ -16,6 +16,7 @@ use lib.Ieee.Exact.{HasValue, round-exact}
 use lib.Ieee.Nearest.{div-same}
 use lib.Ieee.Scale.{round-same}
 use lib.Ieee.Positive.{above}
+use Rattle.elementary.specs.Float.{whole, 1ᶠ}
 
 -- ---- the fractions that a value equals
 pub own-value-f : (s : Bool) (m : ℕ) (e : ℤ) → HasValue (fin s m e) s (m * up e) (down e)
@@ -301,6 +302,11 @@ unfolding ofInt
 one-is binary32 = refl
 one-is binary64 = refl
 
+-- by its bits, and as a whole number
+pub one-whole : 1ᶠ ≡ whole (pos 1)
+unfolding ofBits ofInt
+one-whole = refl
+
 -- -0, which +0 added to it turns into +0
 abbrev pub minusZero : Float → Bool
 minusZero nan = false
@@ -378,6 +384,34 @@ mul-one-f f (fin s m e) t =
     ap (λ (z : Float). mul f (fin s m e) z) (one-is f)
     ∙ (λ i. round f (like s i) (mul-one (m * up e) i) (mul-one (down e) i))
     ∙ round-own f s m e t
+
+-- what equals one, however it is written
+is-one : (f : Format) (s : Bool) (m : ℕ) (e : ℤ) → eq (fin s m e) (ofInt f (pos 1)) ≡ true → HasValue (fin s m e) false 1 1
+unfolding eq
+is-one f s m e h = go s (subst T (sym (ap (eq (fin s m e)) (sym (one-is f)) ∙ h)) tt)
+  where
+    go : (s : Bool) → T (eqb (m * up e * 1) (1 * 1 * down e) && (Bool·beq s false || eqb (m * up e * 1) 0)) → HasValue (fin s m e) false 1 1
+    go false t = (refl, eqb→eq (m * up e * 1) (1 * 1 * down e) (and-l (eqb (m * up e * 1) (1 * 1 * down e)) true t))
+    go true t =
+        let a : m * up e * 1 ≡ 1 * 1 * down e = eqb→eq (m * up e * 1) (1 * 1 * down e) (and-l (eqb (m * up e * 1) (1 * 1 * down e)) (eqb (m * up e * 1) 0) t) in
+        let b : m * up e * 1 ≡ 0 = eqb→eq (m * up e * 1) 0 (and-r (eqb (m * up e * 1) (1 * 1 * down e)) (eqb (m * up e * 1) 0) t) in
+        absurd (omega (arith, down-pos e))
+
+unlike-false : (t : Bool) → unlike false t ≡ t
+unlike-false true = refl
+unlike-false false = refl
+
+pub one-mul-f : (f : Format) (x y : Float) → eq x (ofInt f (pos 1)) ≡ true → T (fits f y) → mul f x y ≡ y
+unfolding mul eq
+one-mul-f f nan y h t = absurd (false≢true h)
+one-mul-f f (inf s) y h t = absurd (false≢true (sym (ap (eq (inf s)) (one-is f)) ∙ h))
+one-mul-f f (fin s m e) nan h t = refl
+one-mul-f f (fin s zero e) (inf u) h t = let v = is-one f s 0 e h .1 in absurd (omega (arith, down-pos e))
+one-mul-f f (fin s (suc m) e) (inf u) h t = ap (λ (b : Bool). cond b nan (inf (unlike s u))) (eqb·suc-zero m) ∙ (λ i. inf (unlike (is-one f s (suc m) e h .0 i) u)) ∙ ap inf (unlike-false u)
+one-mul-f f (fin s m e) (fin u n d) h t =
+    mul-over f (fin s m e) (fin u n d) false 1 1 u (n * up d) (down d) (omega arith) (down-pos d) (is-one f s m e h) (own-value-f u n d)
+    ∙ (λ i. round f (unlike-false u i) (one-mul (n * up d) i) (one-mul (down d) i))
+    ∙ round-own f u n d t
 
 pub div-one-f : (f : Format) (x : Float) → T (fits f x) → div f x (ofInt f (pos 1)) ≡ x
 unfolding div

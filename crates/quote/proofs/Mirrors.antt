@@ -11,7 +11,7 @@ use lib.Dec.{lit≤}
 use lib.Ieee.{Float, binary64, neg, ofInt, ofBits}
 use Rattle.elementary.specs.Float.{_⊕_, _⊖_, _⊗_, _⊘_, whole, 1ᶠ, 2ᶠ, positive}
 use Rattle.elementary.proofs.Signs.{mul-neg-left, div-neg-left, sub-neg}
-use Rattle.elementary.proofs.Exact.{twice-and-one, twice-less-one}
+use Rattle.elementary.proofs.Exact.{one-whole, twice-and-one, twice-less-one}
 use Rattle.vector.specs.Run.{cap, largestBound}
 use Rattle.distances.specs.Promises.{Counted, exchanged, exchangedSides}
 use Rattle.distances.specs.declared.Distance.the-variants.{At}
@@ -106,10 +106,6 @@ odd-some (negsuc n) = rw (twice n, lt-ltb 1 (suc (suc (2 * n))) (omega arith)) (
 two-whole : 2ᶠ ≡ whole (pos 2)
 unfolding ofBits ofInt
 two-whole = refl
-
-one-whole : 1ᶠ ≡ whole (pos 1)
-unfolding ofBits ofInt
-one-whole = refl
 
 turned : (q : ℤ) → natAbs q ≤ largestBound → 2ᶠ ⊗ whole (negℤ q) ⊖ 1ᶠ ≡ neg (2ᶠ ⊗ whole q ⊕ 1ᶠ)
 turned q h =

@@ -115,11 +115,21 @@ tie f (fin false m e) (fin false n d) p q v w h k =
     value-unique f (fin false m e) (fin false n d) false (m * up e) (down e) (down-pos e) v w (refl, refl) (refl, le-antisymm (ltb-false a b h) (ltb-false b a k))
 
 -- what a fold from +0 has gathered
-abbrev Gathered : Format → Float → Type 0
+abbrev pub Gathered : Format → Float → Type 0
 Gathered f a = T (nonneg a) × T (fits f a)
 
+larger-comm : (f : Format) (x y : Float) → Gathered f x → Gathered f y → larger x y ≡ larger y x
+unfolding larger
+larger-comm f x y p q = go (lt x y) (lt y x) refl refl
+  where
+    go : (b c : Bool) → lt x y ≡ b → lt y x ≡ c → cond b y x ≡ cond c x y
+    go true true h k = absurd (true≢false (sym k ∙ asymmetric x y h))
+    go true false h k = refl
+    go false true h k = refl
+    go false false h k = tie f x y (p .0) (q .0) (p .1) (q .1) h k
+
 module _ (f : Format) (a x : Float) (p : Gathered f a) (v : T (fits f x)) where
-  larger-keeps : Gathered f (larger a x)
+  pub larger-keeps : Gathered f (larger a x)
   unfolding larger
   larger-keeps = go (lt a x) refl
     where
@@ -131,23 +141,37 @@ module _ (f : Format) (a x : Float) (p : Gathered f a) (v : T (fits f x)) where
   unfolding larger
   larger-swaps y w = go (lt a x) (lt a y) refl refl
     where
-      both : (b c : Bool) → T (nonneg x) → T (nonneg y) → lt x y ≡ b → lt y x ≡ c → cond b y x ≡ cond c x y
-      both true true m n h k = absurd (true≢false (sym k ∙ asymmetric x y h))
-      both true false m n h k = refl
-      both false true m n h k = refl
-      both false false m n h k = tie f x y m n v w h k
-
       go : (b c : Bool) → lt a x ≡ b → lt a y ≡ c → cond (lt (cond b x a) y) y (cond b x a) ≡ cond (lt (cond c y a) x) x (cond c y a)
-      go true true h k = both (lt x y) (lt y x) (upper-nonneg a x (p .0) h) (upper-nonneg a y (p .0) k) refl refl
+      go true true h k = larger-comm f x y (upper-nonneg a x (p .0) h, v) (upper-nonneg a y (p .0) k, w)
       go true false h k = rw (h, not-below x a y (nonneg-no-nan a (p .0)) (asymmetric a x h) k)
       go false true h k = rw (k, not-below y a x (nonneg-no-nan a (p .0)) (asymmetric a y k) h)
       go false false h k = rw (h, k)
+
+-- two gathered apart, and each with an entry more, are both of them together with the two entries
+pub larger-apart : (f : Format) (a b x y : Float) → Gathered f a → Gathered f b → T (fits f x) → T (fits f y) → larger (larger a x) (larger b y) ≡ larger (larger (larger a b) x) y
+larger-apart f a b x y p q v w =
+    let ax = larger-keeps f a x p v in
+    larger-comm f (larger a x) (larger b y) ax (larger-keeps f b y q w)
+    ∙ larger-swaps f b y q w (larger a x) (ax .1)
+    ∙ ap (λ (z : Float). larger z y) (larger-comm f b (larger a x) q ax ∙ larger-swaps f a x p v b (q .1))
+
+-- +0, from which both begin
+pub zero-gathered : Gathered binary64 0ᶠ
+zero-gathered = (rw (zero-is binary64) tt, ofBits-fits binary64 0)
+
+pub zero-zero : larger 0ᶠ 0ᶠ ≡ 0ᶠ
+unfolding larger
+zero-zero = go (lt 0ᶠ 0ᶠ)
+  where
+    go : (b : Bool) → cond b 0ᶠ 0ᶠ ≡ 0ᶠ
+    go true = refl
+    go false = refl
 
 pub largest-mirror : (n : ℕ) (f g : ℕ → Float) → ((i : ℕ) → T (fits binary64 (f i))) → Opposite n f g
     → fold larger 0ᶠ (tab n f) ≡ fold larger 0ᶠ (tab n g)
 largest-mirror n f g v m =
     fold-mirror larger (Gathered binary64) (λ (x : Float). T (fits binary64 x)) (larger-keeps binary64) (λ a x y p v. larger-swaps binary64 a x p v y) 0ᶠ n f g
-    (rw (zero-is binary64) tt, ofBits-fits binary64 0) v m
+    zero-gathered v m
 
 -- ---- the smallest: NaNs are passed over, and of two zeros the first met stays, so the ends may give zeros of either sign
 module _ (a x : Float) (p : T (not (isNan a))) where
@@ -181,12 +205,16 @@ smallest-below c a p i (suc n) f =
     ∙ ap (λ (b : Bool). b && everyFrom (suc i) n (λ j. not (lt (f j) c))) (smaller-below a (f i) p c)
     ∙ and-assoc (not (lt a c)) (not (lt (f i) c)) (everyFrom (suc i) n (λ j. not (lt (f j) c)))
 
+-- the smallest is not below c where no entry is
+pub smallest-floor : (c : Float) (n : ℕ) (f : ℕ → Float) → not (lt (fold smaller (inf false) (tab n f)) c) ≡ every n (λ i. not (lt (f i) c))
+unfolding isNan
+smallest-floor c n f = smallest-below c (inf false) tt 0 n f ∙ ap (λ (b : Bool). not b && every n (λ i. not (lt (f i) c))) (top c)
+
 pub smallest-mirror : (c : Float) (n : ℕ) (f g : ℕ → Float) → Opposite n f g
     → lt (fold smaller (inf false) (tab n f)) c ≡ lt (fold smaller (inf false) (tab n g)) c
-unfolding isNan
 smallest-mirror c n f g m =
     let a = fold smaller (inf false) (tab n f) in
     let b = fold smaller (inf false) (tab n g) in
-    let all : every n (λ i. not (lt (f i) c)) ≡ every n (λ i. not (lt (g i) c)) = every-mirror n _ _ (λ i j e. ap (λ (x : Float). not (lt x c)) (m i j e)) in
-    let same : not (lt a c) ≡ not (lt b c) = cc (smallest-below c (inf false) tt 0 n f, smallest-below c (inf false) tt 0 n g) in
+    let same : not (lt a c) ≡ not (lt b c) =
+    smallest-floor c n f ∙ every-mirror n _ _ (λ i j e. ap (λ (x : Float). not (lt x c)) (m i j e)) ∙ sym (smallest-floor c n g) in
     cc (Bool·not-not (lt a c), Bool·not-not (lt b c))

@@ -1,6 +1,7 @@
 pub mod Lists
 pub mod Loops
 pub mod Terms
+pub mod Late
 pub mod Plans
 pub mod Room
 pub mod RunLaws

@@ -3,7 +3,7 @@ use mathlib.Core.Path.{_≡_, refl, sym, ap, ap₂, _∙_}
 use Prim.Native.Nat.{ℕ, zero, suc, _+_, _<_}
 use native.Mathlib.Nat.{add-zero, zero-add}
 use native.Mathlib.Omega.{arith}
-use mathlib.Core.Bool.{Bool, true, _&&_, and-assoc, and-comm}
+use mathlib.Core.Bool.{Bool, true, false, _&&_, and-assoc, and-comm}
 use mathlib.Core.List.{List, _∷_}
 use lib.ListN.{length}
 use lib.Ieee.{Float}
@@ -15,7 +15,7 @@ Opposite n f g = (i j : ℕ) → suc (i + j) ≡ n → f i ≡ g j
 
 -- ---- the entries
 -- all but the first are those of the function one place up
-from-up : (i n : ℕ) (f : ℕ → Float) → from (suc i) n f ≡ from i n (λ j. f (suc j))
+pub from-up : (i n : ℕ) (f : ℕ → Float) → from (suc i) n f ≡ from i n (λ j. f (suc j))
 unfolding from
 from-up i zero f = refl
 from-up i (suc n) f = ap (λ (l : List Float). f (suc i) ∷ l) (from-up (suc i) n f)
@@ -58,6 +58,29 @@ every-last zero p = and-comm (p 0) true
 every-last (suc n) p =
     ap (λ (b : Bool). p 0 && b) (every-up 0 (suc n) p ∙ every-last n (λ j. p (suc j)) ∙ ap (λ (b : Bool). b && p (suc n)) (sym (every-up 0 n p)))
     ∙ sym (and-assoc (p 0) (everyFrom 1 n p) (p (suc n)))
+
+pub every-true : (n : ℕ) → every n (λ j. true) ≡ true
+unfolding everyFrom
+every-true n = go 0 n
+  where
+    go : (i n : ℕ) → everyFrom i n (λ j. true) ≡ true
+    go i zero = refl
+    go i (suc n) = go (suc i) n
+
+-- two tests of every entry
+pub every-both : (n : ℕ) (p q : ℕ → Bool) → every n (λ j. p j && q j) ≡ (every n p && every n q)
+unfolding everyFrom
+every-both n p q = go 0 n
+  where
+    swap : (a b c d : Bool) → (a && b) && (c && d) ≡ (a && c) && (b && d)
+    swap true true c d = refl
+    swap true false true d = refl
+    swap true false false d = refl
+    swap false b c d = refl
+
+    go : (i n : ℕ) → everyFrom i n (λ j. p j && q j) ≡ (everyFrom i n p && everyFrom i n q)
+    go i zero = refl
+    go i (suc n) = ap (λ (b : Bool). (p i && q i) && b) (go (suc i) n) ∙ swap (p i) (q i) (everyFrom (suc i) n p) (everyFrom (suc i) n q)
 
 pub every-mirror : (n : ℕ) (p q : ℕ → Bool) → Opposite n p q → every n p ≡ every n q
 unfolding everyFrom

@@ -1,5 +1,5 @@
 -- Loops over float slices: those that store f i at each index i, those that test every entry, and those that fold. Assumes nothing.
-use mathlib.Core.Path.{_≡_, refl, sym, ap, _∙_}
+use mathlib.Core.Path.{_≡_, refl, sym, ap, ap₂, _∙_}
 use mathlib.Core.List.{List, [], _∷_, _++_, append-nil}
 use Prim.Native.Nat.{ℕ, zero, suc, _+_, _-_, _<_, _≤_}
 use native.Mathlib.Nat.{add-zero, zero-add, sub-zero, zero-sub}
@@ -7,12 +7,12 @@ use native.Mathlib.Numerals.{add-one}
 use native.Mathlib.Omega.{arith}
 use mathlib.Core.Bool.{Bool, true, false, _&&_}
 use borrow.Author.Tests.{lt-ltb, le-ltb}
-use lib.ListN.{length, set, take, drop, length-append, length-drop}
-use lib.Seq.{drop-cons, set-at, append-snoc, drop-length, take-suc, ext-getD, getD-append-add, getD-drop}
+use lib.ListN.{length, set, take, drop}
+use lib.Seq.{drop-cons, set-at, append-snoc, drop-length, take-suc, getD-append-add, getD-drop}
 use lib.Ieee.{Float, nan, lt}
 use Rattle.elementary.specs.Float.{0ᶠ}
-use Rattle.vector.specs.Vectors.{from, tab, fill, at, before, after, everyFrom, every, fold, larger, smaller}
-use Rattle.vector.proofs.Lists.{length-tab, at-tab, every-last}
+use Rattle.vector.specs.Vectors.{from, tab, fill, at, before, after, everyFrom, every, fold, larger}
+use Rattle.vector.proofs.Lists.{from-up, length-tab, at-tab, every-last}
 
 -- ---- entries by a rule
 from-suc : (j i : ℕ) (f : ℕ → Float) → from j (suc i) f ≡ from j i f ++ (f (j + i) ∷ [])
@@ -23,10 +23,6 @@ from-suc j (suc i) f = ap (λ (l : List Float). f j ∷ l) (from-suc (suc j) i f
 -- one entry more
 pub tab-suc : (i : ℕ) (f : ℕ → Float) → tab (i + 1) f ≡ tab i f ++ (f i ∷ [])
 tab-suc i f = rw (add-one i) (from-suc 0 i f ∙ ap (λ (k : ℕ). tab i f ++ (f k ∷ [])) (zero-add i))
-
--- a list by its own entries
-pub tab-at : (l : List Float) → l ≡ tab (length l) (at l)
-tab-at l = ext-getD nan l (tab (length l) (at l)) (sym (length-tab (length l) (at l))) (λ i h. sym (at-tab (length l) (at l) i h))
 
 -- ---- stores: the first i entries are f's and the others l's
 unfoldable pub filled : (ℕ → Float) → List Float → ℕ → List Float
@@ -63,6 +59,12 @@ every-zero p = refl
 -- one entry more
 pub every-suc : (n : ℕ) (p : ℕ → Bool) → (every n p && p n) ≡ every (n + 1) p
 every-suc n p = rw (add-one n) (sym (every-last n p))
+
+-- not where the first entry fails
+pub every-first : (n : ℕ) (p : ℕ → Bool) → 0 < n → p 0 ≡ false → false ≡ every n p
+unfolding everyFrom
+every-first zero p h e = absurd (omega arith)
+every-first (suc n) p h e = rw e
 
 pub every-at : (n m : ℕ) (p : ℕ → Bool) → n ≡ m → every n p ≡ every m p
 every-at n m p e = rw e
@@ -125,7 +127,7 @@ pub filled-fill : (n i : ℕ) (x y : Float) → filled (λ k. x) (fill n y) i �
 unfolding filled
 filled-fill n i x y = rw (drop-fill n i y, fill-tab i x)
 
--- ---- the larger and the smaller by a test
+-- ---- the larger by a test
 pub larger-taken : (x y : Float) → lt x y ≡ true → y ≡ larger x y
 unfolding larger
 larger-taken x y h = rw h
@@ -133,14 +135,6 @@ larger-taken x y h = rw h
 pub larger-left : (x y : Float) → lt x y ≡ false → x ≡ larger x y
 unfolding larger
 larger-left x y h = rw h
-
-pub smaller-taken : (x y : Float) → lt y x ≡ true → y ≡ smaller x y
-unfolding smaller
-smaller-taken x y h = rw h
-
-pub smaller-left : (x y : Float) → lt y x ≡ false → x ≡ smaller x y
-unfolding smaller
-smaller-left x y h = rw h
 
 -- ---- what a list of stores holds
 pub at-stored : (l : List Float) (n : ℕ) (f : ℕ → Float) (k : ℕ) → l ≡ tab n f → k < n → at l k ≡ f k
@@ -155,3 +149,30 @@ filled-one f (x ∷ l) v h e = ap (λ (y : Float). y ∷ l) e
 -- the last entry stored after a loop
 pub stored-last : (f : ℕ → Float) (l out : List Float) (i j n : ℕ) (v : Float) → i + 1 ≡ n → j ≡ i → length l ≡ n → out ≡ filled f l i → v ≡ f j → set out j v ≡ tab n f
 stored-last f l out i j n v h k e o d = filled-all f l (set out j v) (i + 1) n (h ∙ sym e) h (rw k (stored f l out i v (omega arith) o (rw k at d)))
+
+-- the first entry stored after a loop over the others: until then it is as it was
+unfoldable pub later : (ℕ → Float) → List Float → ℕ → Float
+later f l zero = at l 0
+later f l (suc k) = f (suc k)
+
+pub later-one : (f : ℕ → Float) (l : List Float) → 0 < length l → l ≡ filled (later f l) l 1
+unfolding later filled from
+later-one f [] h = absurd (omega arith)
+later-one f (x ∷ l) h = refl
+
+pub later-is : (f : ℕ → Float) (l : List Float) (k : ℕ) → 0 < k → f k ≡ later f l k
+unfolding later
+later-is f l zero h = absurd (omega arith)
+later-is f l (suc k) h = refl
+
+pub later-first : (f : ℕ → Float) (l out : List Float) (n : ℕ) → 0 < n → out ≡ tab n (later f l) → at out 0 ≡ at l 0
+unfolding later
+later-first f l out n h e = at-stored out n (later f l) 0 e h
+
+-- and then all are f's
+pub later-all : (f : ℕ → Float) (l out : List Float) (n : ℕ) (v : Float) → 0 < n → out ≡ tab n (later f l) → v ≡ f 0 → set out 0 v ≡ tab n f
+unfolding later from
+later-all f l out zero v h e d = absurd (omega arith)
+later-all f l out (suc n) v h e d =
+    ap (λ (m : List Float). set m 0 v) e
+    ∙ ap₂ {B = List Float} (λ x m. x ∷ m) d (from-up 0 n (later f l) ∙ sym (from-up 0 n f))

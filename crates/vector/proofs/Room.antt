@@ -42,16 +42,30 @@ module _ (n : ℕ) (a : List Float) (e : a ≡ fill room 0ᶠ) (h : n ≤ room) 
   pub blank-length : length (take n a) ≡ n
   blank-length = length-lent n a (fill n 0ᶠ) blank-padded (length-replicate n 0ᶠ)
 
--- entries by a rule in the first places
+-- n entries that came back, with what stands after them
+module _ (n : ℕ) (d r : List Float) (k : length d ≡ n) where
+  pub part-back : take n (d ++ r) ≡ d
+  part-back = take-at d r n k
+
+  pub part-length : length (take n (d ++ r)) ≡ n
+  part-length = ap length part-back ∙ k
+
+  pub part-room : n ≤ length (d ++ r)
+  part-room = rw (length-append d r, k) (omega arith)
+
+-- and by a rule
 module _ (n : ℕ) (f : ℕ → Float) (d r : List Float) (e : d ≡ tab n f) where
+  by-rule : length d ≡ n
+  by-rule = ap length e ∙ length-tab n f
+
   pub stored-part : take n (d ++ r) ≡ tab n f
-  stored-part = take-at d r n (ap length e ∙ length-tab n f) ∙ e
+  stored-part = part-back n d r by-rule ∙ e
 
   pub stored-length : length (take n (d ++ r)) ≡ n
-  stored-length = ap length stored-part ∙ length-tab n f
+  stored-length = part-length n d r by-rule
 
   pub stored-room : n ≤ length (d ++ r)
-  stored-room = rw (length-append d r, e, length-tab n f) (omega arith)
+  stored-room = part-room n d r by-rule
 
 -- the arrays of the blank vector
 pub blank-w : (v : ValueVector) → v ≡ blankVector → v .w ≡ fill room 0ᶠ
@@ -71,7 +85,3 @@ module _ (n : ℕ) (w o : List Float) (v : ValueVector) (e : v ≡ vectorOf n w 
   pub own-o : v .«log_offset» ≡ padded n o
   unfolding vectorOf
   own-o = ap (λ (x : ValueVector). x .«log_offset») e
-
-  pub own-n : v .n ≡ n
-  unfolding vectorOf
-  own-n = ap (λ (x : ValueVector). x .n) e

@@ -1,26 +1,29 @@
 -- A turn of the run by cases, as the code meets it: what a plan, a step and a rebalancing lead to, and where a run ends. Assumes nothing.
 use mathlib.Core.Path.{_≡_, refl, sym, ap, _∙_}
 use Prim.Native.Nat.{ℕ, zero, suc, _-_, _≤_, _<_}
+use native.Mathlib.Nat.{le-trans}
 use native.Mathlib.Omega.{arith}
-use mathlib.Core.Bool.{Bool, true, false, _&&_}
+use mathlib.Core.Bool.{Bool, true, false, not, _&&_}
 use mathlib.Core.List.{List}
-use borrow.Author.Tests.{ltb-true, ltb-false, lt-ltb}
+use borrow.Author.Tests.{ltb-true, ltb-false, lt-ltb, not-true, not-false}
 use lib.Dec.{ltb}
-use lib.ListN.{length}
+use lib.ListN.{length, length-replicate}
 use lib.Ieee.{Float, inf, lt, toUnsigned}
 use Rattle.elementary.specs.Float.{_⊕_, _⊖_, _⊗_, _⊘_, 0ᶠ, 1ᶠ, finite, positive}
 use Rattle.elementary.specs.Reply.{Reply, value, refusal}
 use Rattle.elementary.specs.Elementary.{LN, orNan}
 use Rattle.vector.specs.Vectors.{tab, at, fill, every, fold, larger, smaller}
 use Rattle.vector.specs.Series.{diagonalAt, leftAt, rightAt, taylorStep}
-use Rattle.vector.specs.Run.{Ended, vector, overCap, failed, Fixed, Going, Turn, going, ended, cap, rows, start, begin, divided, rebalances, rebalance, next, stepped, stepOperator, turn, runOn, fixed, runFor, run}
+use Rattle.vector.specs.Run.{Ended, vector, overCap, failed, Fixed, Going, going, ended, cap, rows, start, begin, divided, floor, rebalances, rebalance, next, stepped, stepOperator, turn, runOn, fixed, runFor, run}
 use Rattle.vector.specs.Values.{padded, vectorOf, vectorBy}
-use Rattle.vector.specs.Inner.{operatorOver, fixedOver, goingOver, StepIs, planBy, planOf, pacedOf, askedOf, stoppedOf, endBy, AfterBy, AfterIs, Standing, weightBy, weight, BegunIs, EndIs, outcomeWith}
+use Rattle.vector.specs.Inner.{operatorOver, fixedOver, goingOver, StepIs, planBy, planOf, pacedOf, askedOf, stoppedOf, endBy, AfterBy, AfterIs, Standing, weightBy, weight, BegunIs, PlanSpent, Between, EndIs, outcomeWith}
 use Rattle.vector.specs.declared.Outcome.{Outcome}
 use Rattle.vector.specs.declared.Outcome.the-variants as Outcome
 use Rattle.vector.specs.declared.plan.Planned.{Planned}
 use Rattle.vector.specs.declared.plan.Planned.the-variants as Planned
 use Rattle.vector.specs.declared.run.Pace.{Pace}
+use Rattle.vector.proofs.Lists.{every-true}
+use Rattle.vector.proofs.Extremes.{smallest-floor}
 use Rattle.vector.proofs.Plans.{planned-some}
 
 never : {A : Type 0} → _≡_ {A = ℕ} 0 1 → A
@@ -122,29 +125,43 @@ module _ (p : Fixed) (r : Ended) (w o left right diag : List Float) (a : Pace) (
   unfolding turn stepOperator
   turned good v h f e = stepped-by good v _ h f (rw d e)
 
--- what the code does after a step: v its sum, w that divided, x the smallest
+-- no entry calls for rebalancing just where the smallest does not
+pub calm-is : (n : ℕ) (f : ℕ → Float) (s : ℕ) → every n (λ i. not (rebalances (f i) s)) ≡ not (rebalances (fold smaller (inf false) (tab n f)) s)
+unfolding rebalances
+calm-is n f s = go (ltb 0 s)
+  where
+    go : (b : Bool) → every n (λ i. not (b && lt (f i) floor)) ≡ not (b && lt (fold smaller (inf false) (tab n f)) floor)
+    go true = sym (smallest-floor floor n f)
+    go false = every-true n
+
+-- what the code does after a step: v its sum, w that divided, calm where no weight calls for rebalancing
 pub after-refused : (n : ℕ) (a : Pace) (w o : List Float) (good : Bool) (r : Pace) (w′ o′ : List Float) → good ≡ false → r ≡ stoppedOf (Outcome.Refused 11) → AfterIs good n a w o r w′ o′
 unfolding AfterBy
 after-refused n a w o good r w′ o′ eg e = rw eg e
 
-module _ (n : ℕ) (a : Pace) (v o : List Float) (m : Float) (w : List Float) (x : Float) (good c : Bool) (r : Pace) (em : m ≡ fold larger 0ᶠ v) (ew : w ≡ tab n (λ i. at v i ⊘ m)) (ex : x ≡ fold smaller (inf false) w)
-    (eg : good ≡ true) (ec : c ≡ rebalances x (a .steps - 1)) where
+module _ (n : ℕ) (a : Pace) (v o : List Float) (m : Float) (w : List Float) (good calm : Bool) (r : Pace) (em : m ≡ fold larger 0ᶠ v) (ew : w ≡ tab n (λ i. at v i ⊘ m))
+    (eg : good ≡ true) (ec : calm ≡ not (rebalances (fold smaller (inf false) w) (a .steps - 1))) where
   is-divided : divided n v ≡ w
   unfolding divided
   is-divided = rw (← em, ew)
 
-  pub after-paced : c ≡ false → r ≡ pacedOf (a .steps - 1) (a .budget - 1) (a .remaining ⊖ a .dt) (a .dt) → AfterIs good n a (divided n v) o r w o
+  pub after-paced : calm ≡ true → r ≡ pacedOf (a .steps - 1) (a .budget - 1) (a .remaining ⊖ a .dt) (a .dt) → AfterIs good n a (divided n v) o r w o
   unfolding AfterBy
-  after-paced h e = rw (is-divided, eg, ← ex, ← ec, h) (e, refl, refl)
+  after-paced h e =
+      let x : rebalances (fold smaller (inf false) w) (a .steps - 1) ≡ false = not-true _ (sym ec ∙ h) in
+      rw (is-divided, eg, x) (e, refl, refl)
 
-  module _ (f : Bool) (w′ o′ : List Float) (k : length w ≡ n) (ef : f ≡ every (length w) (λ i. positive (at w i))) (h : c ≡ true) where
+  module _ (f : Bool) (w′ o′ : List Float) (k : length w ≡ n) (ef : f ≡ every (length w) (λ i. positive (at w i))) (h : calm ≡ false) where
+    called : rebalances (fold smaller (inf false) w) (a .steps - 1) ≡ true
+    called = not-false _ (sym ec ∙ h)
+
     pub after-asked : f ≡ true → w′ ≡ fill (length w) 1ᶠ → o′ ≡ tab (length w) (λ i. at o i ⊕ orNan (LN (at w i))) → r ≡ askedOf (a .budget - 1) (a .remaining ⊖ a .dt) → AfterIs good n a (divided n v) o r w′ o′
     unfolding AfterBy
-    after-asked t e₁ e₂ e = rw (is-divided, eg, ← ex, ← ec, h, ← k, ← ef, t) (e, e₁, e₂)
+    after-asked t e₁ e₂ e = rw (is-divided, eg, called, ← k, ← ef, t) (e, e₁, e₂)
 
     pub after-failed : f ≡ false → r ≡ stoppedOf (Outcome.Refused 11) → AfterIs good n a (divided n v) o r w′ o′
     unfolding AfterBy
-    after-failed t e = rw (is-divided, eg, ← ex, ← ec, h, ← k, ← ef, t) e
+    after-failed t e = rw (is-divided, eg, called, ← k, ← ef, t) e
 
 -- a run that goes on takes a turn
 pub stands-on : (p : Fixed) (r : Ended) (w o left right diag : List Float) (a : Pace) (q : Pace) (w′ o′ : List Float) (good : Bool) (v : List Float) → 1 ≤ a .steps → 1 ≤ a .budget
@@ -171,18 +188,6 @@ weighs a = go (a .ask)
     go true = omega arith
     go false = omega arith
 
--- ---- plan after plan
-module _ (p : Fixed) (w o left right diag : List Float) (a : Pace) where
-  pub stands-first : (tau : Float) → a ≡ askedOf cap tau → w ≡ fill (p .n) 1ᶠ → Standing p (runOn cap p (begin p cap (fill (p .n) 1ᶠ) o tau)) w o left right diag a
-  stands-first tau e ew = rw e (record { within = omega arith; scaled = λ x. absurd (omega arith); goes = λ x. absurd (omega arith); asks = λ _. (ew, refl); stops = λ _ f. never (cc f) })
-
-  pub stands-planned : (r : Ended) (left′ right′ diag′ : List Float) (q : Pace) → Standing p r w o left right diag a → a .ask ≡ true → BegunIs p (a .budget) (a .remaining) o left′ right′ diag′ q
-      → Standing p r w o left′ right′ diag′ q × (weight q < weight a)
-  stands-planned r left′ right′ diag′ q s e g =
-      let k = s .asks e in
-      let less : weight q ≤ a .budget = g .less in
-      (rw (k .0, ← k .1) (g .stands), rw e (omega arith))
-
 -- whether a step can be taken
 pub both-some : (x y : ℕ) → (ltb 0 x && ltb 0 y) ≡ true → (1 ≤ x) × (1 ≤ y)
 both-some x y = go (ltb 0 x) (ltb 0 y) (ltb-true 0 x) (ltb-true 0 y)
@@ -204,12 +209,28 @@ ends p r w o left right diag a s f h = go (a .steps) (λ k. s .goes k) h (λ z. 
     go zero k h z = z refl
     go (suc x) k h z = rw (← k (omega arith), h (omega arith)) refl
 
+-- ---- plan after plan
+pub between-first : (p : Fixed) (w o : List Float) (a : Pace) (tau : Float) → a ≡ askedOf cap tau → w ≡ fill (p .n) 1ᶠ → Between p (runOn cap p (begin p cap (fill (p .n) 1ᶠ) o tau)) w o a
+between-first p w o a tau e ew = rw e (record { within = omega arith; asks = λ _. (ew, refl); over = λ f. never (cc f) })
+
+-- a plan and its steps
+pub planned : (n : ℕ) (d : List Float) (eta : Float) (b : ℕ) (rest : Float) (w o left right diag w′ o′ : List Float) (q a : Pace) → w ≡ fill n 1ᶠ → BegunIs (fixedOver n d eta) b rest o left right diag q
+    → PlanSpent eta w o left right diag q w′ o′ a
+    → Between (fixedOver n d eta) (runOn b (fixedOver n d eta) (begin (fixedOver n d eta) b (fill n 1ᶠ) o rest)) w′ o′ a × (weight a ≤ b)
+planned n d eta b rest w o left right diag w′ o′ q a e g t =
+    let k : length w ≡ n = ap length e ∙ length-replicate n 1ᶠ in
+    let p = fixedOver n d eta in
+    let r = runOn b p (begin p b (fill n 1ᶠ) o rest) in
+    let s : Standing p r w′ o′ left right diag a = rw k at (t .keeps d r (rw (k, e) (g .stands))) in
+    (record { within = s .within; asks = s .asks; over = λ f. ends p r w′ o′ left right diag a s f (t .spent) }, le-trans (t .less) (g .less))
+
+-- the next one, as the last asked for
+pub between-next : (p : Fixed) (r : Ended) (w o w′ o′ : List Float) (a q : Pace) → Between p r w o a → a .ask ≡ true
+    → Between p (runOn (a .budget) p (begin p (a .budget) (fill (p .n) 1ᶠ) o (a .remaining))) w′ o′ q × (weight q ≤ a .budget) → Between p r w′ o′ q × (weight q < weight a)
+between-next p r w o w′ o′ a q s e g = (rw (s .asks e .1) at (g .0), rw e (omega (arith, g .1)))
+
 -- ---- the whole run, and the answer that its end gives
 module _ (bound : ℕ) (alpha eta tau : Float) where
-  pub run-now : lt 0ᶠ tau ≡ false → EndIs (run bound alpha eta tau) (Outcome.Done 0) (fill (rows bound) 1ᶠ) (fill (rows bound) 0ᶠ)
-  unfolding run runFor fixed EndIs
-  run-now e = rw e (refl, refl, refl)
-
   pub run-later : (d o : List Float) (q : Outcome) (w′ o′ : List Float) → lt 0ᶠ tau ≡ true → d ≡ tab (rows bound) (diagonalAt bound alpha eta) → o ≡ fill (rows bound) 0ᶠ
       → EndIs (runOn cap (fixedOver (rows bound) d eta) (begin (fixedOver (rows bound) d eta) cap (fill (rows bound) 1ᶠ) o tau)) q w′ o′ → EndIs (run bound alpha eta tau) q w′ o′
   unfolding run runFor fixed

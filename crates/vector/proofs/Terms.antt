@@ -1,101 +1,97 @@
--- A term more of a Taylor series, as the code makes it, and the ways on from there. Assumes nothing.
-use mathlib.Core.Path.{_≡_, refl, _∙_}
-use Prim.Native.Nat.{ℕ, zero, suc, _+_, _-_, _<_, _≤_}
-use native.Mathlib.Numerals.{add-one}
-use native.Mathlib.Omega.{arith}
+-- A term more of a Taylor series, as the code stores it, and what its entries are. Assumes nothing.
+use mathlib.Core.Path.{_≡_, refl, sym, ap, ap₂, subst, _∙_}
+use Prim.Native.Nat.{ℕ, zero, suc}
 use mathlib.Core.Bool.{Bool, true, false, _&&_}
 use mathlib.Core.List.{List}
+use borrow.Author.Tests.{ltb-true, ltb-false}
 use lib.IntN.{pos}
-use lib.Dec.{T}
-use lib.Ieee.{Float, binary64, lt}
-use Rattle.elementary.specs.Float.{_⊕_, _⊖_, _⊗_, _⊘_, whole, 0ᶠ, 1ᶠ, finite}
-use Rattle.elementary.specs.Reply.{Reply, value, given}
+use lib.Dec.{T, ltb}
+use lib.ListN.{List·getD-eq-default}
+use lib.Ieee.{Float, nan, binary64, eq, fits}
+use lib.Ieee.Bits.{ofBits-fits}
+use lib.Ieee.Fits.{nan-fits, add-fits, sub-fits, mul-fits}
+use Rattle.elementary.specs.Float.{_⊕_, _⊖_, _⊗_, _⊘_, whole, 1ᶠ, finite}
+use Rattle.elementary.specs.Reply.{Reply}
 use Rattle.elementary.proofs.Signs.{add-finite}
-use Rattle.vector.specs.Refusals.{numerical}
-use Rattle.vector.specs.Vectors.{tab, at, before, after, every}
-use Rattle.vector.specs.Series.{Operator, rowAt, applied, term, plus, bothFinite, small, converged, summing, summed, judge, nextTerm, series}
-use Rattle.vector.specs.Inner.{operatorOver, Added, StepIs}
+use Rattle.elementary.proofs.Exact.{one-whole, mul-one-f, one-mul-f, div-one-f}
+use Rattle.vector.specs.Vectors.{tab, at, before, after}
+use Rattle.vector.specs.Series.{Operator, rowAt, applied, term, plus, converged, summed, series}
+use Rattle.vector.specs.Inner.{Fit, OneAt, Made}
 use Rattle.vector.proofs.Loops.{at-stored}
-use Rattle.vector.proofs.Lists.{tab-ext, every-ext}
+use Rattle.vector.proofs.Lists.{length-tab, at-tab, tab-ext}
 
--- ---- a term and its sum
--- a sum is finite only where its term is
-finite-sum : (v t : Float) → finite (v ⊕ t) ≡ (finite t && finite (v ⊕ t))
-finite-sum v t = go (finite t) (finite (v ⊕ t)) (λ h. add-finite binary64 v t h .1)
-  where
-    go : (a b : Bool) → (T b → T a) → b ≡ (a && b)
-    go true b h = refl
-    go false true h = absurd (h tt)
-    go false false h = refl
-
--- the two stored and tested entry by entry
-pub added : (n : ℕ) (next v : List Float) (inv : Float) (t s : List Float) (f c : Bool) → t ≡ tab n (λ i. at next i ⊗ inv) → s ≡ tab n (λ i. at v i ⊕ at next i ⊗ inv)
-    → f ≡ every n (λ i. finite (at v i ⊕ at next i ⊗ inv)) → c ≡ every n (λ i. small (at v i ⊕ at next i ⊗ inv) (at next i ⊗ inv))
-    → Added n next v inv t s f c
-unfolding plus bothFinite converged
-added n next v inv t s f c a b d e =
-    let at-t : (k : ℕ) → k < n → at t k ≡ at next k ⊗ inv = λ k h. at-stored t n _ k a h in
-    let at-s : (k : ℕ) → k < n → at s k ≡ at v k ⊕ at next k ⊗ inv = λ k h. at-stored s n _ k b h in
-    record {
-      term = a;
-      sum = b ∙ tab-ext n _ _ (λ k h. rw (at-t k h));
-      finite = d ∙ every-ext n _ _ (λ k h. rw (at-s k h, at-t k h) (finite-sum (at v k) (at next k ⊗ inv)));
-      settled = e ∙ every-ext n _ _ (λ k h. rw (at-s k h, at-t k h));
-    }
-
--- ---- what is left of the series
-next-is : (p : Operator) (eta : Float) (j : ℕ) (t s next t′ s′ : List Float) (f c : Bool) → next ≡ applied p eta t → Added (p .n) next s (1ᶠ ⊘ whole (pos j)) t′ s′ f c
-    → nextTerm p eta j t s ≡ judge f c (p .n) t′ s′
-unfolding nextTerm term
-next-is p eta j t s next t′ s′ f c o a =
-    let w : t′ ≡ term p eta j t = rw o at (a .term) in
-    rw (a .finite, a .settled, a .sum, w)
-
--- after term j of the 100, made from slices as long as the vector
-pub one-more : (n m l : ℕ) (diag left right : List Float) (eta : Float) (j : ℕ) (t s next t′ s′ : List Float) (f c : Bool) (r : Reply (List Float)) → j ≤ 100 → m ≡ n → l ≡ n
-    → next ≡ applied (operatorOver m diag left right) eta t → Added l next s (1ᶠ ⊘ whole (pos j)) t′ s′ f c
-    → series (101 - j) (operatorOver n diag left right) eta j (summing t s) ≡ r
-    → series (101 - (j + 1)) (operatorOver n diag left right) eta (j + 1) (judge f c n t′ s′) ≡ r
-unfolding series
-one-more n m l diag left right eta j t s next t′ s′ f c r h d e o a i =
-    let u : 101 - j ≡ suc (101 - (j + 1)) = omega arith in
-    let o′ : next ≡ applied (operatorOver n diag left right) eta t = rw d at o in
-    let a′ : Added n next s (1ᶠ ⊘ whole (pos j)) t′ s′ f c = rw e at a in
-    rw (← next-is (operatorOver n diag left right) eta j t s next t′ s′ f c o′ a′, add-one j) (rw (u, add-one j) at i)
-
+-- ---- a row
 -- row i from the entries beside it, as the code reads them
 pub row-is : (p : Operator) (eta : Float) (x : List Float) (i : ℕ) (v lower upper : Float) → lower ≡ before x i → upper ≡ after (p .n) x i
     → v ≡ eta ⊗ (at (p .left) i ⊗ lower ⊕ at (p .right) i ⊗ upper) ⊖ at (p .diagonal) i ⊗ at x i → v ≡ rowAt p eta x i
 unfolding rowAt
 row-is p eta x i v lower upper l u e = rw (← l, ← u) e
 
+-- a factor of 1.0 gives the entry back
+times-one : (l x : Float) → eq l 1ᶠ ≡ true → T (fits binary64 x) → l ⊗ x ≡ x
+times-one l x h t = one-mul-f binary64 l x (ap (eq l) (sym one-whole) ∙ h) t
+
+-- what the rows beside give through factors of 1.0, without their products
+pub beside-is : (left right : List Float) (i : ℕ) (lower upper : Float) → OneAt left right i × T (fits binary64 lower) × T (fits binary64 upper)
+    → lower ⊕ upper ≡ at left i ⊗ lower ⊕ at right i ⊗ upper
+beside-is left right i lower upper o =
+    ap₂ (λ (y z : Float). y ⊕ z) (sym (times-one (at left i) lower (o .0 .0) (o .1))) (sym (times-one (at right i) upper (o .0 .1) (o .2)))
+
+-- a row is a difference, and so a float; one times 1.0 / 1.0 is itself
+row-fits : (p : Operator) (eta : Float) (x : List Float) (i : ℕ) → T (fits binary64 (rowAt p eta x i))
+unfolding rowAt
+row-fits p eta x i = sub-fits binary64 _ _
+
+once : (x : Float) → T (fits binary64 x) → x ⊗ (1ᶠ ⊘ whole (pos 1)) ≡ x
+once x t = ap (λ (y : Float). x ⊗ y) (div-one-f binary64 1ᶠ (ofBits-fits binary64 _) ∙ one-whole) ∙ mul-one-f binary64 x t
+
+pub converged-at : (n m : ℕ) (s t : List Float) → n ≡ m → converged n s t ≡ converged m s t
+converged-at n m s t e = rw e
+
+-- ---- what the code stored
+module _ (p : Operator) (eta : Float) where
+  pub made : (j : ℕ) (t s t′ s′ : List Float) (c : Bool) → t′ ≡ tab (p .n) (λ i. rowAt p eta t i ⊗ (1ᶠ ⊘ whole (pos j))) → s′ ≡ tab (p .n) (λ i. at s i ⊕ rowAt p eta t i ⊗ (1ᶠ ⊘ whole (pos j)))
+      → c ≡ converged (p .n) s′ t′ → Made p eta j t s t′ s′ c
+  unfolding term applied plus
+  made j t s t′ s′ c a b e = record {
+    term-is = a ∙ tab-ext (p .n) _ _ (λ i h. rw (at-tab (p .n) (rowAt p eta t) i h));
+    sum-is = b ∙ tab-ext (p .n) _ _ (λ i h. rw (at-stored t′ (p .n) _ i a h));
+    settled = e;
+  }
+
+  -- term 1 is the operator on v: a row times 1.0 / 1.0 is that row
+  pub made-first : (v t′ s′ : List Float) (c : Bool) → t′ ≡ tab (p .n) (rowAt p eta v) → s′ ≡ tab (p .n) (λ i. at v i ⊕ rowAt p eta v i)
+      → c ≡ converged (p .n) s′ t′ → Made p eta 1 v v t′ s′ c
+  made-first v t′ s′ c a b e =
+      made 1 v v t′ s′ c (a ∙ tab-ext (p .n) _ _ (λ i h. by-one i)) (b ∙ tab-ext (p .n) _ _ (λ i h. ap (λ (x : Float). at v i ⊕ x) (by-one i))) e
+    where
+      by-one : (i : ℕ) → rowAt p eta v i ≡ rowAt p eta v i ⊗ (1ᶠ ⊘ whole (pos 1))
+      by-one i = sym (once (rowAt p eta v i) (row-fits p eta v i))
+
+-- ---- the entries of a term and of a sum
+pub fit-tab : (n : ℕ) (f : ℕ → Float) → ((i : ℕ) → T (fits binary64 (f i))) → Fit (tab n f)
+fit-tab n f h i = go (ltb i n) refl
+  where
+    go : (b : Bool) → ltb i n ≡ b → T (fits binary64 (at (tab n f) i))
+    go true e = subst (λ (x : Float). T (fits binary64 x)) (sym (at-tab n f i (ltb-true i n e))) (h i)
+    go false e = subst (λ (x : Float). T (fits binary64 x)) (sym (List·getD-eq-default (tab n f) nan (rw (length-tab n f) (ltb-false i n e)))) (nan-fits binary64)
+
+pub made-fit : (p : Operator) (eta : Float) (j : ℕ) (t s t′ s′ : List Float) (c : Bool) → Made p eta j t s t′ s′ c → Fit t′ × Fit s′
+unfolding term plus
+made-fit p eta j t s t′ s′ c m =
+    (rw (m .term-is) (fit-tab _ _ (λ i. mul-fits binary64 _ _)), rw (m .sum-is) (fit-tab _ _ (λ i. add-fits binary64 _ _)))
+
+-- a sum is finite only where its term is, and where the sum before it is
+pub finite-term : (v t : Float) → finite (v ⊕ t) ≡ (finite t && finite (v ⊕ t))
+finite-term v t = go (finite t) (finite (v ⊕ t)) (λ h. add-finite binary64 v t h .1)
+  where
+    go : (a b : Bool) → (T b → T a) → b ≡ (a && b)
+    go true b h = refl
+    go false true h = absurd (h tt)
+    go false false h = refl
+
 -- a series at its end
 pub at-end : (k : ℕ) (p : Operator) (eta : Float) (j : ℕ) (x : Reply (List Float)) → series k p eta j (summed x) ≡ x
 unfolding series
 at-end zero p eta j x = refl
 at-end (suc k) p eta j x = refl
-
-module _ (k : ℕ) (p : Operator) (eta : Float) (j : ℕ) (r : Reply (List Float)) where
-  -- not all finite
-  pub unbounded : (f c : Bool) (t s l : List Float) → f ≡ false → series k p eta j (judge f c (p .n) t s) ≡ r → StepIs false l r
-  unfolding judge StepIs
-  unbounded f c t s l e h = rw (← (rw e at h), at-end) refl
-
-  -- converged
-  pub settled : (f c b : Bool) (t s : List Float) → f ≡ true → c ≡ true → b ≡ every (p .n) (λ i. lt 0ᶠ (at s i)) → series k p eta j (judge f c (p .n) t s) ≡ r → StepIs b s r
-  unfolding judge StepIs given
-  settled f c b t s e d g h = rw (← (rw (e, d) at h), at-end, ← g) (go b)
-    where
-      go : (b : Bool) → StepIs b s (given b numerical (value s))
-      go true = (refl, refl)
-      go false = refl
-
-  -- neither
-  pub unsettled : (f c : Bool) (t s : List Float) → f ≡ true → c ≡ false → series k p eta j (judge f c (p .n) t s) ≡ r → series k p eta j (summing t s) ≡ r
-  unfolding judge
-  unsettled f c t s e d h = rw (e, d) at h
-
--- no term is left
-pub spent : (p : Operator) (eta : Float) (j : ℕ) (t s l : List Float) (r : Reply (List Float)) → 100 < j → series (101 - j) p eta j (summing t s) ≡ r → StepIs false l r
-unfolding series StepIs
-spent p eta j t s l r h i = let z : 101 - j ≡ 0 = omega arith in rw (← (rw z at i)) refl

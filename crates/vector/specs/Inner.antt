@@ -1,17 +1,18 @@
 -- What the crate's own functions hand each other. No public contract cites this file. Definitions only.
 use mathlib.Core.Path.{_≡_}
-use Prim.Native.Nat.{ℕ, zero, suc, _+_, _-_, _≤_}
+use Prim.Native.Nat.{ℕ, zero, suc, _+_, _-_, _≤_, _<_}
 use mathlib.Core.Bool.{Bool, true, false}
 use mathlib.Core.List.{List}
 use lib.IntN.{pos}
 use lib.ListN.{length}
-use lib.Ieee.{Float, inf, le, toUnsigned}
-use Rattle.elementary.specs.Float.{_⊕_, _⊖_, _⊗_, _⊘_, whole, 0ᶠ, 1ᶠ, finite, positive}
+use lib.Dec.{T}
+use lib.Ieee.{Float, binary64, inf, eq, le, fits, toUnsigned}
+use Rattle.elementary.specs.Float.{_⊕_, _⊖_, _⊗_, _⊘_, whole, 0ᶠ, 1ᶠ, positive}
 use Rattle.elementary.specs.Reply.{Reply, value, refusal}
 use Rattle.elementary.specs.Elementary.{LN, orNan}
 use Rattle.vector.specs.Refusals.{numerical}
 use Rattle.vector.specs.Vectors.{tab, at, fill, every, fold, smaller}
-use Rattle.vector.specs.Series.{Operator, plus, bothFinite, converged}
+use Rattle.vector.specs.Series.{Operator, term, plus, converged}
 use Rattle.vector.specs.Run.{Ended, vector, overCap, failed, Fixed, Going, going, cap, norm, needed, begin, rebalances, runOn}
 use Rattle.vector.specs.Values.{blankVector, refusedVector}
 use Rattle.vector.specs.declared.ValueVector.{ValueVector}
@@ -31,20 +32,31 @@ fixedOver n d eta = record { n = n; diagonal = d; eta = eta }
 abbrev pub goingOver : List Float → List Float → List Float → List Float → Float → Float → ℕ → Going
 goingOver w o left right dt remaining steps = record { w = w; o = o; left = left; right = right; dt = dt; remaining = remaining; steps = steps }
 
+-- ---- slices of floats, and factors
+-- each entry is a binary64, past the end too
+abbrev pub Fit : List Float → Type 0
+Fit l = (i : ℕ) → T (fits binary64 (at l i))
+
+-- the factors of row i are 1.0, and so are those of each row between the end rows
+abbrev pub OneAt : List Float → List Float → ℕ → Type 0
+OneAt left right i = (eq (at left i) 1ᶠ ≡ true) × (eq (at right i) 1ᶠ ≡ true)
+
+abbrev pub Ones : ℕ → List Float → List Float → Type 0
+Ones n left right = (i : ℕ) → 1 ≤ i → i + 1 < n → OneAt left right i
+
 -- ---- a term more
-pub record Added (n : ℕ) (next v : List Float) (inv : Float) (t s : List Float) (f c : Bool) : Type 0 where
-  pub term : t ≡ tab n (λ i. at next i ⊗ inv)
-  pub sum : s ≡ plus n v t
-  pub finite : f ≡ bothFinite n s t
-  pub settled : c ≡ converged n s t
+-- t′ is term j after t and s′ the sum with it, and c says whether that has converged
+pub record Made (p : Operator) (eta : Float) (j : ℕ) (t s t′ s′ : List Float) (c : Bool) : Type 0 where
+  pub term-is : t′ ≡ term p eta j t
+  pub sum-is : s′ ≡ plus (p .n) s t′
+  pub settled : c ≡ converged (p .n) s′ t′
 
 -- all as long as the vector
-pub record Sizes (n : ℕ) (diag left right term next : List Float) : Type 0 where
+pub record Sizes (n : ℕ) (diag left right term : List Float) : Type 0 where
   pub diag-n : length diag ≡ n
   pub left-n : length left ≡ n
   pub right-n : length right ≡ n
   pub term-n : length term ≡ n
-  pub next-n : length next ≡ n
 
 -- a Taylor step's flag and sum
 unfoldable pub StepIs : Bool → List Float → Reply (List Float) → Type 0
@@ -123,6 +135,12 @@ pub record PlanSpent (eta : Float) (w o left right diag : List Float) (a : Pace)
   pub keeps : (d : List Float) (r : Ended) → Standing (fixedOver (length w) d eta) r w o left right diag a → Standing (fixedOver (length w) d eta) r w′ o′ left right diag a′
   pub spent : 1 ≤ a′ .steps → a′ .budget ≡ 0
   pub less : weight a′ ≤ weight a
+
+-- between two plans: a run asks for another, or is over
+pub record Between (p : Fixed) (r : Ended) (w o : List Float) (a : Pace) : Type 0 where
+  pub within : a .budget ≤ cap
+  pub asks : a .ask ≡ true → (w ≡ fill (p .n) 1ᶠ) × (runOn (a .budget) p (begin p (a .budget) (fill (p .n) 1ᶠ) o (a .remaining)) ≡ r)
+  pub over : a .ask ≡ false → EndIs r (endBy (a .steps) (a .stop)) w o
 
 -- ---- an outcome with the vector that its run left
 unfoldable pub outcomeWith : ValueVector → Outcome → VectorAnswer

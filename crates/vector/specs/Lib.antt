@@ -1,6 +1,7 @@
 pub mod Refusals
 pub mod Vectors
 pub mod Series
+pub mod Late
 pub mod Run
 pub mod Values
 pub mod Inner

@@ -45,6 +45,7 @@ pub struct VectorAnswer {
 }
 
 // Whether a step is followed by rebalancing: steps remain, and the smallest weight is below 1e-200.
+// The run asks it of each weight: one calls for rebalancing just where the smallest does.
 pub fn must_rebalance(smallest: f64, steps: u32) -> bool
     ensures { λ r. ⌜ r ≡ rebalances smallest steps ⌝ }
 {

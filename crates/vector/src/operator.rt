@@ -2,13 +2,15 @@
 // each row.
 ghost use mathlib.Core.Path.{_≡_};
 ghost use Prim.Native.Nat.{_<_, _≤_};
-ghost use mathlib.Core.Bool.{_&&_};
+ghost use mathlib.Core.Bool.{true, _&&_};
+ghost use lib.Dec.{T};
 ghost use lib.ListN.{length};
+ghost use lib.Ieee.{binary64, fits};
 ghost use Rattle.elementary.specs.Float.{_⊕_, _⊖_, _⊗_, finite};
 ghost use Rattle.vector.specs.Vectors.{tab, at, every};
-ghost use Rattle.vector.specs.Series.{diagonalAt, leftAt, rightAt, applied};
+ghost use Rattle.vector.specs.Series.{diagonalAt, leftAt, rightAt};
 ghost use Rattle.vector.specs.Run.{rows};
-ghost use Rattle.vector.specs.Inner.{operatorOver};
+ghost use Rattle.vector.specs.Inner.{OneAt, Ones};
 
 // The diagonal a second: alpha q^2 + 2 eta, for q from -bound to bound.
 pub(crate) fn fill_shifted_diagonal(alpha: f64, eta: f64, bound: u32, diag: &mut [f64])
@@ -79,7 +81,7 @@ pub(crate) fn set_factors(o: &[f64], left: &mut [f64], right: &mut [f64]) -> boo
 }
 
 // Row i of B x, from the entries of x beside row i.
-fn row_at(
+pub(crate) fn row_at(
     x: &[f64],
     diag: &[f64],
     eta_dt: f64,
@@ -95,23 +97,37 @@ fn row_at(
     eta_dt * (left[i] * lower + right[i] * upper) - diag[i] * x[i]
 }
 
-// out = B x. The two end rows stand apart, so that the rows between them read both neighbours.
-pub(crate) fn apply_operator(
-    x: &[f64],
-    diag: &[f64],
-    eta_dt: f64,
+// What the rows beside row i give it. `plain` says that its factors are 1.0: with them no product
+// changes a bit, and none is made.
+pub(crate) fn beside(
     left: &[f64],
     right: &[f64],
-    out: &mut [f64],
-)
-    requires { ⌜ (2 ≤ length (now x)) × (length (now diag) ≡ length (now x)) × (length (now left) ≡ length (now x)) × (length (now right) ≡ length (now x)) × (length (now out) ≡ length (now x)) ⌝ }
-    ensures { λ _. ⌜ now (out .exit) ≡ applied (operatorOver (length (now (x .entry))) (now (diag .entry)) (now (left .entry)) (now (right .entry))) «eta_dt» (now (x .entry)) ⌝ }
+    plain: bool,
+    i: usize,
+    lower: f64,
+    upper: f64,
+) -> f64
+    requires { ⌜ (i < length (now left)) × (i < length (now right)) ⌝ }
+    requires { ⌜ (plain ≡ true → OneAt (now left) (now right) i × T (fits binary64 lower) × T (fits binary64 upper)) ⌝ }
+    ensures { λ r. ⌜ r ≡ at (now (left .entry)) i ⊗ lower ⊕ at (now (right .entry)) i ⊗ upper ⌝ }
 {
-    out[0] = row_at(x, diag, eta_dt, left, right, 0, 0.0, x[1]);
+    if plain {
+        return lower + upper;
+    }
+    left[i] * lower + right[i] * upper
+}
+
+// Whether both factors of every row between the end rows are 1.0, as they are until the first
+// rebalancing. It steers how a row is worked out, and changes no bit of it.
+pub(crate) fn all_ones(left: &[f64], right: &[f64]) -> bool
+    requires { ⌜ length (now right) ≡ length (now left) ⌝ }
+    ensures { λ r. ⌜ (r ≡ true → Ones (length (now (left .entry))) (now (left .entry)) (now (right .entry))) ⌝ }
+{
+    let mut all = true;
     let mut i: usize = 1;
-    while i + 1 < x.len() {
-        out[i] = row_at(x, diag, eta_dt, left, right, i, x[i - 1], x[i + 1]);
+    while i + 1 < left.len() {
+        all = all & ((left[i] == 1.0) & (right[i] == 1.0));
         i += 1;
     }
-    out[i] = row_at(x, diag, eta_dt, left, right, i, x[i - 1], 0.0);
+    all
 }

@@ -4,13 +4,13 @@ ghost use mathlib.Core.Path.{_≡_};
 ghost use Prim.Native.Nat.{_-_, _≤_};
 ghost use lib.ListN.{length};
 ghost use lib.Ieee.{inf, lt};
-ghost use mathlib.Core.Bool.{true, false};
+ghost use mathlib.Core.Bool.{true, false, not};
 ghost use Rattle.elementary.specs.Float.{_⊕_, _⊗_, _⊘_, 0ᶠ, 1ᶠ, positive};
 ghost use Rattle.elementary.specs.Elementary.{LN, orNan};
 ghost use Rattle.vector.specs.Vectors.{tab, at, fill, every, fold, larger, smaller};
-ghost use Rattle.vector.specs.Run.{boundOk, rows, cap, run, runOn, begin, divided};
+ghost use Rattle.vector.specs.Run.{boundOk, rows, cap, run, runOn, begin, divided, rebalances};
 ghost use Rattle.vector.specs.Values.{blankVector, vectorOf, refusedVector, vectorBy, ratesOk};
-ghost use Rattle.vector.specs.Inner.{fixedOver, outcomeWith, pacedOf, askedOf, stoppedOf, refusedPace, endBy, Sizes, AfterIs, BegunIs, PlanSpent, EndIs};
+ghost use Rattle.vector.specs.Inner.{fixedOver, outcomeWith, pacedOf, askedOf, stoppedOf, refusedPace, endBy, Sizes, Fit, AfterIs, BegunIs, PlanSpent, Between, weight, EndIs};
 use crate::MAX_DIM;
 use crate::MAX_EXPM_STEPS;
 use crate::MAX_INVENTORY_LOTS;
@@ -100,37 +100,46 @@ fn end_of(pace: Pace) -> Outcome
     stop
 }
 
-fn largest(w: &[f64]) -> f64
-    ensures { λ r. ⌜ r ≡ fold larger 0ᶠ (now (w .entry)) ⌝ }
+fn larger_of(x: f64, y: f64) -> f64
+    ensures { λ r. ⌜ r ≡ larger x y ⌝ }
 {
-    let mut max = 0.0;
-    let mut i: usize = 0;
-    while i < w.len() {
-        let x = w[i];
-        if max < x {
-            max = x;
-        }
-        i += 1;
-    }
-    max
+    if x < y { y } else { x }
 }
 
-// Divides each weight by max, and answers the smallest.
-fn divide(w: &mut [f64], max: f64) -> f64
-    ensures { λ _. ⌜ now (w .exit) ≡ tab (length (now (w .entry))) (λ i. at (now (w .entry)) i ⊘ max) ⌝ }
-    ensures { λ r. ⌜ r ≡ fold smaller (inf false) (now (w .exit)) ⌝ }
+// The largest weight, from 0.0, by the even and the odd places apart: neither waits for the other.
+fn largest(w: &[f64]) -> f64
+    requires { ⌜ Fit (now w) ⌝ }
+    ensures { λ r. ⌜ r ≡ fold larger 0ᶠ (now (w .entry)) ⌝ }
 {
-    let mut min = 1.0 / 0.0;
+    let mut even = 0.0;
+    let mut odd = 0.0;
+    let mut i: usize = 0;
+    while i + 1 < w.len() {
+        even = larger_of(even, w[i]);
+        odd = larger_of(odd, w[i + 1]);
+        i += 2;
+    }
+    let both = larger_of(even, odd);
+    if i < w.len() {
+        return larger_of(both, w[i]);
+    }
+    both
+}
+
+// Divides each weight by max. False where one of them then calls for rebalancing.
+fn divide(w: &mut [f64], max: f64, steps: u32) -> bool
+    ensures { λ _. ⌜ now (w .exit) ≡ tab (length (now (w .entry))) (λ i. at (now (w .entry)) i ⊘ max) ⌝ }
+    ensures { λ r. ⌜ r ≡ not (rebalances (fold smaller (inf false) (now (w .exit))) steps) ⌝ }
+{
+    let mut calm = true;
     let mut i: usize = 0;
     while i < w.len() {
         let x = w[i] / max;
         w[i] = x;
-        if x < min {
-            min = x;
-        }
+        calm = calm & !crate::must_rebalance(x, steps);
         i += 1;
     }
-    min
+    calm
 }
 
 // Moves each weight into its offset. False where one is not finite and positive.
@@ -154,24 +163,23 @@ fn rebalance(w: &mut [f64], o: &mut [f64]) -> bool
 
 // After a Taylor step, good or not: the next of the plan, or a plan to ask for, or the end.
 fn after_step(w: &mut [f64], o: &mut [f64], pace: Pace, good: bool) -> Pace
-    requires { ⌜ (length (now o) ≡ length (now w)) × (1 ≤ pace .steps) × (1 ≤ pace .budget) × (pace .budget ≤ cap) ⌝ }
+    requires { ⌜ Fit (now w) × (length (now o) ≡ length (now w)) × (1 ≤ pace .steps) × (1 ≤ pace .budget) × (pace .budget ≤ cap) ⌝ }
     ensures { λ r. ⌜ AfterIs good (length (now (w .entry))) pace (divided (length (now (w .entry))) (now (w .entry))) (now (o .entry)) r (now (w .exit)) (now (o .exit)) ⌝ }
 {
     if !good {
         return refused();
     }
     let max = largest(w);
-    let smallest = divide(w, max);
     let steps = pace.steps - 1;
     let budget = pace.budget - 1;
     let remaining = pace.remaining - pace.dt;
-    if crate::must_rebalance(smallest, steps) {
-        if rebalance(w, o) {
-            return asking(budget, remaining);
-        }
-        return refused();
+    if divide(w, max, steps) {
+        return paced(steps, budget, remaining, pace.dt);
     }
-    paced(steps, budget, remaining, pace.dt)
+    if rebalance(w, o) {
+        return asking(budget, remaining);
+    }
+    refused()
 }
 
 // New factors for the offsets, a plan for the rest of the time, and its diagonal.
@@ -186,7 +194,7 @@ fn start(
     budget: u32,
 ) -> Pace
     requires { ⌜ budget ≤ cap ⌝ }
-    requires { ⌜ Sizes (length (now o)) (now «diag_s») (now diag) (now left) (now right) (now right) ⌝ }
+    requires { ⌜ Sizes (length (now o)) (now «diag_s») (now diag) (now left) (now right) ⌝ }
     ensures { λ r. ⌜ BegunIs (fixedOver (length (now (o .entry))) (now («diag_s» .entry)) eta) budget rest (now (o .entry)) (now (left .exit)) (now (right .exit)) (now (diag .exit)) r ⌝ }
 {
     if crate::operator::set_factors(o, left, right) {
@@ -212,82 +220,75 @@ fn plan_steps(
     left: &[f64],
     right: &[f64],
     term: &mut [f64],
-    next: &mut [f64],
     eta: f64,
     first: Pace,
 ) -> Pace
     requires { ⌜ (2 ≤ length (now w)) × (length (now o) ≡ length (now w)) × (first .budget ≤ cap) ⌝ }
-    requires { ⌜ Sizes (length (now w)) (now diag) (now left) (now right) (now term) (now next) ⌝ }
+    requires { ⌜ Sizes (length (now w)) (now diag) (now left) (now right) (now term) ⌝ }
     ensures { λ r. ⌜ PlanSpent eta (now (w .entry)) (now (o .entry)) (now (left .entry)) (now (right .entry)) (now (diag .entry)) first (now (w .exit)) (now (o .exit)) r ⌝ }
 {
+    let plain = crate::operator::all_ones(left, right);
     let mut pace = first;
     while (0 < pace.steps) & (0 < pace.budget) {
-        let good = crate::series::taylor_step(w, diag, eta * pace.dt, left, right, term, next);
+        let eta_dt = eta * pace.dt;
+        let good = crate::series::taylor_step(w, diag, eta_dt, left, right, plain, term);
         pace = after_step(w, o, pace, good);
     }
     pace
 }
 
-// The run over a time above zero, from weights of 1.0: plan after plan.
-fn run_plans(
+// A plan for the rest of the time, from weights of 1.0, and its steps, with room for what they work
+// on.
+fn run_plan(
     w: &mut [f64],
     o: &mut [f64],
     diag_s: &[f64],
-    diag: &mut [f64],
-    left: &mut [f64],
-    right: &mut [f64],
-    term: &mut [f64],
-    next: &mut [f64],
     eta: f64,
-    tau: f64,
-) -> Outcome
-    requires { ⌜ (2 ≤ length (now w)) × (now w ≡ fill (length (now w)) 1ᶠ) ⌝ }
-    requires { ⌜ Sizes (length (now w)) (now o) (now «diag_s») (now diag) (now left) (now right) ⌝ }
-    requires { ⌜ (length (now term) ≡ length (now w)) × (length (now next) ≡ length (now w)) ⌝ }
-    ensures { λ r. ⌜ EndIs (runOn cap (fixedOver (length (now (w .entry))) (now («diag_s» .entry)) eta)
-        (begin (fixedOver (length (now (w .entry))) (now («diag_s» .entry)) eta) cap (fill (length (now (w .entry))) 1ᶠ) (now (o .entry)) tau))
-        r (now (w .exit)) (now (o .exit)) ⌝ }
-{
-    let mut pace = asking(MAX_EXPM_STEPS, tau);
-    while pace.ask {
-        let first = start(
-            o,
-            diag_s,
-            diag,
-            left,
-            right,
-            eta,
-            pace.remaining,
-            pace.budget,
-        );
-        pace = plan_steps(w, o, diag, left, right, term, next, eta, first);
-    }
-    end_of(pace)
-}
-
-// The same with room for what the steps work on.
-fn run_later(w: &mut [f64], o: &mut [f64], diag_s: &[f64], eta: f64, tau: f64, n: usize) -> Outcome
-    requires { ⌜ (2 ≤ n) × (n ≤ 401) × (now w ≡ fill n 1ᶠ) × (length (now o) ≡ n) × (length (now «diag_s») ≡ n) ⌝ }
-    ensures { λ r. ⌜ EndIs (runOn cap (fixedOver n (now («diag_s» .entry)) eta) (begin (fixedOver n (now («diag_s» .entry)) eta) cap (fill n 1ᶠ) (now (o .entry)) tau))
-        r (now (w .exit)) (now (o .exit)) ⌝ }
+    rest: f64,
+    budget: u32,
+    n: usize,
+) -> Pace
+    requires { ⌜ (2 ≤ n) × (n ≤ 401) × (now w ≡ fill n 1ᶠ) × (length (now o) ≡ n) × (length (now «diag_s») ≡ n) × (budget ≤ cap) ⌝ }
+    ensures { λ r. ⌜ Between (fixedOver n (now («diag_s» .entry)) eta) (runOn budget (fixedOver n (now («diag_s» .entry)) eta) (begin (fixedOver n (now («diag_s» .entry)) eta) budget (fill n 1ᶠ) (now (o .entry)) rest))
+        (now (w .exit)) (now (o .exit)) r × (weight r ≤ budget) ⌝ }
 {
     let mut diag = zeros();
     let mut left = zeros();
     let mut right = zeros();
-    let mut term = zeros();
-    let mut next = zeros();
-    run_plans(
-        w,
+    let first = start(
         o,
         diag_s,
         &mut diag[..n],
         &mut left[..n],
         &mut right[..n],
-        &mut term[..n],
-        &mut next[..n],
         eta,
-        tau,
+        rest,
+        budget,
+    );
+    let mut term = zeros();
+    plan_steps(
+        w,
+        o,
+        &diag[..n],
+        &left[..n],
+        &right[..n],
+        &mut term[..n],
+        eta,
+        first,
     )
+}
+
+// The run over a time above zero, from weights of 1.0: plan after plan.
+fn run_plans(w: &mut [f64], o: &mut [f64], diag_s: &[f64], eta: f64, tau: f64, n: usize) -> Outcome
+    requires { ⌜ (2 ≤ n) × (n ≤ 401) × (now w ≡ fill n 1ᶠ) × (length (now o) ≡ n) × (length (now «diag_s») ≡ n) ⌝ }
+    ensures { λ r. ⌜ EndIs (runOn cap (fixedOver n (now («diag_s» .entry)) eta) (begin (fixedOver n (now («diag_s» .entry)) eta) cap (fill n 1ᶠ) (now (o .entry)) tau))
+        r (now (w .exit)) (now (o .exit)) ⌝ }
+{
+    let mut pace = asking(MAX_EXPM_STEPS, tau);
+    while pace.ask {
+        pace = run_plan(w, o, diag_s, eta, pace.remaining, pace.budget, n);
+    }
+    end_of(pace)
 }
 
 // A name for the array keeps its 401 entries out of the goals.
@@ -376,7 +377,7 @@ fn run_back(v: ValueVector, alpha: f64, eta: f64, bound: u32, tau: f64) -> Vecto
     let mut o = v.log_offset;
     let mut diag_s = zeros();
     crate::operator::fill_shifted_diagonal(alpha, eta, bound, &mut diag_s[..n]);
-    let outcome = run_later(&mut w[..n], &mut o[..n], &diag_s[..n], eta, tau, n);
+    let outcome = run_plans(&mut w[..n], &mut o[..n], &diag_s[..n], eta, tau, n);
     answer_of(
         outcome,
         ValueVector {

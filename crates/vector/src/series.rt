@@ -1,22 +1,16 @@
 // One step of the exponential by its Taylor series. Every slice has an entry for each row.
 ghost use mathlib.Core.Path.{_≡_};
 ghost use Prim.Native.Nat.{_≤_};
+ghost use mathlib.Core.Bool.{true};
 ghost use lib.ListN.{length};
-ghost use lib.Ieee.{lt};
-ghost use Rattle.elementary.specs.Float.{0ᶠ};
+ghost use Rattle.elementary.specs.Float.{positive};
 ghost use Rattle.vector.specs.Vectors.{at, every, abs};
-ghost use Rattle.vector.specs.Series.{small, taylorStep};
-ghost use Rattle.vector.specs.Inner.{operatorOver, Added, Sizes, StepIs};
+ghost use Rattle.vector.specs.Series.{small, converged, taylorStep};
+ghost use Rattle.vector.specs.Inner.{operatorOver, Made, Sizes, Fit, Ones, StepIs};
 
 const TAYLOR_TOL: f64 = 1e-16;
 
 const MAX_TAYLOR_ORDER: u32 = 100;
-
-// What a new term says: is all finite, and has each entry converged.
-struct Flags {
-    finite: bool,
-    converged: bool,
-}
 
 fn magnitude(x: f64) -> f64
     ensures { λ r. ⌜ r ≡ abs x ⌝ }
@@ -31,76 +25,140 @@ fn is_small(t: f64, s: f64) -> bool
     magnitude(t) <= TAYLOR_TOL * magnitude(s)
 }
 
-// The next term, and the sum with it. A sum is finite only where its term is.
-fn add_term(next: &[f64], inv: f64, term: &mut [f64], v: &mut [f64]) -> Flags
-    requires { ⌜ (length (now term) ≡ length (now next)) × (length (now v) ≡ length (now next)) ⌝ }
-    ensures { λ r. ⌜ Added (length (now (next .entry))) (now (next .entry)) (now (v .entry)) inv (now (term .exit)) (now (v .exit)) (r .finite) (r .converged) ⌝ }
+// Whether every entry of a term is small beside its sum.
+fn all_small(t: &[f64], v: &[f64]) -> bool
+    requires { ⌜ length (now v) ≡ length (now t) ⌝ }
+    ensures { λ r. ⌜ r ≡ converged (length (now (t .entry))) (now (v .entry)) (now (t .entry)) ⌝ }
 {
-    let mut finite = true;
-    let mut converged = true;
+    let mut all = true;
     let mut i: usize = 0;
-    while i < next.len() {
-        let t = next[i] * inv;
-        let s = v[i] + t;
-        term[i] = t;
-        v[i] = s;
-        finite = finite & (s - s == 0.0);
-        converged = converged & is_small(t, s);
+    while i < t.len() {
+        all = all & is_small(t[i], v[i]);
         i += 1;
     }
-    Flags { finite, converged }
+    all
 }
 
-fn copy(from: &[f64], to: &mut [f64])
-    requires { ⌜ length (now to) ≡ length (now from) ⌝ }
-    ensures { λ _. ⌜ now (to .exit) ≡ now (from .entry) ⌝ }
+// The same. Until the first entry is small the others are not looked at: the end rows are the last to
+// settle, as a rule.
+fn has_converged(t: &[f64], v: &[f64]) -> bool
+    requires { ⌜ (1 ≤ length (now t)) × (length (now v) ≡ length (now t)) ⌝ }
+    ensures { λ r. ⌜ r ≡ converged (length (now (t .entry))) (now (v .entry)) (now (t .entry)) ⌝ }
 {
+    if is_small(t[0], v[0]) {
+        return all_small(t, v);
+    }
+    false
+}
+
+// Term 1, from v itself, and the sum with it; whether it has converged. `lower` is the entry of v
+// before row i, as it was.
+fn first_term(
+    v: &mut [f64],
+    diag: &[f64],
+    eta_dt: f64,
+    left: &[f64],
+    right: &[f64],
+    out: &mut [f64],
+) -> bool
+    requires { ⌜ 2 ≤ length (now v) ⌝ }
+    requires { ⌜ Sizes (length (now v)) (now diag) (now left) (now right) (now out) ⌝ }
+    ensures { λ r. ⌜ Made (operatorOver (length (now (v .entry))) (now (diag .entry)) (now (left .entry)) (now (right .entry))) «eta_dt» 1 (now (v .entry)) (now (v .entry)) (now (out .exit)) (now (v .exit)) r ⌝ }
+{
+    let mut lower = 0.0;
     let mut i: usize = 0;
-    while i < from.len() {
-        to[i] = from[i];
+    while i + 1 < out.len() {
+        let x = v[i];
+        let t = crate::operator::row_at(v, diag, eta_dt, left, right, i, lower, v[i + 1]);
+        out[i] = t;
+        v[i] = x + t;
+        lower = x;
         i += 1;
     }
+    let t = crate::operator::row_at(v, diag, eta_dt, left, right, i, lower, 0.0);
+    out[i] = t;
+    v[i] = v[i] + t;
+    has_converged(out, v)
 }
 
+// A later term in place of the one before it, and the sum with it; whether it has converged. The two
+// end rows stand apart, so that the rows between them read both neighbours; `lower` is the entry of x
+// before row i, as it was.
+fn next_term(
+    x: &mut [f64],
+    diag: &[f64],
+    eta_dt: f64,
+    left: &[f64],
+    right: &[f64],
+    plain: bool,
+    order: u32,
+    v: &mut [f64],
+) -> bool
+    requires { ⌜ (2 ≤ length (now x)) × Fit (now x) × (plain ≡ true → Ones (length (now x)) (now left) (now right)) ⌝ }
+    requires { ⌜ Sizes (length (now x)) (now diag) (now left) (now right) (now v) ⌝ }
+    ensures { λ r. ⌜ Made (operatorOver (length (now (x .entry))) (now (diag .entry)) (now (left .entry)) (now (right .entry))) «eta_dt» order (now (x .entry)) (now (v .entry)) (now (x .exit)) (now (v .exit)) r ⌝ }
+{
+    let inv = 1.0 / (order as f64);
+    let first = crate::operator::row_at(x, diag, eta_dt, left, right, 0, 0.0, x[1]) * inv;
+    let mut lower = x[0];
+    let mut i: usize = 1;
+    while i + 1 < x.len() {
+        let centre = x[i];
+        let beside = crate::operator::beside(left, right, plain, i, lower, x[i + 1]);
+        let t = (eta_dt * beside - diag[i] * centre) * inv;
+        x[i] = t;
+        v[i] = v[i] + t;
+        lower = centre;
+        i += 1;
+    }
+    let last = crate::operator::row_at(x, diag, eta_dt, left, right, i, lower, 0.0) * inv;
+    x[i] = last;
+    v[i] = v[i] + last;
+    x[0] = first;
+    v[0] = v[0] + first;
+    has_converged(x, v)
+}
+
+// Whether every entry is finite and above zero. A sum that is not finite never becomes so again, so
+// this one test after the last term finds it too.
 fn all_positive(v: &[f64]) -> bool
-    ensures { λ r. ⌜ r ≡ every (length (now (v .entry))) (λ i. lt 0ᶠ (at (now (v .entry)) i)) ⌝ }
+    ensures { λ r. ⌜ r ≡ every (length (now (v .entry))) (λ i. positive (at (now (v .entry)) i)) ⌝ }
 {
     let mut all = true;
     let mut i: usize = 0;
     while i < v.len() {
-        all = all & (0.0 < v[i]);
+        all = all & elementary::is_positive_finite(v[i]);
         i += 1;
     }
     all
 }
 
 // One Taylor step of v. False where a term or a sum is not finite, 100 terms do not converge, or an
-// entry is not positive; what v holds then is of no use.
+// entry is not positive; what v holds then is of no use. Nothing is copied: term 1 comes from v
+// itself, and each later one takes the place of the one before it in `term`. `plain` says that every
+// inner row's factors are 1.0.
 pub(crate) fn taylor_step(
     v: &mut [f64],
     diag: &[f64],
     eta_dt: f64,
     left: &[f64],
     right: &[f64],
+    plain: bool,
     term: &mut [f64],
-    next: &mut [f64],
 ) -> bool
-    requires { ⌜ 2 ≤ length (now v) ⌝ }
-    requires { ⌜ Sizes (length (now v)) (now diag) (now left) (now right) (now term) (now next) ⌝ }
+    requires { ⌜ (2 ≤ length (now v)) × (plain ≡ true → Ones (length (now v)) (now left) (now right)) ⌝ }
+    requires { ⌜ Sizes (length (now v)) (now diag) (now left) (now right) (now term) ⌝ }
     ensures { λ r. ⌜ StepIs r (now (v .exit)) (taylorStep (operatorOver (length (now (v .entry))) (now (diag .entry)) (now (left .entry)) (now (right .entry))) «eta_dt» (now (v .entry))) ⌝ }
+    ensures { λ _. ⌜ Fit (now (v .exit)) ⌝ }
 {
-    copy(v, term);
-    let mut order: u32 = 1;
-    while order <= MAX_TAYLOR_ORDER {
-        crate::operator::apply_operator(term, diag, eta_dt, left, right, next);
-        let flags = add_term(next, 1.0 / (order as f64), term, v);
-        if !flags.finite {
-            return false;
-        }
-        if flags.converged {
-            return all_positive(v);
-        }
+    let mut settled = first_term(v, diag, eta_dt, left, right, term);
+    let mut order: u32 = 2;
+    while (order <= MAX_TAYLOR_ORDER) & !settled {
+        settled = next_term(term, diag, eta_dt, left, right, plain, order, v);
         order += 1;
+    }
+    if settled {
+        return all_positive(v);
     }
     false
 }

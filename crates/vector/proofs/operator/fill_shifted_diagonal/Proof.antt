@@ -10,7 +10,7 @@ use lib.Dec.{T, lit≤, leb, nleb→lt}
 use lib.ListN.{length, length-set}
 use lib.Ieee.{Float, binary64, minus, ofBits, ofInt, round}
 use Rattle.elementary.specs.Float.{_⊕_, _⊖_, whole, 0ᶠ, 1ᶠ}
-use Rattle.elementary.proofs.Exact.{sub-whole, add-ints, minus-suc}
+use Rattle.elementary.proofs.Exact.{one-whole, sub-whole, add-ints, minus-suc}
 use Rattle.vector.specs.Series.{diagonalAt}
 use Rattle.vector.proofs.Loops.{filled, filled-zero, stored, filled-all}
 use Rattle.vector.proofs.operator.fill_shifted_diagonal.Statement.{statement}
@@ -19,10 +19,6 @@ use Rattle.vector.proofs.operator.fill_shifted_diagonal.Tie as tie
 zero-whole : 0ᶠ ≡ whole (pos 0)
 unfolding ofBits ofInt round
 zero-whole = refl
-
-one-whole : 1ᶠ ≡ whole (pos 1)
-unfolding ofBits ofInt round
-one-whole = refl
 
 size-minus : (a b : ℕ) → natAbs (minus a b) ≤ a + b
 size-minus a b = go (leb b a) (nleb→lt b a)

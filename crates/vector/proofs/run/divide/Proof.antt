@@ -1,17 +1,18 @@
--- The loop's invariant: the first i weights are divided, and `min` is the smallest of them, from infinity. Assumes nothing.
+-- The loop's invariant: the first i weights are divided, and `calm` says that none of them calls for rebalancing. Assumes nothing.
 use mathlib.Core.Path.{_≡_, refl, sym, ap, _∙_}
-use mathlib.Core.Logic.{⊎-elim}
 use Prim.Native.Nat.{ℕ, _-_, _≤_}
 use native.Mathlib.Nat.{le-refl}
 use native.Mathlib.Omega.{arith}
-use mathlib.Core.Bool.{false}
+use mathlib.Core.Bool.{false, not}
 use mathlib.Core.List.{List}
 use lib.ListN.{length, length-set}
-use lib.Ieee.{Float, inf, div, ofBits}
+use lib.Ieee.{Float, inf}
 use denote.Ref.{now}
 use Rattle.elementary.specs.Float.{_⊘_}
-use Rattle.vector.specs.Vectors.{from, tab, at, fold, smaller}
-use Rattle.vector.proofs.Loops.{filled, filled-zero, stored, filled-all, at-filled, fold-suc, fold-at, smaller-taken, smaller-left}
+use Rattle.vector.specs.Vectors.{at, every, fold, smaller}
+use Rattle.vector.specs.Run.{rebalances}
+use Rattle.vector.proofs.Loops.{filled, filled-zero, stored, filled-all, at-filled, every-zero, every-suc, every-at}
+use Rattle.vector.proofs.RunLaws.{calm-is}
 use Rattle.vector.proofs.run.divide.Statement.{statement}
 use Rattle.vector.proofs.run.divide.Tie as tie
 
@@ -19,15 +20,14 @@ abbrev quotient : List Float → Float → ℕ → Float
 quotient w max i = at w i ⊘ max
 
 abbrev Inv-loop : tie.InvT-loop
-Inv-loop w₀ max min₀ i₀ w min i =
-    (i ≤ length w₀) × (length w ≡ length w₀) × (w ≡ filled (quotient w₀ max) w₀ i) × (min ≡ fold smaller (inf false) (tab i (quotient w₀ max)))
+Inv-loop w₀ max steps calm₀ i₀ w calm i =
+    (i ≤ length w₀) × (length w ≡ length w₀) × (w ≡ filled (quotient w₀ max) w₀ i) × (calm ≡ every i (λ k. not (rebalances (quotient w₀ max k) steps)))
 
 abbrev μ-loop : tie.MeasureT-loop
-μ-loop w₀ max min₀ i₀ w min i = length w₀ - i
+μ-loop w₀ max steps calm₀ i₀ w calm i = length w₀ - i
 
 loop-holds : tie.Need-loop-holds Inv-loop μ-loop
-unfolding div ofBits fold from
-loop-holds c = (omega arith, refl, filled-zero _ _, refl)
+loop-holds c = (omega arith, refl, filled-zero _ _, every-zero _)
 
 mul-x : tie.Need-mul-x Inv-loop μ-loop
 mul-x c = omega arith
@@ -41,6 +41,9 @@ mul-w c = omega arith
 slice-write-w : tie.Need-slice-write-w Inv-loop μ-loop
 slice-write-w c = omega arith
 
+must-rebalance-requires : tie.Need-must-rebalance-requires Inv-loop μ-loop
+must-rebalance-requires c κs = tt
+
 add-i : tie.Need-add-i Inv-loop μ-loop
 add-i c = omega arith
 
@@ -52,16 +55,10 @@ loop-again c =
     let at-loop = c .before .before .before in
     let i = at-loop .loop .i in
     let inv = at-loop .loop .inv in
-    let x = at-loop .before .args in
+    let x = at-loop .before .before .args in
     let f = quotient (now (x .w)) (x .max) in
     let old : at (at-loop .loop .w) i ⊘ x .max ≡ f i = rw (inv .2) (ap (λ (y : Float). y ⊘ x .max) (at-filled f (now (x .w)) i i (le-refl i))) in
-    let min : c .if1 .min ≡ smaller (at-loop .loop .min) (at (at-loop .loop .w) i ⊘ x .max) =
-    ⊎-elim (λ t. t .1 ∙ smaller-taken _ _ (t .0 .taken)) (λ t. t .1 ∙ smaller-left _ _ (t .0 .left)) (c .if1 .came) in (
-      omega arith,
-      simp length-set (inv .1),
-      stored f (now (x .w)) _ i _ (omega arith) (inv .2) old,
-      min ∙ rw (old, inv .3) (sym (fold-suc smaller (inf false) i f)),
-    )
+    (omega arith, simp length-set (inv .1), stored f (now (x .w)) _ i _ (omega arith) (inv .2) old, rw (inv .3, c .must-rebalance .ensures, old) (every-suc i _))
 
 same-length : tie.Need-same-length Inv-loop μ-loop
 same-length c = omega arith
@@ -69,9 +66,10 @@ same-length c = omega arith
 returns : tie.Need-returns Inv-loop μ-loop
 returns c =
     let i = c .before .loop .i in
-    let e : i ≡ length (now (c .before .before .args .w)) = omega arith in
+    let x = c .before .before .before .args in
+    let e : i ≡ length (now (x .w)) = omega arith in
     let all = filled-all _ _ _ i _ e e (c .before .loop .inv .2) in
-    (all, c .before .loop .inv .3 ∙ fold-at _ _ _ _ _ e ∙ ap (fold smaller (inf false)) (sym all))
+    (all, c .before .loop .inv .3 ∙ every-at _ _ _ e ∙ calm-is _ (quotient (now (x .w)) (x .max)) (x .steps) ∙ ap (λ (l : List Float). not (rebalances (fold smaller (inf false) l) (x .steps))) (sym all))
 
 pub divide-spec : {M : Type 1} → statement M
 divide-spec =
@@ -84,6 +82,7 @@ divide-spec =
     slice-read-x
     mul-w
     slice-write-w
+    must-rebalance-requires
     add-i
     loop-less
     loop-again

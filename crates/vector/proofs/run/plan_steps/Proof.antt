@@ -13,51 +13,56 @@ use Rattle.vector.proofs.run.plan_steps.Statement.{statement}
 use Rattle.vector.proofs.run.plan_steps.Tie as tie
 
 abbrev Inv-loop : tie.InvT-loop
-Inv-loop w₀ o₀ diag left right term₀ next₀ eta pace₀ w o term next pace =
-    (length w ≡ length w₀) × (length o ≡ length o₀) × (length term ≡ length term₀) × (length next ≡ length next₀) × (pace .budget ≤ cap) × (weight pace ≤ weight pace₀)
+Inv-loop w₀ o₀ diag left right term₀ eta plain pace₀ w o term pace =
+    (length w ≡ length w₀) × (length o ≡ length o₀) × (length term ≡ length term₀) × (pace .budget ≤ cap) × (weight pace ≤ weight pace₀)
     × ((d : List Float) (r : Ended) → Standing (fixedOver (length w₀) d eta) r w₀ o₀ left right diag pace₀ → Standing (fixedOver (length w₀) d eta) r w o left right diag pace)
 
 abbrev μ-loop : tie.MeasureT-loop
-μ-loop w₀ o₀ diag left right term₀ next₀ eta pace₀ w o term next pace = pace .budget
+μ-loop w₀ o₀ diag left right term₀ eta plain pace₀ w o term pace = pace .budget
+
+all-ones-requires : tie.Need-all-ones-requires Inv-loop μ-loop
+all-ones-requires c κs = let z = c .before .before .before .before .before .before .pre .1 in z .right-n ∙ sym (z .left-n)
 
 loop-holds : tie.Need-loop-holds Inv-loop μ-loop
-loop-holds c = (refl, refl, refl, refl, c .before .before .before .before .before .before .before .pre .0 .2, le-refl _, λ d r s. s)
+loop-holds c = (refl, refl, refl, c .before .before .before .before .before .before .before .pre .0 .2, le-refl _, λ d r s. s)
 
 taylor-step-requires : tie.Need-taylor-step-requires Inv-loop μ-loop
 taylor-step-requires c κs =
-    let i = c .before .before .before .before .before .before .before .loop .inv in
-    let p = c .before .before .before .before .before .before .before .before .before .before .before .before .before .before .before .pre in
-    let s = p .1 in
-    rw (i .0) (p .0 .0, record { diag-n = s .diag-n; left-n = s .left-n; right-n = s .right-n; term-n = i .2 ∙ s .term-n; next-n = i .3 ∙ s .next-n })
+    let l = c .before .before .before .before .before .before in
+    let i = l .loop .inv in
+    let p = l .before .before .before .before .before .before .before .before .pre in
+    let z = p .1 in
+    let ones = rw (z .left-n) at (l .before .all-ones .ensures) in
+    rw (i .0) ((p .0 .0, ones), record { diag-n = z .diag-n; left-n = z .left-n; right-n = z .right-n; term-n = i .2 ∙ z .term-n })
 
 after-step-requires : tie.Need-after-step-requires Inv-loop μ-loop
 after-step-requires c κs =
-    let i = c .before .before .before .before .before .before .before .before .before .before .before .before .before .before .before .before .loop .inv in
-    let a = c .before .before .before .before .before .before .before .before .before .before .before .before .before .before .before .before .loop .pace in
-    let x = both-some (a .steps) (a .budget) (c .before .before .before .before .before .before .before .before .before .before .before .before .before .if1 .taken) in
-    (i .1 ∙ c .before .before .before .before .before .before .before .before .before .before .before .before .before .before .before .before .before .before .before .before .before .before .before .before .pre .0 .1 ∙ sym (c .before .before .before .before .before .before .before .before .taylor-step .kept .0 ∙ i .0), x .0, x .1, i .4)
+    let l = c .before .before .before .before .before .before .before .before .before .before .before .before .before in
+    let i = l .loop .inv in
+    let t = c .before .before .before .before .before .before .taylor-step in
+    let x = both-some (l .loop .pace .steps) (l .loop .pace .budget) (c .before .before .before .before .before .before .before .before .before .before .if1 .taken) in
+    (t .ensures .1, i .1 ∙ l .before .before .before .before .before .before .before .before .pre .0 .1 ∙ sym (t .kept .0 ∙ i .0), x .0, x .1, i .3)
 
 loop-less : tie.Need-loop-less Inv-loop μ-loop
 loop-less c =
-    let a = c .before .before .before .before .before .before .before .before .before .before .before .before .before .before .before .before .before .before .before .before .before .loop .pace in
-    after-less _ a _ _ _ _ _ (both-some (a .steps) (a .budget) (c .before .before .before .before .before .before .before .before .before .before .before .before .before .before .before .before .before .before .if1 .taken) .1) _ _ _ (c .before .before .before .before .after-step .ensures) .0
+    let a = c .before .before .before .before .before .before .before .before .before .before .before .before .before .before .before .before .before .before .loop .pace in
+    after-less _ a _ _ _ _ _ (both-some (a .steps) (a .budget) (c .before .before .before .before .before .before .before .before .before .before .before .before .before .before .before .if1 .taken) .1) _ _ _ (c .before .before .before .before .after-step .ensures) .0
 
 loop-again : tie.Need-loop-again Inv-loop μ-loop
 loop-again c =
-    let l = c .before .before .before .before .before .before .before .before .before .before .before .before .before .before .before .before .before .before .before .before .before .loop in
+    let l = c .before .before .before .before .before .before .before .before .before .before .before .before .before .before .before .before .before .before .loop in
     let i = l .inv in
-    let t = c .before .before .before .before .before .before .before .before .before .before .before .before .before .taylor-step in
+    let t = c .before .before .before .before .before .before .before .before .before .before .before .taylor-step in
     let a = c .before .before .before .before .after-step in
-    let x = both-some (l .pace .steps) (l .pace .budget) (c .before .before .before .before .before .before .before .before .before .before .before .before .before .before .before .before .before .before .if1 .taken) in
+    let x = both-some (l .pace .steps) (l .pace .budget) (c .before .before .before .before .before .before .before .before .before .before .before .before .before .before .before .if1 .taken) in
     let less = after-less _ (l .pace) _ _ _ _ _ (x .1) _ _ _ (a .ensures) in
     let n = t .kept .0 ∙ i .0 in (
       a .kept .0 ∙ n,
       a .kept .1 .0 ∙ i .1,
-      t .kept .1 .1 .1 .1 .1 .0 ∙ i .2,
-      t .kept .1 .1 .1 .1 .1 .1 .0 ∙ i .3,
-      omega (arith, less .0, i .4),
-      le-trans (less .1) (le-trans (weighs (l .pace)) (i .5)),
-      λ d r s. stands-on _ _ _ _ _ _ _ _ _ _ _ _ _ (x .0) (x .1) (rw (i .0) at (t .ensures)) (rw n at (a .ensures)) (i .6 d r s),
+      t .kept .1 .1 .1 .1 .1 .1 .0 ∙ i .2,
+      omega (arith, less .0, i .3),
+      le-trans (less .1) (le-trans (weighs (l .pace)) (i .4)),
+      λ d r s. stands-on _ _ _ _ _ _ _ _ _ _ _ _ _ (x .0) (x .1) (rw (i .0) at (t .ensures .0)) (rw n at (a .ensures)) (i .5 d r s),
     )
 
 same-length : tie.Need-same-length Inv-loop μ-loop
@@ -69,14 +74,11 @@ same-length-2 c = c .before .before .before .loop .inv .1
 same-length-3 : tie.Need-same-length-3 Inv-loop μ-loop
 same-length-3 c = c .before .before .before .loop .inv .2
 
-same-length-4 : tie.Need-same-length-4 Inv-loop μ-loop
-same-length-4 c = c .before .before .before .loop .inv .3
-
 returns : tie.Need-returns Inv-loop μ-loop
 returns c =
     let i = c .before .before .before .loop .inv in
     let a = c .before .before .before .loop .pace in
-    record { keeps = i .6; spent = one-none (a .steps) (a .budget) (c .if1 .left); less = i .5 }
+    record { keeps = i .5; spent = one-none (a .steps) (a .budget) (c .if1 .left); less = i .4 }
 
 pub plan-steps-spec : {M : Type 1} → statement M
 plan-steps-spec =
@@ -84,6 +86,7 @@ plan-steps-spec =
     (tie.spec
     Inv-loop
     μ-loop
+    all-ones-requires
     loop-holds
     taylor-step-requires
     after-step-requires
@@ -92,5 +95,4 @@ plan-steps-spec =
     same-length
     same-length-2
     same-length-3
-    same-length-4
     returns)

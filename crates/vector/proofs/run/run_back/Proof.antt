@@ -42,23 +42,23 @@ fill-shifted-diagonal-requires c κs = let b = c .before .before .before .before
 array-borrow-prefix-w : tie.Need-array-borrow-prefix-w
 array-borrow-prefix-w c = let s = c .before .before .before .before .before .before in lent-room _ _ _ (weights s) (length-replicate (rows (s .args .bound)) 1ᶠ)
 
-slice-aggregate-run-later : tie.Need-slice-aggregate-run-later
-slice-aggregate-run-later c = let s = c .before .before .before .before .before .before .before in sym (length-lent _ _ _ (weights s) (length-replicate (rows (s .args .bound)) 1ᶠ))
+slice-aggregate-run-plans : tie.Need-slice-aggregate-run-plans
+slice-aggregate-run-plans c = let s = c .before .before .before .before .before .before .before in sym (length-lent _ _ _ (weights s) (length-replicate (rows (s .args .bound)) 1ᶠ))
 
 array-borrow-prefix-o : tie.Need-array-borrow-prefix-o
 array-borrow-prefix-o c = let s = c .before .before .before .before .before .before .before in lent-room _ _ _ (offsets s) (length-replicate (rows (s .args .bound)) 0ᶠ)
 
-slice-aggregate-run-later-2 : tie.Need-slice-aggregate-run-later-2
-slice-aggregate-run-later-2 c = let s = c .before .before .before .before .before .before .before .before in sym (length-lent _ _ _ (offsets s) (length-replicate (rows (s .args .bound)) 0ᶠ))
+slice-aggregate-run-plans-2 : tie.Need-slice-aggregate-run-plans-2
+slice-aggregate-run-plans-2 c = let s = c .before .before .before .before .before .before .before .before in sym (length-lent _ _ _ (offsets s) (length-replicate (rows (s .args .bound)) 0ᶠ))
 
 array-share-prefix-diag-s : tie.Need-array-share-prefix-diag-s
 array-share-prefix-diag-s c = stored-room _ _ _ _ (c .before .before .before .fill-shifted-diagonal .ensures)
 
-slice-aggregate-run-later-3 : tie.Need-slice-aggregate-run-later-3
-slice-aggregate-run-later-3 c = sym (stored-length _ _ _ _ (c .before .before .before .before .fill-shifted-diagonal .ensures))
+slice-aggregate-run-plans-3 : tie.Need-slice-aggregate-run-plans-3
+slice-aggregate-run-plans-3 c = sym (stored-length _ _ _ _ (c .before .before .before .before .fill-shifted-diagonal .ensures))
 
-run-later-requires : tie.Need-run-later-requires
-run-later-requires c κs =
+run-plans-requires : tie.Need-run-plans-requires
+run-plans-requires c κs =
     let s = c .before .before .before .before .before .before .before .before .before in
     let l = s .pre .0 .0 in
     let h = s .pre .0 .1 in (
@@ -81,7 +81,7 @@ returns c =
     let zeros = length-replicate n 0ᶠ in
     c .answer-of .ensures
     ∙ answered _ _ _ _ _ _ _ _
-    (run-later _ _ _ _ _ _ _ _ _ (s .pre .0 .2) (stored-part _ _ _ _ (l .before .before .before .before .before .fill-shifted-diagonal .ensures)) (lent _ _ _ (offsets s) zeros) (l .run-later .ensures))
+    (run-later _ _ _ _ _ _ _ _ _ (s .pre .0 .2) (stored-part _ _ _ _ (l .before .before .before .before .before .fill-shifted-diagonal .ensures)) (lent _ _ _ (offsets s) zeros) (l .run-plans .ensures))
     refl (back _ _ _ (weights s) ones _) (back _ _ _ (offsets s) zeros _)
 
 pub run-back-spec : {M : Type 1} → statement M
@@ -96,11 +96,11 @@ run-back-spec =
     slice-aggregate-fill-shifted-diagonal
     fill-shifted-diagonal-requires
     array-borrow-prefix-w
-    slice-aggregate-run-later
+    slice-aggregate-run-plans
     array-borrow-prefix-o
-    slice-aggregate-run-later-2
+    slice-aggregate-run-plans-2
     array-share-prefix-diag-s
-    slice-aggregate-run-later-3
-    run-later-requires
+    slice-aggregate-run-plans-3
+    run-plans-requires
     answer-of-requires
     returns)

@@ -3,15 +3,14 @@ use mathlib.Core.Path.{_≡_, _∙_}
 use Prim.Native.Nat.{_-_, _≤_}
 use native.Mathlib.Omega.{arith}
 use lib.ListN.{length}
-use lib.Ieee.{lt}
-use Rattle.elementary.specs.Float.{0ᶠ}
+use Rattle.elementary.specs.Float.{positive}
 use Rattle.vector.specs.Vectors.{at, every}
 use Rattle.vector.proofs.Loops.{every-zero, every-suc, every-at}
 use Rattle.vector.proofs.series.all_positive.Statement.{statement}
 use Rattle.vector.proofs.series.all_positive.Tie as tie
 
 abbrev Inv-loop : tie.InvT-loop
-Inv-loop v all₀ i₀ all i = (i ≤ length v) × (all ≡ every i (λ k. lt 0ᶠ (at v k)))
+Inv-loop v all₀ i₀ all i = (i ≤ length v) × (all ≡ every i (λ k. positive (at v k)))
 
 abbrev μ-loop : tie.MeasureT-loop
 μ-loop v all₀ i₀ all i = length v - i
@@ -19,11 +18,15 @@ abbrev μ-loop : tie.MeasureT-loop
 loop-holds : tie.Need-loop-holds Inv-loop μ-loop
 loop-holds c = (omega arith, every-zero _)
 
-mul-all : tie.Need-mul-all Inv-loop μ-loop
-mul-all c = omega arith
+mul-is-positive-finite : tie.Need-mul-is-positive-finite Inv-loop μ-loop
+mul-is-positive-finite c = omega arith
 
-shared-slice-read-all : tie.Need-shared-slice-read-all Inv-loop μ-loop
-shared-slice-read-all c = omega arith
+shared-slice-read-is-positive-finite :
+    tie.Need-shared-slice-read-is-positive-finite Inv-loop μ-loop
+shared-slice-read-is-positive-finite c = omega arith
+
+is-positive-finite-requires : tie.Need-is-positive-finite-requires Inv-loop μ-loop
+is-positive-finite-requires c κs = tt
 
 add-i : tie.Need-add-i Inv-loop μ-loop
 add-i c = omega arith
@@ -32,7 +35,7 @@ loop-less : tie.Need-loop-less Inv-loop μ-loop
 loop-less c = omega arith
 
 loop-again : tie.Need-loop-again Inv-loop μ-loop
-loop-again c = (omega arith, rw (c .before .before .loop .inv .1) (every-suc (c .before .before .loop .i) _))
+loop-again c = (omega arith, rw (c .before .before .before .loop .inv .1, c .is-positive-finite .ensures) (every-suc (c .before .before .before .loop .i) _))
 
 returns : tie.Need-returns Inv-loop μ-loop
 returns c = c .before .loop .inv .1 ∙ every-at _ _ _ (omega arith)
@@ -44,8 +47,9 @@ all-positive-spec =
     Inv-loop
     μ-loop
     loop-holds
-    mul-all
-    shared-slice-read-all
+    mul-is-positive-finite
+    shared-slice-read-is-positive-finite
+    is-positive-finite-requires
     add-i
     loop-less
     loop-again

@@ -1,111 +1,117 @@
--- What is left of the series from the last term and the sum is the whole step. Assumes nothing.
+-- What is left of the series from the last term and the sum is what was left after the first. Assumes nothing.
 use mathlib.Core.Path.{_≡_, refl, sym, _∙_}
-use Prim.Native.Nat.{_+_, _-_, _≤_}
+use Prim.Native.Nat.{ℕ, _-_, _≤_, _<_}
 use native.Mathlib.Omega.{arith}
-use borrow.Author.Tests.{not-true, not-false}
+use mathlib.Core.Bool.{Bool, true, false, not, _&&_, false≢true}
+use borrow.Author.Tests.{leb-true, leb-false}
+use lib.Dec.{leb}
 use lib.ListN.{length}
-use denote.Ref.{now}
-use Rattle.vector.specs.Series.{summing, judge, series, taylorStep}
-use Rattle.vector.specs.Inner.{operatorOver}
+use Rattle.vector.specs.Late.{late, lateSeries}
+use Rattle.vector.specs.Inner.{operatorOver, Fit}
 use Rattle.vector.proofs.Loops.{every-at}
-use Rattle.vector.proofs.Terms.{one-more, unbounded, settled, unsettled, spent}
+use Rattle.vector.proofs.Terms.{made-fit}
+use Rattle.vector.proofs.Late.{one-more, settled, spent, from-first}
 use Rattle.vector.proofs.series.taylor_step.Statement.{statement}
 use Rattle.vector.proofs.series.taylor_step.Tie as tie
 
+-- the loop's test
+both : (n : ℕ) (b : Bool) → (leb n 100 && not b) ≡ true → (n ≤ 100) × (b ≡ false)
+both n b e = go (leb n 100) b refl e
+  where
+    go : (a b : Bool) → leb n 100 ≡ a → (a && not b) ≡ true → (n ≤ 100) × (b ≡ false)
+    go true true h e = absurd (false≢true e)
+    go true false h e = (leb-true n 100 h, refl)
+    go false b h e = absurd (false≢true e)
+
+neither : (n : ℕ) (b : Bool) → (leb n 100 && not b) ≡ false → b ≡ false → 100 < n
+neither n b e f = go (leb n 100) refl (rw f at e)
+  where
+    go : (a : Bool) → leb n 100 ≡ a → (a && true) ≡ false → 100 < n
+    go true h e = absurd (false≢true (sym e))
+    go false h e = leb-false n 100 h
+
 abbrev Inv-loop : tie.InvT-loop
-Inv-loop v₀ diag eta-dt left right term₀ next₀ order₀ v term next order =
-    (1 ≤ order) × (order ≤ 101) × (length v ≡ length v₀) × (length term ≡ length v₀) × (length next ≡ length v₀)
-    × (series (101 - order) (operatorOver (length v₀) diag left right) eta-dt order (summing term v) ≡ taylorStep (operatorOver (length v₀) diag left right) eta-dt v₀)
+Inv-loop v₀ diag eta-dt left right plain term₀ settled₀ order₀ v term settled order =
+    (2 ≤ order) × (order ≤ 101) × (length v ≡ length v₀) × (length term ≡ length v₀) × Fit term × Fit v
+    × (lateSeries (101 - order) (operatorOver (length v₀) diag left right) eta-dt order (late settled (length v₀) term v)
+    ≡ lateSeries (101 - order₀) (operatorOver (length v₀) diag left right) eta-dt order₀ (late settled₀ (length v₀) term₀ v₀))
 
 abbrev μ-loop : tie.MeasureT-loop
-μ-loop v₀ diag eta-dt left right term₀ next₀ order₀ v term next order = 101 - order
+μ-loop v₀ diag eta-dt left right plain term₀ settled₀ order₀ v term settled order = 101 - order
 
-copy-requires : tie.Need-copy-requires Inv-loop μ-loop
-copy-requires c κs = c .before .before .before .before .before .before .before .before .pre .1 .term-n
+first-term-requires : tie.Need-first-term-requires Inv-loop μ-loop
+first-term-requires c κs =
+    let p = c .before .before .before .before .before .before .before .pre in
+    (p .0 .0, p .1)
 
 loop-holds : tie.Need-loop-holds Inv-loop μ-loop
-unfolding taylorStep
-loop-holds c = (omega arith, omega arith, refl, omega arith, omega arith, rw (c .before .before .copy .ensures))
+loop-holds c =
+    let f = c .before .before .before .before .first-term in
+    let z = c .before .before .before .before .before .before .before .before .before .before .before .before .pre .1 in
+    let fit = made-fit _ _ _ _ _ _ _ _ (f .ensures) in
+    (omega arith, omega arith, refl, f .kept .1 .1 .1 .1 .1 .0 ∙ z .term-n ∙ sym (f .kept .0), fit .0, fit .1, refl)
 
-apply-operator-requires : tie.Need-apply-operator-requires Inv-loop μ-loop
-apply-operator-requires c κs = omega arith
-
-int-to-float-add-term : tie.Need-int-to-float-add-term Inv-loop μ-loop
-int-to-float-add-term c = tt
-
-add-term-requires : tie.Need-add-term-requires Inv-loop μ-loop
-add-term-requires c κs = omega arith
-
--- what is left after a term more
-abbrev Loop : tie.After-add-term Inv-loop μ-loop → tie.At-loop Inv-loop μ-loop
-Loop c = c .before .before .before .before .before .before .before .before .before .before .before
-
-left-over : (c : tie.After-add-term Inv-loop μ-loop) →
-    let a = Loop c .before .before .before .before .before .before .before .before .before .before .before .before .args in
-    let p = operatorOver (length (now (a .v))) (now (a .diag)) (now (a .left)) (now (a .right)) in
-    series (101 - (Loop c .loop .order + 1)) p (a .eta-dt) (Loop c .loop .order + 1)
-    (judge (c .add-term .result .finite) (c .add-term .result .converged) (length (now (a .v))) (c .add-term .last .1 .1 .0) (c .add-term .last .1 .1 .1 .0))
-    ≡ taylorStep p (a .eta-dt) (now (a .v))
-left-over c =
-    one-more _ _ _ _ _ _ _ (Loop c .loop .order) _ _ _ _ _ _ _ _ (omega arith) (omega arith) (omega arith)
-    (c .before .before .before .before .before .before .before .apply-operator .ensures) (c .add-term .ensures) (Loop c .loop .inv .5)
-
-same-length : tie.Need-same-length Inv-loop μ-loop
-same-length c = c .before .before .before .before .before .before .add-term .kept .1 .1 .1 .0 ∙ c .before .before .before .before .before .before .before .before .before .before .before .before .before .before .before .before .before .loop .inv .2
-
-same-length-2 : tie.Need-same-length-2 Inv-loop μ-loop
-same-length-2 c = c .before .before .before .before .before .before .add-term .kept .1 .1 .0 ∙ c .before .before .before .before .before .before .before .before .before .before .before .before .before .before .before .before .before .loop .inv .3 ∙ sym (c .before .before .before .before .before .before .before .before .before .before .before .before .before .before .before .before .before .before .before .before .before .before .before .before .before .before .before .before .before .pre .1 .term-n)
-
-same-length-3 : tie.Need-same-length-3 Inv-loop μ-loop
-same-length-3 c = c .before .before .before .before .before .before .before .before .before .before .before .before .before .apply-operator .kept .1 .1 .1 .1 .1 .0 ∙ c .before .before .before .before .before .before .before .before .before .before .before .before .before .before .before .before .before .loop .inv .4 ∙ sym (c .before .before .before .before .before .before .before .before .before .before .before .before .before .before .before .before .before .before .before .before .before .before .before .before .before .before .before .before .before .pre .1 .next-n)
-
-returns : tie.Need-returns Inv-loop μ-loop
-returns c = unbounded _ _ _ _ _ _ _ _ _ _ (not-true _ (c .if1 .taken)) (left-over (c .before .before .before .before .before .before))
-
-all-positive-requires : tie.Need-all-positive-requires Inv-loop μ-loop
-all-positive-requires c κs = tt
-
-same-length-4 : tie.Need-same-length-4 Inv-loop μ-loop
-same-length-4 c = c .before .before .before .before .before .before .before .before .before .add-term .kept .1 .1 .1 .0 ∙ c .before .before .before .before .before .before .before .before .before .before .before .before .before .before .before .before .before .before .before .before .loop .inv .2
-
-same-length-5 : tie.Need-same-length-5 Inv-loop μ-loop
-same-length-5 c = c .before .before .before .before .before .before .before .before .before .add-term .kept .1 .1 .0 ∙ c .before .before .before .before .before .before .before .before .before .before .before .before .before .before .before .before .before .before .before .before .loop .inv .3 ∙ sym (c .before .before .before .before .before .before .before .before .before .before .before .before .before .before .before .before .before .before .before .before .before .before .before .before .before .before .before .before .before .before .before .before .pre .1 .term-n)
-
-same-length-6 : tie.Need-same-length-6 Inv-loop μ-loop
-same-length-6 c = c .before .before .before .before .before .before .before .before .before .before .before .before .before .before .before .before .apply-operator .kept .1 .1 .1 .1 .1 .0 ∙ c .before .before .before .before .before .before .before .before .before .before .before .before .before .before .before .before .before .before .before .before .loop .inv .4 ∙ sym (c .before .before .before .before .before .before .before .before .before .before .before .before .before .before .before .before .before .before .before .before .before .before .before .before .before .before .before .before .before .before .before .before .pre .1 .next-n)
-
-returns-2 : tie.Need-returns-2 Inv-loop μ-loop
-returns-2 c =
-    settled _ _ _ _ _ _ _ _ _ _ (not-false _ (c .before .before .before .if1 .left)) (c .before .before .if2 .taken) (c .all-positive .ensures ∙ every-at _ _ _ (omega arith))
-    (left-over (c .before .before .before .before .before .before .before .before .before))
+next-term-requires : tie.Need-next-term-requires Inv-loop μ-loop
+next-term-requires c κs =
+    let l = c .before .before .before in
+    let i = l .loop .inv in
+    let k = l .before .before .before .before .before .first-term .kept .0 in
+    let p = l .before .before .before .before .before .before .before .before .before .before .before .before .before .pre in
+    let z = p .1 in
+    rw (i .3 ∙ k) ((p .0 .0, i .4, p .0 .1), record { diag-n = z .diag-n; left-n = z .left-n; right-n = z .right-n; term-n = i .2 ∙ k })
 
 add-order : tie.Need-add-order Inv-loop μ-loop
 add-order c = omega arith
 
 loop-less : tie.Need-loop-less Inv-loop μ-loop
-loop-less c = omega arith
+loop-less c =
+    let l = c .before .before .before .before .before .before .before .before .loop in
+    omega (arith, both (l .order) (l .settled) (c .before .before .before .before .before .before .before .loop-test .taken) .0)
 
 loop-again : tie.Need-loop-again Inv-loop μ-loop
-loop-again c = (
-  omega arith,
-  omega arith,
-  c .before .before .before .before .before .before .before .add-term .kept .1 .1 .1 .0 ∙ c .before .before .before .before .before .before .before .before .before .before .before .before .before .before .before .before .before .before .loop .inv .2,
-  c .before .before .before .before .before .before .before .add-term .kept .1 .1 .0 ∙ c .before .before .before .before .before .before .before .before .before .before .before .before .before .before .before .before .before .before .loop .inv .3,
-  c .before .before .before .before .before .before .before .before .before .before .before .before .before .before .apply-operator .kept .1 .1 .1 .1 .1 .0 ∙ c .before .before .before .before .before .before .before .before .before .before .before .before .before .before .before .before .before .before .loop .inv .4,
-  unsettled _ _ _ _ _ _ _ _ _ (not-false _ (c .before .if1 .left)) (c .if2 .left) (left-over (c .before .before .before .before .before .before .before)),
-)
+loop-again c =
+    let l = c .before .before .before .before .before .before .before .before .loop in
+    let i = l .inv in
+    let t = c .before .before .before .before .next-term in
+    let x = both (l .order) (l .settled) (c .before .before .before .before .before .before .before .loop-test .taken) in
+    let fit = made-fit _ _ _ _ _ _ _ _ (t .ensures) in (
+      omega arith,
+      omega (arith, x .0),
+      t .kept .1 .1 .1 .1 .1 .1 .1 .0 ∙ i .2,
+      t .kept .0 ∙ i .3,
+      fit .0,
+      fit .1,
+      one-more _ _ (l .order) (l .settled) _ _ _ _ _ _ (x .0) (x .1) (rw (i .3) at (t .ensures)) (i .6),
+    )
 
-same-length-7 : tie.Need-same-length-7 Inv-loop μ-loop
-same-length-7 c = c .before .loop .inv .2
+all-positive-requires : tie.Need-all-positive-requires Inv-loop μ-loop
+all-positive-requires c κs = tt
 
-same-length-8 : tie.Need-same-length-8 Inv-loop μ-loop
-same-length-8 c = c .before .loop .inv .3 ∙ sym (c .before .before .before .before .before .before .before .before .before .before .before .before .before .pre .1 .term-n)
+same-length : tie.Need-same-length Inv-loop μ-loop
+same-length c = let l = c .before .before .before .before in l .loop .inv .2 ∙ l .before .before .before .before .before .first-term .kept .0
 
-same-length-9 : tie.Need-same-length-9 Inv-loop μ-loop
-same-length-9 c = c .before .loop .inv .4 ∙ sym (c .before .before .before .before .before .before .before .before .before .before .before .before .before .pre .1 .next-n)
+same-length-2 : tie.Need-same-length-2 Inv-loop μ-loop
+same-length-2 c = let l = c .before .before .before .before in l .loop .inv .3 ∙ l .before .before .before .before .before .first-term .kept .0 ∙ sym (l .before .before .before .before .before .before .before .before .before .before .before .before .before .pre .1 .term-n)
 
-returns-3 : tie.Need-returns-3 Inv-loop μ-loop
-returns-3 c = spent _ _ _ _ _ _ _ (omega arith) (c .before .loop .inv .5)
+returns : tie.Need-returns Inv-loop μ-loop
+returns c =
+    let l = c .before .before .before .before in
+    let i = l .loop .inv in
+    let f = l .before .before .before .before .before .first-term in
+    (settled _ _ _ _ _ _ _ _ _ (c .before .before .if1 .taken) (c .all-positive .ensures ∙ every-at _ _ _ (i .2 ∙ f .kept .0)) (from-first _ _ _ _ _ _ _ _ _ _ _ _ _ _ _ (f .kept .0) (f .ensures) (i .6)), i .5)
+
+same-length-3 : tie.Need-same-length-3 Inv-loop μ-loop
+same-length-3 c = let l = c .before .before in l .loop .inv .2 ∙ l .before .before .before .before .before .first-term .kept .0
+
+same-length-4 : tie.Need-same-length-4 Inv-loop μ-loop
+same-length-4 c = let l = c .before .before in l .loop .inv .3 ∙ l .before .before .before .before .before .first-term .kept .0 ∙ sym (l .before .before .before .before .before .before .before .before .before .before .before .before .before .pre .1 .term-n)
+
+returns-2 : tie.Need-returns-2 Inv-loop μ-loop
+returns-2 c =
+    let l = c .before .before in
+    let i = l .loop .inv in
+    let f = l .before .before .before .before .before .first-term in
+    (spent _ _ _ _ _ _ _ _ (neither _ _ (c .before .loop-test .left) (c .if1 .left)) (c .if1 .left) (from-first _ _ _ _ _ _ _ _ _ _ _ _ _ _ _ (f .kept .0) (f .ensures) (i .6)), i .5)
 
 pub taylor-step-spec : {M : Type 1} → statement M
 taylor-step-spec =
@@ -113,24 +119,16 @@ taylor-step-spec =
     (tie.spec
     Inv-loop
     μ-loop
-    copy-requires
+    first-term-requires
     loop-holds
-    apply-operator-requires
-    int-to-float-add-term
-    add-term-requires
-    same-length
-    same-length-2
-    same-length-3
-    returns
-    all-positive-requires
-    same-length-4
-    same-length-5
-    same-length-6
-    returns-2
+    next-term-requires
     add-order
     loop-less
     loop-again
-    same-length-7
-    same-length-8
-    same-length-9
-    returns-3)
+    all-positive-requires
+    same-length
+    same-length-2
+    returns
+    same-length-3
+    same-length-4
+    returns-2)
