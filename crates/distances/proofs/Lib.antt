@@ -5,3 +5,4 @@ pub mod Counting
 pub mod Presence
 pub mod Weights
 pub mod Refusing
+pub mod Reading

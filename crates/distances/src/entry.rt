@@ -3,15 +3,11 @@ ghost use mathlib.Core.Path.{_≡_};
 ghost use mathlib.Core.Bool.{true};
 ghost use Prim.Native.Nat.{_≤_};
 ghost use lib.IntN.{natAbs};
-ghost use Rattle.elementary.specs.Float.{0ᶠ};
-ghost use Rattle.vector.specs.Vectors.{fill};
 ghost use Rattle.vector.specs.Run.{boundOk, run};
-ghost use Rattle.vector.specs.Values.{blankVector};
 ghost use Rattle.distances.specs.FloatEntry.{refusedEntry, withVector, answerBy, floatsOk};
 use crate::Answer;
 use crate::FloatAnswer;
 use crate::Sides;
-use vector::MAX_DIM;
 use vector::MAX_INVENTORY_LOTS;
 use vector::Outcome;
 use vector::ValueVector;
@@ -34,30 +30,15 @@ pub(crate) fn bound_fits(bound: u32) -> bool
     (1 <= bound) & (bound <= MAX_INVENTORY_LOTS)
 }
 
-// A name for the array keeps its 401 entries out of the goals.
-fn zeros() -> [f64; MAX_DIM]
-    ensures { λ r. ⌜ r ≡ fill 401 0ᶠ ⌝ }
-{
-    [0.0; MAX_DIM]
-}
-
-// A vector of no entries: every place is 0.0.
-fn blank() -> ValueVector
-    ensures { λ r. ⌜ r ≡ blankVector ⌝ }
-{
-    ValueVector {
-        w: zeros(),
-        log_offset: zeros(),
-        n: 0,
-    }
-}
-
+// A refusal, by its number, with the blank vector.
 pub(crate) fn refused_entry(number: u8) -> FloatAnswer
     ensures { λ r. ⌜ r ≡ refusedEntry number ⌝ }
 {
+    let a = vector::refused_vector(number);
+    let vector = a.vector;
     FloatAnswer {
         answer: Answer::Refused(number),
-        vector: blank(),
+        vector,
     }
 }
 

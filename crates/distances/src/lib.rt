@@ -1,8 +1,10 @@
 // The exact distances at a holding, from a value vector; and the float entry over both.
 mod entry;
+mod from_vector;
 mod places;
 pub mod refusals;
 
+pub use from_vector::answer_from;
 ghost use mathlib.Core.Path.{_≡_};
 ghost use Rattle.distances.specs.Distances.{within, fine, exactDistances};
 ghost use Rattle.distances.specs.FloatEntry.{floatEntry};

@@ -1,12 +1,11 @@
 // The distances at one place of a value vector.
 ghost use mathlib.Core.Path.{_≡_};
-ghost use Prim.Native.Nat.{suc, _<_, _≤_};
+ghost use Prim.Native.Nat.{_<_, _≤_};
 ghost use mathlib.Core.Bool.{_&&_};
 ghost use lib.IntN.{natAbs};
-ghost use lib.Dec.{ltb};
 ghost use Rattle.elementary.specs.Float.{_⊕_, _⊖_, _⊘_, positive};
 ghost use Rattle.elementary.specs.Elementary.{LN, orNan};
-ghost use Rattle.distances.specs.Distances.{lengthOk, place, bidAt, askAt, exactAt};
+ghost use Rattle.distances.specs.Distances.{lengthOk, place, fine, sides, exactAt};
 use crate::Distance;
 use crate::Sides;
 use vector::MAX_INVENTORY_LOTS;
@@ -45,45 +44,45 @@ fn distance_between(w: f64, o: f64, x: f64, p: f64, k: f64, base: f64) -> f64
     ((a - b) + (o - p)) / k + base
 }
 
-fn bid_at(v: ValueVector, k: f64, base: f64, i: usize) -> Distance
-    requires { ⌜ (i < v .n) × (v .n ≤ 401) ⌝ }
-    ensures { λ r. ⌜ r ≡ bidAt (ltb (suc i) (v .n)) v k base i ⌝ }
+// Both sides, where both are fine.
+fn both(bid: Distance, ask: Distance) -> Sides
+    ensures { λ r. ⌜ r ≡ sides (fine bid && fine ask) bid ask ⌝ }
 {
-    let up = i + 1;
-    if up < v.n {
-        let w = v.w[i];
-        let o = v.log_offset[i];
-        let x = v.w[up];
-        let p = v.log_offset[up];
-        return Distance::At(distance_between(w, o, x, p, k, base));
-    }
-    Distance::Absent
-}
-
-fn ask_at(v: ValueVector, k: f64, base: f64, i: usize) -> Distance
-    requires { ⌜ (i < v .n) × (v .n ≤ 401) ⌝ }
-    ensures { λ r. ⌜ r ≡ askAt v k base i ⌝ }
-{
-    if 0 < i {
-        let down = i - 1;
-        let w = v.w[i];
-        let o = v.log_offset[i];
-        let x = v.w[down];
-        let p = v.log_offset[down];
-        return Distance::At(distance_between(w, o, x, p, k, base));
-    }
-    Distance::Absent
-}
-
-// The distances at place i.
-pub(crate) fn sides_at(v: ValueVector, k: f64, base: f64, i: usize) -> Sides
-    requires { ⌜ (i < v .n) × (v .n ≤ 401) ⌝ }
-    ensures { λ r. ⌜ r ≡ exactAt v k base i ⌝ }
-{
-    let bid = bid_at(v, k, base, i);
-    let ask = ask_at(v, k, base, i);
     if crate::is_fine(bid) & crate::is_fine(ask) {
         return Sides::Distances(bid, ask);
     }
     Sides::Refused(NUMERICAL)
+}
+
+// The distances at place i. The vector is read here and handed on to no other function, as a call would
+// copy it.
+pub(crate) fn sides_at(v: ValueVector, k: f64, base: f64, i: usize) -> Sides
+    requires { ⌜ (i < v .n) × (v .n ≤ 401) ⌝ }
+    ensures { λ r. ⌜ r ≡ exactAt v k base i ⌝ }
+{
+    let w = v.w[i];
+    let o = v.log_offset[i];
+    let up = i + 1;
+    if up < v.n {
+        let x = v.w[up];
+        let p = v.log_offset[up];
+        let bid = Distance::At(distance_between(w, o, x, p, k, base));
+        if 0 < i {
+            let down = i - 1;
+            let y = v.w[down];
+            let r = v.log_offset[down];
+            return both(bid, Distance::At(distance_between(w, o, y, r, k, base)));
+        }
+        return both(bid, Distance::Absent);
+    }
+    if 0 < i {
+        let down = i - 1;
+        let y = v.w[down];
+        let r = v.log_offset[down];
+        return both(
+            Distance::Absent,
+            Distance::At(distance_between(w, o, y, r, k, base)),
+        );
+    }
+    both(Distance::Absent, Distance::Absent)
 }

@@ -12,3 +12,5 @@ pub mod Words
 pub mod Billionths
 pub mod Wrapper
 pub mod Presence
+pub mod Lots
+pub mod OneRun

@@ -78,7 +78,7 @@ lot-passed c e =
     let u = and-yes (p && l && b && t) (leZ (pos 0) (c .«min_spread»)) (subst T (sym e) tt) .0 in
     and-yes p l (and-yes (p && l) b (and-yes (p && l && b) t u .0) .0) .1
 
-spread-passed : (c : GLFTConfig) → T (configLimits c) → T (amountOk (c .«min_spread»))
+pub spread-passed : (c : GLFTConfig) → T (configLimits c) → T (amountOk (c .«min_spread»))
 unfolding configLimits
 spread-passed c h =
     let p = amountOk (c .«risk_aversion») && amountOk (c .«order_intensity_k») && amountOk (c .«intensity_scale_a») && amountOk (c .«lot_size») in

@@ -23,7 +23,7 @@ use Rattle.quote.specs.Configuration.{timeOk, configLimits, configOk, co
 use Rattle.quote.specs.Model.{lots, marketOk, holdingOk, modelOk, modelOf, modelFrom, modelBy, modelIf, modelLimits, newModel, tauOf}
 use Rattle.quote.specs.ClosedForm.{slope, bidForm, askForm, formIf, closedFormDistances}
 use Rattle.quote.specs.Quotes.{side, widening, bidPrice, askPrice, Judged, quoted, refused, judgeIf, judge, quotesBy, buildQuotes, withSteps, exactBy, exactFrom, exactIf, exactAnswer, exactQuotes, wrapped, optimalQuotes, ofJudged, closedBy, closedFrom, closedAnswer, closedFormQuotes}
-use Rattle.quote.specs.Promises.{Checked, Passed, Within, Ordered, Priced, by-13, by-14, ConfigRefused, config-2, config-1, ConfigRefusals, ModelRefusals, FormFails, by-slope, by-bid, by-ask, ExactRefusals, OptimalRefusals, ClosedRefusals}
+use Rattle.quote.specs.Promises.{Checked, Passed, Within, Ordered, Priced, PricedOf, by-13, by-14, ConfigRefused, config-2, config-1, ConfigRefusals, ModelRefusals, FormFails, by-slope, by-bid, by-ask, ExactRefusals, OptimalRefusals, ClosedRefusals}
 use Rattle.quote.specs.declared.GLFTConfig.{GLFTConfig}
 use Rattle.quote.specs.declared.ConfigAnswer.the-variants as ConfigAnswer
 use Rattle.quote.specs.declared.Model.{Model}
@@ -135,10 +135,6 @@ unfolding withSteps
 with-steps-refused s (quoted q) n e = cc
 with-steps-refused s (refused r) n e = cc
 
--- the distances of an answer
-abbrev PricedOf : ℤ → ℤ → Answer → ℕ → Type 0
-PricedOf mid least r n = (b : Distance) × (a : Distance) × (s : ℕ) × (r ≡ Answer.Distances b a s) × Priced mid least b a n
-
 module _ (mid least : ℤ) where
   exact-refused : (r : Answer) (n : ℕ) → exactBy mid least r ≡ Exact.Refused n → (r ≡ Answer.Refused n) ⊎ PricedOf mid least r n
   unfolding exactBy
@@ -146,7 +142,7 @@ module _ (mid least : ℤ) where
   exact-refused (Answer.OverCap need b s) n e = let z : _≡_ {A = ℕ} 0 1 = cc in absurd (omega arith)
   exact-refused (Answer.Refused r) n e = inl (cc)
 
-  exact-by : (r : Answer) (n : ℕ) → (exactBy mid least r ≡ Exact.Refused n) ↔ ((r ≡ Answer.Refused n) ⊎ PricedOf mid least r n)
+  pub exact-by : (r : Answer) (n : ℕ) → (exactBy mid least r ≡ Exact.Refused n) ↔ ((r ≡ Answer.Refused n) ⊎ PricedOf mid least r n)
   unfolding exactBy withSteps
   exact-by r n = (exact-refused r n, λ x. elim x [ inl e ↦ rw e | inr p ↦ rw (p .3, unpriced mid least (p .0) (p .1) n (p .4)) ])
 

@@ -8,3 +8,4 @@ pub mod Inner
 pub mod Promises
 pub mod Replies
 pub mod Presence
+pub mod Reckoning

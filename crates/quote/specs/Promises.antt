@@ -15,6 +15,7 @@ use Rattle.distances.specs.Refusing.{EntryFails}
 use Rattle.distances.specs.Promises.{exchanged, exchangedSides}
 use Rattle.distances.specs.declared.Distance.{Distance}
 use Rattle.distances.specs.declared.Sides.the-variants as Sides
+use Rattle.distances.specs.declared.Answer.{Answer}
 use Rattle.distances.specs.declared.Answer.the-variants as Answer
 use Rattle.quote.specs.Refusals.{limits, market, capped, beyond, crossed}
 use Rattle.quote.specs.Configuration.{amountOk, above0, timeOk, configLimits, configOk, newConfig}
@@ -144,8 +145,12 @@ pub data Priced (mid least : ℤ) (b a : Distance) : ℕ → Type 0 where
   by-13 : Within mid least b a ≡ false → Priced mid least b a beyond
   by-14 : Within mid least b a ≡ true → Ordered mid least b a ≡ false → Priced mid least b a crossed
 
+-- an answer has distances, and their prices are refused
+abbrev pub PricedOf : ℤ → ℤ → Answer → ℕ → Type 0
+PricedOf mid least r n = (b : Distance) × (a : Distance) × (s : ℕ) × (r ≡ Answer.Distances b a s) × Priced mid least b a n
+
 abbrev pub ExactPriced : ℤ → ℤ → GLFTConfig → ℤ → ℕ → ℕ → Type 0
-ExactPriced mid h c vol t n = (b : Distance) × (a : Distance) × (s : ℕ) × (exactAnswer mid h c vol t ≡ Answer.Distances b a s) × Priced mid (c .«min_spread») b a n
+ExactPriced mid h c vol t n = PricedOf mid (c .«min_spread») (exactAnswer mid h c vol t) n
 
 abbrev pub ClosedPriced : ℤ → ℤ → GLFTConfig → ℤ → ℕ → Type 0
 ClosedPriced mid h c vol n = (b : Distance) × (a : Distance) × (closedAnswer mid h c vol ≡ Sides.Distances b a) × Priced mid (c .«min_spread») b a n

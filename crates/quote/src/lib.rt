@@ -4,10 +4,17 @@ mod closed_form;
 mod config;
 mod parameters;
 mod quotes;
+mod reckoning;
 pub mod refusals;
 mod rounding;
 
 pub use parameters::limits_fit;
+pub use reckoning::Check;
+pub use reckoning::Reckoning;
+pub use reckoning::check_call;
+pub use reckoning::quotes_from;
+pub use reckoning::quotes_of_lots;
+pub use reckoning::reckon;
 ghost use mathlib.Core.Path.{_≡_};
 ghost use Rattle.quote.specs.Configuration.{newConfig};
 ghost use Rattle.quote.specs.Model.{newModel};

@@ -71,7 +71,7 @@ fn from_floats(k: f64, gamma: f64, a: f64, sigma2: f64, bound: u32) -> Model
     }
 }
 
-fn model_of(config: GLFTConfig, volatility: i64) -> Model
+pub(crate) fn model_of(config: GLFTConfig, volatility: i64) -> Model
     ensures { λ r. ⌜ r ≡ modelOf config volatility ⌝ }
 {
     let sigma = to_f64(volatility);
@@ -85,7 +85,7 @@ fn model_of(config: GLFTConfig, volatility: i64) -> Model
 }
 
 // Whether all seven floats are finite and above zero.
-fn floats_fit(m: Model) -> bool
+pub(crate) fn floats_fit(m: Model) -> bool
     ensures { λ r. ⌜ r ≡ modelOk m ⌝ }
 {
     elementary::is_positive_finite(m.k)

@@ -162,6 +162,18 @@ fn with_steps(b: Built, steps: u32) -> ExactQuotes
     }
 }
 
+// The exact quotes of an answer before prices.
+pub(crate) fn from_answer(mid: i64, least: i64, answer: Answer) -> ExactQuotes
+    requires { ⌜ T (amountOk mid) × T (amountOk least) ⌝ }
+    ensures { λ r. ⌜ r ≡ exactBy mid least answer ⌝ }
+{
+    match answer {
+        Answer::Distances(bid, ask, steps) => with_steps(build_quotes(mid, least, bid, ask), steps),
+        Answer::OverCap(need, budget, steps) => ExactQuotes::OverStepCap(need, budget, steps),
+        Answer::Refused(number) => ExactQuotes::Refused(number),
+    }
+}
+
 // The exact quotes of a model at q lots.
 pub(crate) fn exact_of(mid: i64, least: i64, m: Model, q: i64, tau: f64) -> ExactQuotes
     requires { ⌜ T (amountOk mid) × T (amountOk least) ⌝ }
@@ -169,11 +181,7 @@ pub(crate) fn exact_of(mid: i64, least: i64, m: Model, q: i64, tau: f64) -> Exac
 {
     let r = distances::float_entry(m.k, m.alpha, m.eta, m.base, m.q_max, tau, q);
     let answer = r.answer;
-    match answer {
-        Answer::Distances(bid, ask, steps) => with_steps(build_quotes(mid, least, bid, ask), steps),
-        Answer::OverCap(need, budget, steps) => ExactQuotes::OverStepCap(need, budget, steps),
-        Answer::Refused(number) => ExactQuotes::Refused(number),
-    }
+    from_answer(mid, least, answer)
 }
 
 // The quotes of the closed form's distances.

@@ -14,3 +14,8 @@ pub mod Fills
 pub mod Numbers
 pub mod Refusing
 pub mod LineRefusals
+pub mod Rungs
+pub mod Due
+pub mod Ladders
+pub mod Flat
+pub mod LadderLaws

@@ -20,7 +20,7 @@ use Rattle.quote.proofs.Refusing.{exact-refusals}
 use Rattle.sheet.specs.Refusals.{cutShort, malformed, longSheet}
 use Rattle.sheet.specs.Record.{Read, taken, refused, numbers, fields, recordOf, mostBound, recordOk, recordIf, recordFrom, readRecord}
 use Rattle.sheet.specs.Lines.{joined, quotesLine, capLine, refusalLine, answerLine}
-use Rattle.sheet.specs.Sheet.{mostBytes, recordLine, line, lineOf, lineAt}
+use Rattle.sheet.specs.Sheet.{mostBytes, recordLine, line, stepOf, lineAt}
 use Rattle.sheet.specs.Refusing.{Stopped, Beyond, LongLine, Readable, StoppedLine, SkippedLine, LineRefusals}
 use Rattle.sheet.specs.declared.record.Record.{Record}
 use Rattle.sheet.specs.declared.record.RecordAnswer.{RecordAnswer}
@@ -91,8 +91,8 @@ kept n (taken v q) r next e = go (recordOk (recordOf v)) refl e
     go false h d = let z : _≡_ {A = ℕ} 0 1 = cc in absurd (omega arith)
 
 module _ (s : List ℕ) (at k next : ℕ) where
-  read-said : Readable s at → (a : RecordAnswer) → readRecord s at ≡ a → lineOf (length s) a ≡ line (refusalLine k) next → Said s at k next
-  unfolding lineOf readRecord
+  read-said : Readable s at → (a : RecordAnswer) → readRecord s at ≡ a → stepOf recordLine (length s) a ≡ line (refusalLine k) next → Said s at k next
+  unfolding stepOf readRecord
   read-said h (RecordAnswer.Record r m) d e =
       let t : recordLine r ≡ refusalLine k = cc in
       quoted (quotes-apart r k (kept (length s) (numbers fields (drop at s)) r m d) t)
@@ -127,9 +127,9 @@ long-line s at next = (λ e. go (before-end s at _ next e) (said s at longSheet 
     go h (quoted x) = absurd (x .3 refl)
 
 stopped-line : (k : ℕ) → (k ≡ cutShort) ⊎ (k ≡ malformed) → StoppedLine k
-unfolding lineOf
+unfolding stepOf
 stopped-line k w s at next =
-    (λ e. go (said s at k next e), λ h. line-read s at (h .0 .0) (h .0 .1) ∙ ap (lineOf (length s)) (record-refusals s at k .1 (h .1)) ∙ ap (line (refusalLine k)) (sym (h .2)))
+    (λ e. go (said s at k next e), λ h. line-read s at (h .0 .0) (h .0 .1) ∙ ap (stepOf recordLine (length s)) (record-refusals s at k .1 (h .1)) ∙ ap (line (refusalLine k)) (sym (h .2)))
   where
     go : Said s at k next → Readable s at × Stopped (drop at s) k × (next ≡ length s)
     go (long e m n) = absurd (⊎-elim (λ z. omega arith) (λ z. omega arith) w)
@@ -138,9 +138,9 @@ stopped-line k w s at next =
     go (quoted x) = absurd (⊎-elim (x .1) (x .2) w)
 
 skipped-line : SkippedLine
-unfolding lineOf
+unfolding stepOf
 skipped-line s at next =
-    (λ e. go (said s at limits next e), λ h. line-read s at (h .0 .0) (h .0 .1) ∙ ap (lineOf (length s)) (record-skips s at limits next .1 (refl, h .1)))
+    (λ e. go (said s at limits next e), λ h. line-read s at (h .0 .0) (h .0 .1) ∙ ap (stepOf recordLine (length s)) (record-skips s at limits next .1 (refl, h .1)))
   where
     go : Said s at limits next → Readable s at × Beyond s at next
     go (long e m n) = absurd (omega arith)

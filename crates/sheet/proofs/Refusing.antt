@@ -1,6 +1,7 @@
 -- Each refusal of this layer is the reply in just the situation that the paper names. Assumes nothing.
 use mathlib.Core.Path.{_≡_, refl, ap}
-use Prim.Native.Nat.{ℕ, _-_}
+use mathlib.Core.Logic.{_↔_}
+use Prim.Native.Nat.{ℕ, _-_, _<_}
 use native.Mathlib.Omega.{arith}
 use mathlib.Core.Bool.{Bool, true, false}
 use mathlib.Core.List.{List}
@@ -10,6 +11,7 @@ use Rattle.quote.specs.Refusals.{limits}
 use Rattle.sheet.specs.Refusals.{smallBuffer}
 use Rattle.sheet.specs.Record.{Read, taken, refused, numbers, fields, recordOf, recordOk, recordIf, recordFrom, readRecord}
 use Rattle.sheet.specs.Sheet.{leastRoom, Step, line, end, lineAt, hasRoom, answered}
+use Rattle.sheet.specs.Ladder.{ladderAt}
 use Rattle.sheet.specs.Fill.{Fill, upTo, fill, filledIf}
 use Rattle.sheet.specs.Refusing.{BufferRefusals, RecordRefusals, RecordSkips}
 use Rattle.sheet.specs.declared.record.Record.{Record}
@@ -31,17 +33,23 @@ unfolding filledIf
 fill-refused false f k e = (cc, refl)
 fill-refused true (upTo t next) k e = let z : _≡_ {A = ℕ} 0 1 = cc in absurd (omega arith)
 
+-- whatever stands at the place
+step-refusals : (x : Step) (b : List ℕ) (k : ℕ) → (answered (hasRoom b) x ≡ LineAnswer.Refused k) ↔ ((k ≡ smallBuffer) × (length b < leastRoom))
+unfolding answered
+step-refusals x b k = (
+  λ e. let h = line-refused (hasRoom b) x k e in (h .0, leb-false leastRoom (length b) (h .1)),
+  λ h. rw (lt-leb leastRoom (length b) (h .1), h .0),
+)
+
 pub buffer-refusals : BufferRefusals
-unfolding answered filledIf
+unfolding filledIf
 buffer-refusals s at b k = (
-  (
-    λ e. let h = line-refused (hasRoom b) (lineAt s at) k e in (h .0, leb-false leastRoom (length b) (h .1)),
-    λ h. rw (lt-leb leastRoom (length b) (h .1), h .0),
-  ),
+  step-refusals (lineAt s at) b k,
   (
     λ e. let h = fill-refused (hasRoom b) (fill s at (length b)) k e in (h .0, leb-false leastRoom (length b) (h .1)),
     λ h. rw (lt-leb leastRoom (length b) (h .1), h .0),
   ),
+  step-refusals (ladderAt (length b) s at) b k,
 )
 
 -- ---- 6, 7 and 2, of a record

@@ -7,21 +7,36 @@ use borrow.Author.Tests.{lt-ltb, le-ltb, le-leb, lt-leb}
 use Rattle.sheet.specs.Refusals.{longSheet}
 use Rattle.sheet.specs.Record.{readRecord}
 use Rattle.sheet.specs.Lines.{refusalLine, over}
-use Rattle.sheet.specs.Sheet.{mostBytes, leastRoom, Step, line, end, lineOf, lineIf, lineAt, hasRoom, answered, left}
+use Rattle.sheet.specs.Sheet.{mostBytes, leastRoom, recordLine, Step, line, end, stepOf, stepIf, stepAt, lineAt, hasRoom, answered, left}
+use Rattle.sheet.specs.declared.record.Record.{Record}
+use Rattle.sheet.specs.declared.record.RecordAnswer.{RecordAnswer}
 use Rattle.sheet.specs.declared.line.LineAnswer.the-variants as LineAnswer
+
+module _ (f : Record → List ℕ) (s : List ℕ) (at : ℕ) (a : RecordAnswer) where
+  pub step-end : length s ≤ at → stepAt f s at a ≡ end
+  unfolding stepAt stepIf
+  step-end h = rw (le-ltb at (length s) h)
+
+  pub step-long : at < length s → mostBytes < length s → stepAt f s at a ≡ line (refusalLine longSheet) (length s)
+  unfolding stepAt stepIf
+  step-long h k = rw (lt-ltb at (length s) h, lt-leb (length s) mostBytes k)
+
+  pub step-read : at < length s → length s ≤ mostBytes → stepAt f s at a ≡ stepOf f (length s) a
+  unfolding stepAt stepIf
+  step-read h k = rw (lt-ltb at (length s) h, le-leb (length s) mostBytes k)
 
 module _ (s : List ℕ) (at : ℕ) where
   pub line-end : length s ≤ at → lineAt s at ≡ end
-  unfolding lineAt lineIf
-  line-end h = rw (le-ltb at (length s) h)
+  unfolding lineAt
+  line-end h = step-end recordLine s at (readRecord s at) h
 
   pub line-long : at < length s → mostBytes < length s → lineAt s at ≡ line (refusalLine longSheet) (length s)
-  unfolding lineAt lineIf
-  line-long h k = rw (lt-ltb at (length s) h, lt-leb (length s) mostBytes k)
+  unfolding lineAt
+  line-long h k = step-long recordLine s at (readRecord s at) h k
 
-  pub line-read : at < length s → length s ≤ mostBytes → lineAt s at ≡ lineOf (length s) (readRecord s at)
-  unfolding lineAt lineIf
-  line-read h k = rw (lt-ltb at (length s) h, le-leb (length s) mostBytes k)
+  pub line-read : at < length s → length s ≤ mostBytes → lineAt s at ≡ stepOf recordLine (length s) (readRecord s at)
+  unfolding lineAt
+  line-read h k = step-read recordLine s at (readRecord s at) h k
 
 -- ---- what `next_line` answers, and what it leaves in a buffer l
 pub no-room : (t : Step) (l : List ℕ) → length l < leastRoom → (LineAnswer.Refused 8 ≡ answered (hasRoom l) t) × (l ≡ left (hasRoom l) t l)

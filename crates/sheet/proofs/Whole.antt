@@ -1,6 +1,5 @@
 -- The promises of the sheet: numbers and holdings as stored, lines that fit and move, and the steps that make the whole. Assumes nothing.
 use mathlib.Core.Path.{_≡_, refl, sym, ap, _∙_, subst}
-use mathlib.Core.Logic.{⊎-elim}
 use Prim.Native.Nat.{ℕ, zero, suc, _+_, _-_, _*_, _/_, _%_, _<_, _≤_}
 use native.Mathlib.Nat.{le-refl}
 use native.Mathlib.Omega.{arith}
@@ -9,13 +8,13 @@ use mathlib.Core.List.{List, [], _∷_, append-nil}
 use borrow.Author.Tests.{ltb-true, ltb-false, leb-true, leb-false, eq-eqb, ne-eqb, eqb-true, eqb-false}
 use lib.IntN.{ℤ, pos, negsuc}
 use lib.ListN.{length, drop, length-drop, drop-of-length-le}
-use lib.Dec.{ltb, leb, eqb, lit<}
+use lib.Dec.{ltb, leb, eqb}
 use Rattle.quote.proofs.Replies.{replies-kept}
 use Rattle.quote.specs.Refusals.{limits}
-use Rattle.sheet.specs.Refusals.{malformed, longSheet}
-use Rattle.sheet.specs.Record.{Read, taken, refused, _then_, group, groups, number, numbers, fields, stored, holdingBy, holding, recordOf, recordOk, recordIf, recordFrom, readRecord}
+use Rattle.sheet.specs.Refusals.{longSheet}
+use Rattle.sheet.specs.Record.{Read, taken, refused, _then_, group, groups, number, numbers, fields, stored, holdingBy, holding, recordOf, recordOk, recordIf, recordFrom, readRecord, readAs}
 use Rattle.sheet.specs.Lines.{refusalLine}
-use Rattle.sheet.specs.Sheet.{mostBytes, leastRoom, recordLine, Step, line, end, lineOf, lineAt, answered, first, headIf, headBy, headOf, lines, printedIf, printed}
+use Rattle.sheet.specs.Sheet.{mostBytes, leastRoom, recordLine, line, stepOf, stepAt, lineAt, answered, first, headIf, headBy, headOf, lines, printedIf, printed}
 use Rattle.sheet.specs.Promises.{BillionRead, HoldingsStored, LinesFit, LinesMove, Followed, StepsMakeTheWhole}
 use Rattle.sheet.specs.Promises as Promises
 use Rattle.sheet.specs.declared.record.Record.{Record}
@@ -23,7 +22,8 @@ use Rattle.sheet.specs.declared.line.LineAnswer.the-variants as LineAnsw
 use Rattle.sheet.proofs.Widths.{answer-most, refusal-most}
 use Rattle.sheet.proofs.Steps.{line-end, line-long, line-read}
 use Rattle.sheet.proofs.Left.{next-moves, next-left}
-use Rattle.sheet.proofs.Numbers.{numbers-stopped, stopped-number}
+use Rattle.sheet.proofs.Flat.{as-it-is}
+use Rattle.sheet.proofs.Due.{step-due, step-before, step-kept, told}
 
 -- ---- numbers and holdings
 pub billion-read : BillionRead
@@ -52,8 +52,8 @@ text : Bool → Record → List ℕ
 text true r = recordLine r
 text false r = refusalLine limits
 
-step-text : (t : Bool) (r : Record) (n next : ℕ) → lineOf n (recordIf t r next) ≡ line (text t r) next
-unfolding text lineOf recordIf
+step-text : (t : Bool) (r : Record) (n next : ℕ) → stepOf recordLine n (recordIf t r next) ≡ line (text t r) next
+unfolding text stepOf recordIf
 step-text true r n next = refl
 step-text false r n next = refl
 
@@ -62,74 +62,39 @@ unfolding text headIf
 head-text true r l = refl
 head-text false r l = refl
 
-text-most : (t : Bool) (r : Record) → length (text t r) ≤ leastRoom
-unfolding text recordLine
-text-most true r = answer-most _ (replies-kept (r .«mid_price») (r .inventory) (r .config) (r .volatility) (r .«current_time»))
-text-most false r = refusal-most limits (lit< tt)
+-- ---- the line at a place: one is due before the end alone; it fits, and the next place is further on
+line-is : (s : List ℕ) (at : ℕ) → stepAt recordLine s at (readAs false s at) ≡ lineAt s at
+unfolding lineAt
+line-is s at = ap (stepAt recordLine s at) (as-it-is s at)
 
--- the line at a place before the end
-data Due (s : List ℕ) (at : ℕ) : Step → Type 0 where
-  long : Due s at (line (refusalLine longSheet) (length s))
-  stopped : {k : ℕ} → k ≤ malformed → Due s at (line (refusalLine k) (length s))
-  read : {v r : List ℕ} → numbers fields (drop at s) ≡ taken v r → Due s at (line (text (recordOk (recordOf v)) (recordOf v)) (length s - length r))
+line-most : (r : Record) → length (recordLine r) ≤ leastRoom
+unfolding recordLine
+line-most r = answer-most _ (replies-kept (r .«mid_price») (r .inventory) (r .config) (r .volatility) (r .«current_time»))
 
-due-read : (s : List ℕ) (at : ℕ) (x : Read (List ℕ)) → numbers fields (drop at s) ≡ x → Due s at (lineOf (length s) (recordFrom (length s) x))
-unfolding lineOf recordFrom
-due-read s at (taken v r) e = subst (Due s at) (sym (step-text (recordOk (recordOf v)) (recordOf v) (length s) (length s - length r))) (read e)
-due-read s at (refused k) e = stopped {k = k} (⊎-elim (λ z. omega arith) (λ z. omega arith) (stopped-number (numbers-stopped (drop at s) k .0 e)))
+module _ (s : List ℕ) (at : ℕ) where
+  abbrev Fits : List ℕ → Type 0
+  Fits t = length t ≤ leastRoom
 
-due : (s : List ℕ) (at : ℕ) → at < length s → Due s at (lineAt s at)
-unfolding readRecord
-due s at h = go (leb (length s) mostBytes) (leb-true (length s) mostBytes) (leb-false (length s) mostBytes)
-  where
-    go : (m : Bool) → (m ≡ true → length s ≤ mostBytes) → (m ≡ false → mostBytes < length s) → Due s at (lineAt s at)
-    go true f g = rw (line-read s at h (f refl)) (due-read s at (numbers fields (drop at s)) refl)
-    go false f g = rw (line-long s at h (g refl)) long
+  pub line-due : at < length s → (t : List ℕ) × (next : ℕ) × (lineAt s at ≡ line t next)
+  line-due h = let d = step-due recordLine false Fits line-most refusal-most s at h in (d .0, d .1, sym (line-is s at) ∙ d .2)
 
-due-line : (s : List ℕ) (at : ℕ) (x : Step) → Due s at x → (t : List ℕ) × (next : ℕ) × (x ≡ line t next)
-due-line s at x long = (_, _, refl)
-due-line s at x (stopped k) = (_, _, refl)
-due-line s at x (read d) = (_, _, refl)
+  pub before-end : (t : List ℕ) (next : ℕ) → lineAt s at ≡ line t next → at < length s
+  before-end t next e = step-before recordLine false Fits line-most refusal-most s at t next (line-is s at ∙ e)
 
-pub line-due : (s : List ℕ) (at : ℕ) → at < length s → (t : List ℕ) × (next : ℕ) × (lineAt s at ≡ line t next)
-line-due s at h = due-line s at (lineAt s at) (due s at h)
-
--- a line is due before the end alone
-pub before-end : (s : List ℕ) (at : ℕ) (t : List ℕ) (next : ℕ) → lineAt s at ≡ line t next → at < length s
-before-end s at t next e = go (ltb at (length s)) (ltb-true at (length s)) (ltb-false at (length s))
-  where
-    go : (m : Bool) → (m ≡ true → at < length s) → (m ≡ false → length s ≤ at) → at < length s
-    go true f g = f refl
-    go false f g = let h : lineAt s at ≡ end = line-end s at (g refl) in let z : _≡_ {A = ℕ} 0 1 = cc in absurd (omega arith)
-
-due-fits : (s : List ℕ) (at : ℕ) (x : Step) (t : List ℕ) (next : ℕ) → Due s at x → x ≡ line t next → length t ≤ leastRoom
-due-fits s at x t next long e = let z : refusalLine longSheet ≡ t = cc in rw z at (refusal-most longSheet (lit< tt))
-due-fits s at x t next (stopped {k} h) e = let z : refusalLine k ≡ t = cc in rw z at (refusal-most k (omega arith))
-due-fits s at x t next (read {v} d) e = let z : text (recordOk (recordOf v)) (recordOf v) ≡ t = cc in rw z at (text-most (recordOk (recordOf v)) (recordOf v))
+  line-kept : (t : List ℕ) (next : ℕ) → lineAt s at ≡ line t next → Fits t × (at < next) × (next ≤ length s)
+  line-kept t next e = step-kept recordLine false Fits line-most refusal-most s at t next (line-is s at ∙ e)
 
 pub lines-fit : LinesFit
-lines-fit s at t next e = due-fits s at (lineAt s at) t next (due s at (before-end s at t next e)) e
-
-due-moves : (s : List ℕ) (at : ℕ) (x : Step) (t : List ℕ) (next : ℕ) → at < length s → Due s at x → x ≡ line t next → (at < next) × (next ≤ length s)
-due-moves s at x t next h long e = let z : next ≡ length s = cc in rw z (h, le-refl (length s))
-due-moves s at x t next h (stopped k) e = let z : next ≡ length s = cc in rw z (h, le-refl (length s))
-due-moves s at x t next h (read {v} {r} d) e = let z : next ≡ length s - length r = cc in rw z (next-moves s at v r d)
+lines-fit s at t next e = line-kept s at t next e .0
 
 pub lines-move : LinesMove
-lines-move s at t next e = let h = before-end s at t next e in due-moves s at (lineAt s at) t next h (due s at h) e
+lines-move s at t next e = let k = line-kept s at t next e in (k .1, k .2)
 
 -- both, from what `next_line` answers
-told : (b : Bool) (x : Step) (n next : ℕ) → LineAnswer.Written n next ≡ answered b x → (t : List ℕ) × (x ≡ line t next) × (n ≡ length t)
-unfolding answered
-told false x n next e = let z : _≡_ {A = ℕ} 0 1 = cc in absurd (omega arith)
-told true (line t m) n next e = let z : m ≡ next = cc in (t, ap (line t) z, cc)
-told true end n next e = let z : _≡_ {A = ℕ} 0 1 = cc in absurd (omega arith)
-
 pub line-told : (b : Bool) (s : List ℕ) (at n next : ℕ) → LineAnswer.Written n next ≡ answered b (lineAt s at) → (n ≤ leastRoom) × (at < next) × (next ≤ length s)
 line-told b s at n next e =
     let k = told b (lineAt s at) n next e in
-    let m = lines-move s at (k .0) next (k .1) in
-    (rw (k .2) (lines-fit s at (k .0) next (k .1)), m .0, m .1)
+    rw (k .2) (line-kept s at (k .0) next (k .1))
 
 -- ---- the steps make the whole
 -- a line that is the last
@@ -142,14 +107,14 @@ head-is [] h = absurd (omega arith)
 head-is (b ∷ l) h = refl
 
 module _ (s : List ℕ) (short : length s ≤ mostBytes) where
-  line-of : (at : ℕ) (x : Read (List ℕ)) → at < length s → numbers fields (drop at s) ≡ x → lineAt s at ≡ lineOf (length s) (recordFrom (length s) x)
+  line-of : (at : ℕ) (x : Read (List ℕ)) → at < length s → numbers fields (drop at s) ≡ x → lineAt s at ≡ stepOf recordLine (length s) (recordFrom (length s) x)
   unfolding readRecord
-  line-of at x h e = line-read s at h short ∙ ap (λ (y : Read (List ℕ)). lineOf (length s) (recordFrom (length s) y)) e
+  line-of at x h e = line-read s at h short ∙ ap (λ (y : Read (List ℕ)). stepOf recordLine (length s) (recordFrom (length s) y)) e
 
   -- one record, and those after it
   follow-one : (k at : ℕ) (x : Read (List ℕ)) → at < length s → numbers fields (drop at s) ≡ x → ((next : ℕ) → at < next → Followed s next (lines k (headOf (drop next s))))
       → Followed s at (lines (suc k) (headBy x))
-  unfolding lines headBy recordFrom lineOf
+  unfolding lines headBy recordFrom stepOf
   follow-one k at (taken v r) h e f =
       let n = length s - length r in
       let o = recordOk (recordOf v) in

@@ -3,6 +3,7 @@ pub mod Record
 pub mod Lines
 pub mod Sheet
 pub mod Fill
+pub mod Ladder
 pub mod Save
 pub mod Promises
 pub mod Refusing

@@ -10,6 +10,7 @@ use Rattle.quote.specs.Configuration.{billion}
 use Rattle.sheet.specs.Record.{taken, number, stored, holding, readRecord}
 use Rattle.sheet.specs.Lines.{over}
 use Rattle.sheet.specs.Sheet.{leastRoom, line, end, lineAt, printed}
+use Rattle.sheet.specs.Ladder.{ladderAt}
 use Rattle.sheet.specs.Fill.{filled, leftIn}
 use Rattle.sheet.specs.Save.{inGroups, saveOk, recordRoom, saved, savedIn}
 use Rattle.sheet.specs.declared.record.Record.{Record}
@@ -37,6 +38,13 @@ RecordsMove = (s : List ℕ) (at next : ℕ)
 
 abbrev pub LinesMove : Type 0
 LinesMove = (s : List ℕ) (at : ℕ) (t : List ℕ) (next : ℕ) → lineAt s at ≡ line t next → (at < next) × (next ≤ length s)
+
+-- ---- likewise the ladders, each with a buffer of so many bytes
+abbrev pub LaddersFit : Type 0
+LaddersFit = (room : ℕ) (s : List ℕ) (at : ℕ) (t : List ℕ) (next : ℕ) → ladderAt room s at ≡ line t next → leastRoom ≤ room → length t ≤ room
+
+abbrev pub LaddersMove : Type 0
+LaddersMove = (room : ℕ) (s : List ℕ) (at : ℕ) (t : List ℕ) (next : ℕ) → ladderAt room s at ≡ line t next → (at < next) × (next ≤ length s)
 
 -- ---- the steps make the whole: lines taken one after the other from a place until the end, and their bytes
 pub data Followed (s : List ℕ) : ℕ → List ℕ → Type 0 where

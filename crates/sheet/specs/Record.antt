@@ -3,7 +3,7 @@ use Prim.Native.Nat.{ℕ, zero, suc, _+_, _-_, _*_, _/_, _%_}
 use mathlib.Core.Bool.{Bool, true, false, _&&_}
 use mathlib.Core.List.{List, [], _∷_, _++_}
 use lib.IntN.{ℤ, pos, negsuc}
-use lib.ListN.{length, getD, drop}
+use lib.ListN.{set, length, getD, drop}
 use lib.Dec.{ltb, leb, eqb}
 use Rattle.quote.specs.Refusals.{limits}
 use Rattle.quote.specs.Configuration.{timeOk}
@@ -105,3 +105,15 @@ recordFrom n (refused k) = RecordAnswer.Refused k
 
 unfoldable pub readRecord : List ℕ → ℕ → RecordAnswer
 readRecord s at = recordFrom (length s) (numbers fields (drop at s))
+
+-- ---- change request 4: the same, with its holding or with one of 0 in its place
+unfoldable pub asHeld : Bool → List ℕ → List ℕ
+asHeld false v = v
+asHeld true v = set v 1 0
+
+unfoldable pub heldAs : Bool → Read (List ℕ) → Read (List ℕ)
+heldAs flat (taken v rest) = taken (asHeld flat v) rest
+heldAs flat (refused k) = refused k
+
+unfoldable pub readAs : Bool → List ℕ → ℕ → RecordAnswer
+readAs flat s at = recordFrom (length s) (heldAs flat (numbers fields (drop at s)))

@@ -20,3 +20,7 @@ longSheet = 9
 -- a record's buffer under 88 bytes
 abbrev pub smallRecordBuffer : ℕ
 smallRecordBuffer = 20
+
+-- a ladder's buffer under 64 × (2 × bound + 1) bytes
+abbrev pub smallLadderBuffer : ℕ
+smallLadderBuffer = 21

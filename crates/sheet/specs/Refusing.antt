@@ -11,6 +11,7 @@ use Rattle.sheet.specs.Refusals.{cutShort, malformed, smallBuffer, longS
 use Rattle.sheet.specs.Record.{taken, mostGroups, numbers, fields, recordOf, recordOk, readRecord}
 use Rattle.sheet.specs.Lines.{refusalLine}
 use Rattle.sheet.specs.Sheet.{mostBytes, leastRoom, line, lineAt, hasRoom, answered}
+use Rattle.sheet.specs.Ladder.{ladderAt}
 use Rattle.sheet.specs.Fill.{filled}
 use Rattle.sheet.specs.Save.{noneBelow, recordRoom, saved, savedIn}
 use Rattle.sheet.specs.declared.record.Record.{Record}
@@ -24,6 +25,7 @@ abbrev pub BufferRefusals : Type 0
 BufferRefusals = (s : List ℕ) (at : ℕ) (b : List ℕ) (k : ℕ)
     → ((answered (hasRoom b) (lineAt s at) ≡ LineAnswer.Refused k) ↔ ((k ≡ smallBuffer) × (length b < leastRoom)))
     × ((filled s at b ≡ FillAnswer.Refused k) ↔ ((k ≡ smallBuffer) × (length b < leastRoom)))
+    × ((answered (hasRoom b) (ladderAt (length b) s at) ≡ LineAnswer.Refused k) ↔ ((k ≡ smallBuffer) × (length b < leastRoom)))
 
 -- ==== 6 and 7, over the bytes
 -- every byte has its top bit set: another group follows each

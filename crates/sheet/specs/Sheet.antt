@@ -31,20 +31,23 @@ pub data Step : Type 0 where
   line : List ℕ → ℕ → Step
   end : Step
 
--- of a sheet of n bytes; after 6 or 7 nothing more is read
-unfoldable pub lineOf : ℕ → RecordAnswer → Step
-lineOf n (RecordAnswer.Record r next) = line (recordLine r) next
-lineOf n (RecordAnswer.Skipped k next) = line (refusalLine k) next
-lineOf n (RecordAnswer.Refused k) = line (refusalLine k) n
+-- of a sheet of n bytes, with f for the text of a record; after 6 or 7 nothing more is read
+unfoldable pub stepOf : (Record → List ℕ) → ℕ → RecordAnswer → Step
+stepOf f n (RecordAnswer.Record r next) = line (f r) next
+stepOf f n (RecordAnswer.Skipped k next) = line (refusalLine k) next
+stepOf f n (RecordAnswer.Refused k) = line (refusalLine k) n
 
 -- is the place before the end, is the sheet no longer than the longest
-unfoldable pub lineIf : Bool → Bool → List ℕ → ℕ → Step
-lineIf false m s at = end
-lineIf true false s at = line (refusalLine longSheet) (length s)
-lineIf true true s at = lineOf (length s) (readRecord s at)
+unfoldable pub stepIf : Bool → Bool → (Record → List ℕ) → ℕ → RecordAnswer → Step
+stepIf false m f n a = end
+stepIf true false f n a = line (refusalLine longSheet) n
+stepIf true true f n a = stepOf f n a
+
+unfoldable pub stepAt : (Record → List ℕ) → List ℕ → ℕ → RecordAnswer → Step
+stepAt f s at a = stepIf (ltb at (length s)) (leb (length s) mostBytes) f (length s) a
 
 unfoldable pub lineAt : List ℕ → ℕ → Step
-lineAt s at = lineIf (ltb at (length s)) (leb (length s) mostBytes) s at
+lineAt s at = stepAt recordLine s at (readRecord s at)
 
 -- ---- what `next_line` answers, and what it leaves in the buffer: has that the room
 unfoldable pub answered : Bool → Step → LineAnswer

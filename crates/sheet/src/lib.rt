@@ -1,5 +1,6 @@
 // The sheet: records in, lines out.
 mod fill;
+mod ladder;
 mod line;
 mod record;
 pub mod refusals;
@@ -7,6 +8,10 @@ mod save;
 
 pub use fill::FillAnswer;
 pub use fill::fill_lines;
+pub use ladder::LadderAnswer;
+pub use ladder::MOST_LADDER;
+pub use ladder::next_ladder;
+pub use ladder::write_ladder;
 pub use line::LEAST_ROOM;
 pub use line::LineAnswer;
 pub use line::MOST_BYTES;

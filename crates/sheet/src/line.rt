@@ -8,10 +8,12 @@ ghost use lib.Dec.{T};
 ghost use lib.Ieee.{isNan};
 ghost use Rattle.quote.specs.Replies.{PriceKept, ReplyKept};
 ghost use Rattle.sheet.specs.Lines.{glyph, digits, places, count, price, side, hex, quotesLine, capLine, refusalLine, answerLine, over};
+ghost use Rattle.sheet.specs.Ladder.{textAt};
 ghost use Rattle.sheet.specs.Sheet.{leastRoom, recordLine, lineAt, hasRoom, answered, left};
+use crate::ladder::write_text;
 use crate::record::Record;
 use crate::record::RecordAnswer;
-use crate::record::read_record;
+use crate::record::read;
 use crate::refusals::LONG_SHEET;
 use crate::refusals::SMALL_BUFFER;
 use quote::BILLION;
@@ -167,7 +169,7 @@ fn write_cap(line: &mut [u8], need: f64, budget: u32) -> usize
     at + 1
 }
 
-fn write_refusal(line: &mut [u8], number: u8) -> usize
+pub(crate) fn write_refusal(line: &mut [u8], number: u8) -> usize
     requires { ⌜ length (refusalLine number) ≤ length (now line) ⌝ }
     ensures { λ _. ⌜ now (line .exit) ≡ over (refusalLine number) (now (line .entry)) ⌝ }
     ensures { λ r. ⌜ r ≡ length (refusalLine number) ⌝ }
@@ -181,7 +183,7 @@ fn write_refusal(line: &mut [u8], number: u8) -> usize
 }
 
 // The line of an answer, which takes at most 64 bytes.
-fn write_answer(line: &mut [u8], answer: ExactQuotes) -> usize
+pub(crate) fn write_answer(line: &mut [u8], answer: ExactQuotes) -> usize
     requires { ⌜ ReplyKept answer ⌝ }
     requires { ⌜ leastRoom ≤ length (now line) ⌝ }
     ensures { λ _. ⌜ now (line .exit) ≡ over (answerLine answer) (now (line .entry)) ⌝ }
@@ -195,7 +197,7 @@ fn write_answer(line: &mut [u8], answer: ExactQuotes) -> usize
 }
 
 // The line of a record.
-fn write_record(line: &mut [u8], r: Record) -> usize
+pub(crate) fn write_record(line: &mut [u8], r: Record) -> usize
     requires { ⌜ leastRoom ≤ length (now line) ⌝ }
     ensures { λ _. ⌜ now (line .exit) ≡ over (recordLine r) (now (line .entry)) ⌝ }
     ensures { λ n. ⌜ n ≡ length (recordLine r) ⌝ }
@@ -211,29 +213,38 @@ fn write_record(line: &mut [u8], r: Record) -> usize
     write_answer(line, answer)
 }
 
-// Writes the line at a place of a sheet: refused by 8, which leaves the buffer as it is.
-pub fn next_line(sheet: &[u8], at: usize, line: &mut [u8]) -> LineAnswer
-    ensures { λ r. ⌜ r ≡ answered (hasRoom (now (line .entry))) (lineAt (now (sheet .entry)) at) ⌝ }
-    ensures { λ _. ⌜ now (line .exit) ≡ left (hasRoom (now (line .entry))) (lineAt (now (sheet .entry)) at) (now (line .entry)) ⌝ }
+// Writes what stands for the record at a place of a sheet, its line or its ladder: refused by 8, which
+// leaves the buffer as it is.
+pub(crate) fn next_text(sheet: &[u8], at: usize, out: &mut [u8], ladder: bool) -> LineAnswer
+    ensures { λ r. ⌜ r ≡ answered (hasRoom (now (out .entry))) (textAt ladder (length (now (out .entry))) (now (sheet .entry)) at) ⌝ }
+    ensures { λ _. ⌜ now (out .exit) ≡ left (hasRoom (now (out .entry))) (textAt ladder (length (now (out .entry))) (now (sheet .entry)) at) (now (out .entry)) ⌝ }
 {
-    if line.len() < LEAST_ROOM {
+    if out.len() < LEAST_ROOM {
         return LineAnswer::Refused(SMALL_BUFFER);
     }
     if at >= sheet.len() {
         return LineAnswer::End;
     }
     if sheet.len() > MOST_BYTES {
-        return LineAnswer::Written(write_refusal(line, LONG_SHEET), sheet.len());
+        return LineAnswer::Written(write_refusal(out, LONG_SHEET), sheet.len());
     }
-    match read_record(sheet, at) {
-        RecordAnswer::Record(r, next) => LineAnswer::Written(write_record(line, r), next),
+    match read(sheet, at, ladder) {
+        RecordAnswer::Record(r, next) => LineAnswer::Written(write_text(out, r, ladder), next),
         RecordAnswer::Skipped(number, next) => LineAnswer::Written(
-            write_refusal(line, number),
+            write_refusal(out, number),
             next,
         ),
         RecordAnswer::Refused(number) => LineAnswer::Written(
-            write_refusal(line, number),
+            write_refusal(out, number),
             sheet.len(),
         ),
     }
+}
+
+// Writes the line at a place of a sheet: refused by 8, which leaves the buffer as it is.
+pub fn next_line(sheet: &[u8], at: usize, line: &mut [u8]) -> LineAnswer
+    ensures { λ r. ⌜ r ≡ answered (hasRoom (now (line .entry))) (lineAt (now (sheet .entry)) at) ⌝ }
+    ensures { λ _. ⌜ now (line .exit) ≡ left (hasRoom (now (line .entry))) (lineAt (now (sheet .entry)) at) (now (line .entry)) ⌝ }
+{
+    next_text(sheet, at, line, false)
 }

@@ -4,7 +4,7 @@ ghost use Prim.Native.Nat.{_*_, _≤_};
 ghost use lib.ListN.{length};
 ghost use lib.Dec.{T};
 ghost use Rattle.quote.specs.Configuration.{amountLimit};
-ghost use Rattle.sheet.specs.Record.{holding, recordOf, recordOk, readRecord};
+ghost use Rattle.sheet.specs.Record.{holding, asHeld, recordOf, recordOk, readAs, readRecord};
 ghost use Rattle.sheet.specs.Inner.{NumberIs, NumbersAre};
 use crate::refusals::CUT_SHORT;
 use crate::refusals::MALFORMED;
@@ -12,6 +12,9 @@ use quote::GLFTConfig;
 
 // The numbers of a record.
 pub(crate) const FIELDS: usize = 11;
+
+// The holding's place among them.
+const HOLDING: usize = 1;
 
 // The most groups of a number.
 pub(crate) const MOST_GROUPS: usize = 8;
@@ -163,9 +166,20 @@ fn record_of(v: [u64; FIELDS]) -> Record
     }
 }
 
-// The record at a place of a sheet: refused by 6, 7 and 2.
-pub fn read_record(sheet: &[u8], at: usize) -> RecordAnswer
-    ensures { λ r. ⌜ r ≡ readRecord (now (sheet .entry)) at ⌝ }
+// The numbers as they are, or with a holding of 0 in the place of theirs.
+fn numbers_of(v: [u64; FIELDS], flat: bool) -> [u64; FIELDS]
+    ensures { λ r. ⌜ r ≡ asHeld flat v ⌝ }
+{
+    let mut values = v;
+    if flat {
+        values[HOLDING] = 0;
+    }
+    values
+}
+
+// The record at a place of a sheet, with its holding or without: refused by 6, 7 and 2.
+pub(crate) fn read(sheet: &[u8], at: usize, flat: bool) -> RecordAnswer
+    ensures { λ r. ⌜ r ≡ readAs flat (now (sheet .entry)) at ⌝ }
 {
     if at > sheet.len() {
         return RecordAnswer::Refused(CUT_SHORT);
@@ -175,9 +189,17 @@ pub fn read_record(sheet: &[u8], at: usize) -> RecordAnswer
     if kind != 0 {
         return RecordAnswer::Refused(kind);
     }
-    let values = numbers.values;
+    let found = numbers.values;
+    let values = numbers_of(found, flat);
     if within_limits(values) {
         return RecordAnswer::Record(record_of(values), numbers.next);
     }
     RecordAnswer::Skipped(quote::refusals::LIMITS, numbers.next)
+}
+
+// The record at a place of a sheet: refused by 6, 7 and 2.
+pub fn read_record(sheet: &[u8], at: usize) -> RecordAnswer
+    ensures { λ r. ⌜ r ≡ readRecord (now (sheet .entry)) at ⌝ }
+{
+    read(sheet, at, false)
 }

@@ -14,3 +14,6 @@ pub const LONG_SHEET: u8 = 9;
 
 // A record's buffer under 88 bytes.
 pub const SMALL_RECORD_BUFFER: u8 = 20;
+
+// A ladder's buffer under 64 * (2 * bound + 1) bytes.
+pub const SMALL_LADDER_BUFFER: u8 = 21;

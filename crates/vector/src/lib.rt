@@ -7,6 +7,7 @@ pub mod refusals;
 mod run;
 mod series;
 
+pub use run::refused_vector;
 ghost use mathlib.Core.Path.{_≡_};
 ghost use Rattle.vector.specs.Run.{rebalances};
 ghost use Rattle.vector.specs.Values.{valueVector};

@@ -309,7 +309,8 @@ pub(crate) fn blank() -> ValueVector
     }
 }
 
-pub(crate) fn refused_vector(number: u8) -> VectorAnswer
+// A refusal, by its number, with the blank vector.
+pub fn refused_vector(number: u8) -> VectorAnswer
     ensures { λ r. ⌜ r ≡ refusedVector number ⌝ }
 {
     VectorAnswer {

@@ -1,16 +1,14 @@
 use mathlib.Core.Path.{_≡_, refl, _∙_, ap}
 use Prim.Native.Nat.{ℕ}
 use native.Mathlib.Omega.{arith}
-use mathlib.Core.Bool.{Bool, true, false, _&&_}
 use lib.IntN.{ℤ}
 use lib.Ieee.{Float}
 use mir.Facts.{toZ-ofZ}
 use borrow.Author.Needs.{needs}
-use Rattle.elementary.specs.Float.{finite, positive}
-use Rattle.vector.specs.Run.{Ended, vector, overCap, failed, boundOk, rows, run}
-use Rattle.vector.specs.Values.{vectorOf, refusedVector, vectorBy, vectorIf, ratesOk, valueVector}
+use Rattle.vector.specs.Run.{Ended, vector, overCap, failed, rows, run}
+use Rattle.vector.specs.Values.{vectorOf, refusedVector, vectorBy}
 use Rattle.distances.specs.Distances.{place, exactAt}
-use Rattle.distances.specs.FloatEntry.{refusedEntry, withVector, answerBy, floatsOk}
+use Rattle.distances.specs.FloatEntry.{refusedEntry, withVector, answerBy}
 use Rattle.vector.specs.declared.ValueVector.{ValueVector}
 use Rattle.vector.specs.declared.Outcome.{Outcome}
 use Rattle.vector.specs.declared.Outcome.the-variants as Outcome
@@ -18,6 +16,7 @@ use Rattle.distances.specs.declared.Answer.the-variants as Answer
 use Rattle.distances.specs.declared.FloatAnswer.{FloatAnswer}
 use Rattle.vector.proofs.Bounds.{bound-range}
 use Rattle.distances.proofs.Holdings.{place-most}
+use Rattle.distances.proofs.Reading.{vector-is}
 use Rattle.distances.proofs.entry.entry_within.Statement.{statement}
 use Rattle.distances.proofs.entry.entry_within.Tie as tie
 
@@ -33,19 +32,6 @@ module _ (b : ℕ) (k base : Float) (q : ℤ) where
   entry-is (vector w o s) = refl
   entry-is (overCap need l) = refl
   entry-is (failed s) = refl
-
--- the value vector where the checks pass
-inner : (k a e b t : Bool) → (k && a && e && b && t) ≡ true → (a && e && t) ≡ true
-inner false a e b t h = cc
-inner true false e b t h = cc
-inner true true false b t h = cc
-inner true true true false t h = cc
-inner true true true true t h = h
-
-vector-is : (k alpha eta base : Float) (bound : ℕ) (tau : Float) → floatsOk k alpha eta base tau ≡ true → boundOk bound ≡ true
-    → valueVector alpha eta bound tau ≡ vectorBy (rows bound) (run bound alpha eta tau)
-unfolding floatsOk valueVector ratesOk vectorIf
-vector-is k alpha eta base bound tau f b = rw (inner (positive k) (positive alpha) (positive eta) (positive base) (finite tau) f, b)
 
 come : (c : tie.After-value-vector) → let a = c .before .args in c .value-vector .result ≡ vectorBy (rows (a .bound)) (run (a .bound) (a .alpha) (a .eta) (a .tau))
 come c = let s = c .before in c .value-vector .ensures ∙ vector-is (s .args .k) (s .args .alpha) (s .args .eta) (s .args .base) (s .args .bound) (s .args .tau) (s .pre .0) (s .pre .1)

@@ -1,14 +1,15 @@
 use borrow.Author.Needs.{needs}
+use Rattle.vector.specs.Values.{refusedVector}
 use Rattle.distances.specs.FloatEntry.{refusedEntry}
 use Rattle.distances.proofs.entry.refused_entry.Statement.{statement}
 use Rattle.distances.proofs.entry.refused_entry.Tie as tie
 
-blank-requires : tie.Need-blank-requires
-blank-requires c κs = search needs
+refused-vector-requires : tie.Need-refused-vector-requires
+refused-vector-requires c κs = search needs
 
 returns : tie.Need-returns
-unfolding refusedEntry
-returns c = cc
+unfolding refusedEntry refusedVector
+returns c = rw (c .before .refused-vector .ensures)
 
 pub refused-entry-spec : {M : Type 1} → statement M
-refused-entry-spec = tie.close (tie.spec blank-requires returns)
+refused-entry-spec = tie.close (tie.spec refused-vector-requires returns)

@@ -1,67 +1,19 @@
-use mathlib.Core.Path.{_≡_, refl}
-use Prim.Native.Nat.{ℕ}
 use mir.Facts.{toZ-ofZ}
 use borrow.Author.Needs.{needs}
-use Rattle.distances.specs.FloatEntry.{floatEntry}
-use Rattle.quote.specs.Quotes.{Judged, quoted, refused, withSteps, exactBy}
-use Rattle.quote.specs.Inner.{builtOf, stepsWith}
 use Rattle.quote.proofs.quotes.exact_of.Statement.{statement}
 use Rattle.quote.proofs.quotes.exact_of.Tie as tie
-
-with-steps : (s : ℕ) (j : Judged) → withSteps s j ≡ stepsWith s (builtOf j)
-unfolding builtOf withSteps stepsWith
-with-steps s (quoted q) = refl
-with-steps s (refused r) = refl
-
--- the answer, as the code has it
-entry-is : (c : tie.After-float-entry) → let a = c .before .args in
-    floatEntry (a .m .k) (a .m .alpha) (a .m .eta) (a .m .base) (a .m .«q_max») (a .tau) (a .q) .answer ≡ c .float-entry .result .answer
-entry-is c = rw (c .float-entry .ensures, toZ-ofZ (c .before .fits .q))
 
 float-entry-requires : tie.Need-float-entry-requires
 float-entry-requires c κs = search needs
 
-enum-known-answer : tie.Need-enum-known-answer
-enum-known-answer c = search needs
-
-build-quotes-requires : tie.Need-build-quotes-requires
-build-quotes-requires c κs = search needs
-
-with-steps-requires : tie.Need-with-steps-requires
-with-steps-requires c κs = search needs
-
-enum-known-answer-2 : tie.Need-enum-known-answer-2
-enum-known-answer-2 c = search needs
-
-enum-known-answer-3 : tie.Need-enum-known-answer-3
-enum-known-answer-3 c = search needs
+from-answer-requires : tie.Need-from-answer-requires
+from-answer-requires c κs = search needs
 
 returns : tie.Need-returns
-unfolding exactBy
 returns c =
-    let b = c .before in
-    let e = b .before .before .before .before in
+    let e = c .before in
     let s = e .before in
-    rw (entry-is e, b .before .before .answer .given .1, c .with-steps .ensures, b .build-quotes .ensures, toZ-ofZ (s .fits .mid), toZ-ofZ (s .fits .least), with-steps)
-
-returns-2 : tie.Need-returns-2
-unfolding exactBy
-returns-2 c = rw (entry-is (c .before .before .before), c .before .answer2 .given .1)
-
-returns-3 : tie.Need-returns-3
-unfolding exactBy
-returns-3 c = rw (entry-is (c .before .before .before), c .before .answer3 .given .1)
+    rw (c .from-answer .ensures, e .float-entry .ensures, toZ-ofZ (s .fits .mid), toZ-ofZ (s .fits .least), toZ-ofZ (s .fits .q))
 
 pub exact-of-spec : {M : Type 1} → statement M
-exact-of-spec =
-    tie.close
-    (tie.spec
-    float-entry-requires
-    enum-known-answer
-    build-quotes-requires
-    with-steps-requires
-    enum-known-answer-2
-    enum-known-answer-3
-    returns
-    returns-2
-    returns-3)
+exact-of-spec = tie.close (tie.spec float-entry-requires from-answer-requires returns)

@@ -1,0 +1,121 @@
+// One reckoning for every holding: the checks that no holding takes part in, the value vector of a
+// configuration and a market, and the quotes of so many lots from it.
+ghost use mathlib.Core.Path.{_≡_};
+ghost use lib.IntN.{_*ℤ_};
+ghost use lib.Dec.{T};
+ghost use Rattle.quote.specs.Configuration.{amountOk, above0};
+ghost use Rattle.quote.specs.Model.{modelOk};
+ghost use Rattle.quote.specs.Reckoning.{checkCall, reckonIf, reckoning, quotesFrom, quotesOfLots};
+use crate::ExactQuotes;
+use crate::GLFTConfig;
+use crate::Model;
+use crate::amounts::amount_fits;
+use crate::amounts::is_positive;
+use crate::parameters;
+use crate::refusals;
+use vector::VectorAnswer;
+
+// Whether a call's numbers pass, or the number that refuses them.
+pub enum Check {
+    Passes,
+    Refused(u8),
+}
+
+// What the quotes of every holding are made from: the model's k and base, and its value vector.
+pub struct Reckoning {
+    pub k: f64,
+    pub base: f64,
+    pub vector: VectorAnswer,
+}
+
+// Whether the numbers of a call pass, whatever the holding: refused by 2, then 1, then 3.
+pub fn check_call(mid_price: i64, config: GLFTConfig, volatility: i64, current_time: u64) -> Check
+    ensures { λ r. ⌜ r ≡ checkCall «mid_price» config volatility «current_time» ⌝ }
+{
+    if current_time > GLFTConfig::MAX_TIME {
+        return Check::Refused(refusals::LIMITS);
+    }
+    if parameters::limits_fit(mid_price, 0, config, volatility) {
+        if crate::config::validate(config) {
+            if is_positive(mid_price) & is_positive(volatility) {
+                return Check::Passes;
+            }
+            return Check::Refused(refusals::MARKET);
+        }
+        return Check::Refused(vector::refusals::CONFIGURATION);
+    }
+    Check::Refused(refusals::LIMITS)
+}
+
+// The value vector of a model, or 5 in its place.
+fn vector_of(m: Model, tau: f64) -> VectorAnswer
+    ensures { λ r. ⌜ r ≡ reckonIf (modelOk m) m tau ⌝ }
+{
+    if parameters::floats_fit(m) {
+        return vector::value_vector(m.alpha, m.eta, m.q_max, tau);
+    }
+    vector::refused_vector(elementary::OUTSIDE)
+}
+
+// The reckoning of a configuration and a market. A model that 5 refuses leaves that in the vector's
+// place, as 11 and the cap report are there where the run ends in one.
+pub fn reckon(config: GLFTConfig, volatility: i64, current_time: u64) -> Reckoning
+    ensures { λ r. ⌜ r ≡ reckoning config volatility «current_time» ⌝ }
+{
+    let m = parameters::model_of(config, volatility);
+    let tau = parameters::seconds_to_terminal(config.terminal_time, current_time);
+    Reckoning {
+        k: m.k,
+        base: m.base,
+        vector: vector_of(m, tau),
+    }
+}
+
+// The exact quotes at q lots from what `value_vector` answered: refused by 2 where the mid or the min
+// spread is beyond the limit, then as the vector's answer and its distances are, then by 13 and 14.
+pub fn quotes_from(
+    mid_price: i64,
+    min_spread: i64,
+    k: f64,
+    base: f64,
+    q: i64,
+    vector: VectorAnswer,
+) -> ExactQuotes
+    ensures { λ r. ⌜ r ≡ quotesFrom «mid_price» «min_spread» k base q vector ⌝ }
+{
+    if amount_fits(mid_price) {
+        if amount_fits(min_spread) {
+            return crate::quotes::from_answer(
+                mid_price,
+                min_spread,
+                distances::answer_from(vector, k, base, q),
+            );
+        }
+    }
+    ExactQuotes::Refused(refusals::LIMITS)
+}
+
+// Whether the holding of so many lots is within the limit. No product is formed, so none is beyond 64
+// bits.
+fn lots_fit(q: i64, lot_size: i64) -> bool
+    requires { ⌜ T (above0 «lot_size») ⌝ }
+    ensures { λ r. ⌜ r ≡ amountOk (q *ℤ «lot_size») ⌝ }
+{
+    let most = GLFTConfig::MAX_AMOUNT / lot_size;
+    (0 - most <= q) & (q <= most)
+}
+
+// The exact quotes of so many lots from a reckoning: refused by 1 where the lot size is not positive,
+// by 2 where the lots' holding is beyond the limit, then as `quotes_from`.
+pub fn quotes_of_lots(mid_price: i64, config: GLFTConfig, r: Reckoning, q: i64) -> ExactQuotes
+    ensures { λ x. ⌜ x ≡ quotesOfLots «mid_price» config r q ⌝ }
+{
+    if is_positive(config.lot_size) {
+        if lots_fit(q, config.lot_size) {
+            let vector = r.vector;
+            return quotes_from(mid_price, config.min_spread, r.k, r.base, q, vector);
+        }
+        return ExactQuotes::Refused(refusals::LIMITS);
+    }
+    ExactQuotes::Refused(vector::refusals::CONFIGURATION)
+}

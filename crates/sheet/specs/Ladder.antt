@@ -1,0 +1,129 @@
+-- Change request 4: a ladder, one line for each lot from minus the bound to the bound. Definitions only.
+use mathlib.Core.Path.{_≡_}
+use mathlib.Core.Logic.{_⊎_, _↔_}
+use Prim.Native.Nat.{ℕ, zero, suc, _+_, _*_, _<_, _≤_}
+use mathlib.Core.Bool.{Bool, true, false}
+use mathlib.Core.List.{List, [], _++_}
+use lib.IntN.{ℤ, pos, _-ℤ_}
+use lib.ListN.{length}
+use lib.Dec.{leb}
+use Rattle.quote.specs.Quotes.{exactQuotes}
+use Rattle.quote.specs.Promises.{Pair}
+use Rattle.quote.specs.Reckoning.{checkCall, reckoning, holdingOf, quotesOfLots, Carries, Opposed, Early}
+use Rattle.quote.specs.declared.GLFTConfig.{GLFTConfig}
+use Rattle.quote.specs.declared.GlftQuotes.{GlftQuotes}
+use Rattle.quote.specs.declared.ExactQuotes.the-variants as Exact
+use Rattle.quote.specs.declared.reckoning.Check.{Check}
+use Rattle.quote.specs.declared.reckoning.Check.the-variants as Check
+use Rattle.quote.specs.declared.reckoning.Reckoning.{Reckoning}
+use Rattle.sheet.specs.Refusals.{smallLadderBuffer}
+use Rattle.sheet.specs.Record.{readAs}
+use Rattle.sheet.specs.Lines.{answerLine, refusalLine, over}
+use Rattle.sheet.specs.Sheet.{leastRoom, recordLine, Step, stepAt}
+use Rattle.sheet.specs.declared.record.Record.{Record}
+use Rattle.sheet.specs.declared.ladder.LadderAnswer.{LadderAnswer}
+use Rattle.sheet.specs.declared.ladder.LadderAnswer.the-variants as LadderAnswer
+
+-- ---- the lines
+-- how many there are, and the lots of line i, counted from 0
+abbrev pub rungs : GLFTConfig → ℕ
+rungs c = 2 * c .«max_inventory_lots» + 1
+
+unfoldable pub lotAt : GLFTConfig → ℕ → ℤ
+lotAt c i = pos i -ℤ pos (c .«max_inventory_lots»)
+
+unfoldable pub ladderLine : ℤ → GLFTConfig → Reckoning → ℕ → List ℕ
+ladderLine mid c r i = answerLine (quotesOfLots mid c r (lotAt c i))
+
+-- the first k lines, lowest first, each right after the last
+unfoldable pub ladderLines : ℤ → GLFTConfig → Reckoning → ℕ → List ℕ
+ladderLines mid c r zero = []
+ladderLines mid c r (suc k) = ladderLines mid c r k ++ ladderLine mid c r k
+
+-- all of them, from one reckoning
+unfoldable pub ladder : ℤ → GLFTConfig → ℤ → ℕ → List ℕ
+ladder mid c vol t = ladderLines mid c (reckoning c vol t) (rungs c)
+
+-- ---- the ladder that a buffer of so many bytes gets, or the refusal of the whole: what 2, 1 or 3 refuses at holding 0, then 21
+abbrev pub ladderRoom : GLFTConfig → ℕ
+ladderRoom c = leastRoom * rungs c
+
+pub data Ladder : Type 0 where
+  written : List ℕ → Ladder
+  refused : ℕ → Ladder
+
+unfoldable pub ladderIf : Check → Bool → List ℕ → Ladder
+ladderIf (Check.Refused n) m t = refused n
+ladderIf Check.Passes false t = refused smallLadderBuffer
+ladderIf Check.Passes true t = written t
+
+unfoldable pub ladderFor : ℤ → GLFTConfig → ℤ → ℕ → ℕ → Ladder
+ladderFor mid c vol t room = ladderIf (checkCall mid c vol t) (leb (ladderRoom c) room) (ladder mid c vol t)
+
+-- ---- what `write_ladder` answers, and what it leaves in the buffer
+unfoldable pub ladderAnswer : Ladder → LadderAnswer
+ladderAnswer (written t) = LadderAnswer.Written (length t)
+ladderAnswer (refused n) = LadderAnswer.Refused n
+
+unfoldable pub ladderLeft : Ladder → List ℕ → List ℕ
+ladderLeft (written t) b = over t b
+ladderLeft (refused n) b = b
+
+abbrev pub laddered : ℤ → GLFTConfig → ℤ → ℕ → List ℕ → LadderAnswer
+laddered mid c vol t b = ladderAnswer (ladderFor mid c vol t (length b))
+
+abbrev pub ladderedIn : ℤ → GLFTConfig → ℤ → ℕ → List ℕ → List ℕ
+ladderedIn mid c vol t b = ladderLeft (ladderFor mid c vol t (length b)) b
+
+-- ---- a sheet's ladders: a record's, its holding left aside, or the line of what refuses it as a whole
+unfoldable pub ladderText : Ladder → List ℕ
+ladderText (written t) = t
+ladderText (refused n) = refusalLine n
+
+unfoldable pub recordLadder : ℕ → Record → List ℕ
+recordLadder room r = ladderText (ladderFor (r .«mid_price») (r .config) (r .volatility) (r .«current_time») room)
+
+-- at a place, with a buffer of so many bytes
+unfoldable pub ladderAt : ℕ → List ℕ → ℕ → Step
+ladderAt room s at = stepAt (recordLadder room) s at (readAs true s at)
+
+-- a record's line or its ladder
+unfoldable pub recordText : Bool → ℕ → Record → List ℕ
+recordText false room r = recordLine r
+recordText true room r = recordLadder room r
+
+abbrev pub textAt : Bool → ℕ → List ℕ → ℕ → Step
+textAt l room s at = stepAt (recordText l room) s at (readAs l s at)
+
+-- ==== statements, of a desk whose numbers pass
+-- line i is the line of `exact_quotes` at the holding of its lots
+abbrev pub LadderIsSingle : Type 0
+LadderIsSingle = (mid : ℤ) (c : GLFTConfig) (vol : ℤ) (t : ℕ) → checkCall mid c vol t ≡ Check.Passes → (i : ℕ) → i < rungs c
+    → ladderLine mid c (reckoning c vol t) i ≡ answerLine (exactQuotes mid (holdingOf c (lotAt c i)) c vol t)
+
+-- opposite lines, the first and the last before all: the same report or refusal before prices, or the distances exchanged; where both quote, the bid of one
+-- and the ask of the other add up to twice the mid
+abbrev pub LadderMirror : Type 0
+LadderMirror = (mid : ℤ) (c : GLFTConfig) (vol : ℤ) (t : ℕ) → checkCall mid c vol t ≡ Check.Passes → (i j : ℕ) → i + j ≡ 2 * c .«max_inventory_lots»
+    → Opposed mid c vol t (holdingOf c (lotAt c i)) (holdingOf c (lotAt c j))
+    × ((x y : GlftQuotes) (s r : ℕ) → quotesOfLots mid c (reckoning c vol t) (lotAt c i) ≡ Exact.Quotes x s → quotesOfLots mid c (reckoning c vol t) (lotAt c j) ≡ Exact.Quotes y r → Pair mid x y)
+
+-- one run: the steps of all lines that carry steps agree
+abbrev pub LadderOneRun : Type 0
+LadderOneRun = (mid : ℤ) (c : GLFTConfig) (vol : ℤ) (t i j n m : ℕ)
+    → Carries (quotesOfLots mid c (reckoning c vol t) (lotAt c i)) n → Carries (quotesOfLots mid c (reckoning c vol t) (lotAt c j)) m → n ≡ m
+
+-- a ladder fits its buffer
+abbrev pub LadderFits : Type 0
+LadderFits = (mid : ℤ) (c : GLFTConfig) (vol : ℤ) (t : ℕ) (b : List ℕ) (n : ℕ) → laddered mid c vol t b ≡ LadderAnswer.Written n → n ≤ length b
+
+-- ---- the whole is refused by n just where n is 2, 1 or 3 and `exact_quotes` refuses by it at holding 0, and by 21 where that refuses by none of them and the
+-- buffer has too little room; by no other number, and a refusal leaves the buffer as it was
+abbrev pub Unrefused : ℤ → GLFTConfig → ℤ → ℕ → Type 0
+Unrefused mid c vol t = (n : ℕ) → Early n → exactQuotes mid (pos 0) c vol t ≡ Exact.Refused n → ⊥
+
+abbrev pub LadderRefusals : Type 0
+LadderRefusals = (mid : ℤ) (c : GLFTConfig) (vol : ℤ) (t : ℕ) (b : List ℕ) (n : ℕ)
+    → ((laddered mid c vol t b ≡ LadderAnswer.Refused n)
+    ↔ ((Early n × (exactQuotes mid (pos 0) c vol t ≡ Exact.Refused n)) ⊎ ((n ≡ smallLadderBuffer) × Unrefused mid c vol t × (length b < ladderRoom c))))
+    × (laddered mid c vol t b ≡ LadderAnswer.Refused n → ladderedIn mid c vol t b ≡ b)
