@@ -11,10 +11,8 @@ reaches the programs a few bytes at a time. Prints what was met; the status is 1
 or where fast.py meets steps that are not quoting.py's.
 """
 import collections
-import contextlib
 import io
 import os
-import subprocess
 import sys
 
 import ladder  # first: it says where sheet and quoting are
@@ -22,6 +20,7 @@ import ladder  # first: it says where sheet and quoting are
 import fast
 import quoting
 import sheet
+from pieces import PIECES, SIZES, written
 from quoting import MOST_AMOUNT, RECORD, Desk, unpack
 from records import Ladders
 
@@ -32,8 +31,6 @@ BLOCK = 682
 BRIEF_RUNS = (0, 1, BLOCK - 1, BLOCK, BLOCK + 1, 2 * BLOCK)
 MOST_RUN, MOST_SHEET = 40, 8
 MOST_HOLDING = 2**55 - 1  # twice that is eight groups
-PIECES = 4000
-SIZES = (1, 3, 100, PIECES, PIECES)
 LONG = (sheet.MOST_BYTES - 1, sheet.MOST_BYTES, sheet.MOST_BYTES + 1, sheet.MOST_BYTES + 1000)
 
 
@@ -61,18 +58,6 @@ class Sheets(compare.Sheets):
         """One record again and again, the last cut off."""
         s = sheet.packed(self.desks.one_lot())
         return (s * (length // len(s) + 1))[:length]
-
-
-# ---- the programs
-def written(program, s, size):
-    """What a program writes for bytes of which the first PIECES reach it so many at a time."""
-    process = subprocess.Popen([program], stdin=subprocess.PIPE, stdout=subprocess.PIPE, bufsize=0)
-    first = s[:PIECES]
-    with contextlib.suppress(BrokenPipeError):
-        for at in range(0, len(first), size):
-            process.stdin.write(first[at: at + size])
-    out, _ = process.communicate(s[PIECES:])
-    return out if process.returncode == 0 else b"status %d" % process.returncode
 
 
 # ---- what was met

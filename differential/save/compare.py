@@ -9,17 +9,16 @@ records.py's. Some input reaches the programs a few bytes at a time. Prints what
 1 where a byte differs.
 """
 import collections
-import contextlib
 import io
 import itertools
 import os
 import re
-import subprocess
 import sys
 
 import saving  # first: it says where sheet and quoting are
 
 import sheet
+from pieces import PIECES, SIZES, written
 from quoting import RECORD, Desk, unpack
 from records import Records
 
@@ -30,8 +29,6 @@ BLOCK = 682  # the records that saverun reads at once
 RUNS = (0, 1, BLOCK - 1, BLOCK, BLOCK + 1, 2 * BLOCK)
 LONGER = 2000
 MOST_STORED = 2**55 - 1  # twice that is eight groups
-PIECES = 4000
-SIZES = (1, 3, 100, PIECES, PIECES)
 BYTES = {11: "11", 40: "12 to 40", 60: "41 to 60", 84: "61 to 84", 88: "85 to 88"}
 ENDS = {None: "saved without what 2 refuses", 6: "saved up to a 6", 7: "saved up to a 7", 9: "not saved, 9"}
 
@@ -50,18 +47,7 @@ class Sheets(compare.Sheets):
         return Desk(*(x if name == "holding" else abs(x) for name, x in zip(Desk._fields, desk)))
 
 
-# ---- the programs
-def written(program, s, size):
-    """What a program writes for bytes of which the first PIECES reach it so many at a time."""
-    process = subprocess.Popen([program], stdin=subprocess.PIPE, stdout=subprocess.PIPE, bufsize=0)
-    first = s[:PIECES]
-    with contextlib.suppress(BrokenPipeError):
-        for at in range(0, len(first), size):
-            process.stdin.write(first[at: at + size])
-    out, _ = process.communicate(s[PIECES:])
-    return out if process.returncode == 0 else b"status %d" % process.returncode
-
-
+# ---- differences
 def line_difference(told, ours):
     """The first line that differs."""
     pairs = enumerate(itertools.zip_longest(told, ours.decode("ascii", "replace").splitlines(True)), 1)

@@ -6,7 +6,8 @@ use mathlib.Core.List.{List}
 use lib.ListN.{length, drop}
 use Rattle.sheet.specs.Record.{Read, taken, refused, numbers, fields, recordFrom, asHeld, heldAs, readAs, readRecord}
 use Rattle.sheet.specs.Sheet.{recordLine, line, stepOf, stepIf, stepAt, lineAt}
-use Rattle.sheet.specs.Ladder.{recordText, ladderAt, textAt}
+use Rattle.sheet.specs.Ladder.{ladderAt}
+use Rattle.sheet.specs.Inner.{recordText, textAt}
 use Rattle.sheet.specs.declared.record.Record.{Record}
 use Rattle.sheet.specs.declared.record.RecordAnswer.{RecordAnswer}
 use Rattle.sheet.specs.declared.record.RecordAnswer.the-variants as RecordAnswer

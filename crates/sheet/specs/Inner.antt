@@ -5,7 +5,10 @@ use mathlib.Core.Bool.{Bool, true, false}
 use mathlib.Core.List.{List}
 use lib.ListN.{length, drop}
 use lib.Dec.{eqb}
-use Rattle.sheet.specs.Record.{Read, taken, refused, number, numbers, fields}
+use Rattle.sheet.specs.Record.{Read, taken, refused, number, numbers, fields, readAs}
+use Rattle.sheet.specs.Sheet.{recordLine, Step, stepAt}
+use Rattle.sheet.specs.Ladder.{recordLadder}
+use Rattle.sheet.specs.declared.record.Record.{Record}
 use Rattle.sheet.specs.declared.record.Number.{Number}
 use Rattle.sheet.specs.declared.record.Number.the-variants as Number
 use Rattle.sheet.specs.declared.record.Numbers.{Numbers}
@@ -22,3 +25,11 @@ readBy false k v l = refused k
 
 abbrev pub NumbersAre : List ℕ → ℕ → Numbers → Type 0
 NumbersAre s at r = (numbers fields (drop at s) ≡ readBy (eqb (r .kind) 0) (r .kind) (r .values) (drop (r .next) s)) × (r .next ≤ length s)
+
+-- a record's line or its ladder, for a buffer of so many bytes
+unfoldable pub recordText : Bool → ℕ → Record → List ℕ
+recordText false room r = recordLine r
+recordText true room r = recordLadder room r
+
+abbrev pub textAt : Bool → ℕ → List ℕ → ℕ → Step
+textAt l room s at = stepAt (recordText l room) s at (readAs l s at)

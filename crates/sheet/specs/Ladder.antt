@@ -19,7 +19,7 @@ use Rattle.quote.specs.declared.reckoning.Reckoning.{Reckoning}
 use Rattle.sheet.specs.Refusals.{smallLadderBuffer}
 use Rattle.sheet.specs.Record.{readAs}
 use Rattle.sheet.specs.Lines.{answerLine, refusalLine, over}
-use Rattle.sheet.specs.Sheet.{leastRoom, recordLine, Step, stepAt}
+use Rattle.sheet.specs.Sheet.{leastRoom, Step, stepAt}
 use Rattle.sheet.specs.declared.record.Record.{Record}
 use Rattle.sheet.specs.declared.ladder.LadderAnswer.{LadderAnswer}
 use Rattle.sheet.specs.declared.ladder.LadderAnswer.the-variants as LadderAnswer
@@ -86,14 +86,6 @@ recordLadder room r = ladderText (ladderFor (r .«mid_price») (r .config) (r .v
 -- at a place, with a buffer of so many bytes
 unfoldable pub ladderAt : ℕ → List ℕ → ℕ → Step
 ladderAt room s at = stepAt (recordLadder room) s at (readAs true s at)
-
--- a record's line or its ladder
-unfoldable pub recordText : Bool → ℕ → Record → List ℕ
-recordText false room r = recordLine r
-recordText true room r = recordLadder room r
-
-abbrev pub textAt : Bool → ℕ → List ℕ → ℕ → Step
-textAt l room s at = stepAt (recordText l room) s at (readAs l s at)
 
 -- ==== statements, of a desk whose numbers pass
 -- line i is the line of `exact_quotes` at the holding of its lots

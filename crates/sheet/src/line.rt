@@ -8,7 +8,7 @@ ghost use lib.Dec.{T};
 ghost use lib.Ieee.{isNan};
 ghost use Rattle.quote.specs.Replies.{PriceKept, ReplyKept};
 ghost use Rattle.sheet.specs.Lines.{glyph, digits, places, count, price, side, hex, quotesLine, capLine, refusalLine, answerLine, over};
-ghost use Rattle.sheet.specs.Ladder.{textAt};
+ghost use Rattle.sheet.specs.Inner.{textAt};
 ghost use Rattle.sheet.specs.Sheet.{leastRoom, recordLine, lineAt, hasRoom, answered, left};
 use crate::ladder::write_text;
 use crate::record::Record;

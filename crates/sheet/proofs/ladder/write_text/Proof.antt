@@ -1,5 +1,5 @@
 use borrow.Author.Needs.{needs}
-use Rattle.sheet.specs.Ladder.{recordText}
+use Rattle.sheet.specs.Inner.{recordText}
 use Rattle.sheet.proofs.ladder.write_text.Statement.{statement}
 use Rattle.sheet.proofs.ladder.write_text.Tie as tie
 

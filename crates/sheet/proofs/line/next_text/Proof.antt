@@ -6,7 +6,7 @@ use lib.ListN.{length}
 use lib.Dec.{lit<}
 use denote.Ref.{now}
 use Rattle.sheet.specs.Sheet.{stepOf}
-use Rattle.sheet.specs.Ladder.{recordText, textAt}
+use Rattle.sheet.specs.Inner.{recordText, textAt}
 use Rattle.sheet.proofs.Widths.{refusal-most}
 use Rattle.sheet.proofs.Steps.{step-end, step-long, step-read, no-room, no-line, one-line}
 use borrow.Author.Needs.{needs}
