@@ -5,7 +5,7 @@
 The sheets: document 01's usual desk with no time left, as many records as a sheet holds; and
 glft.rs's own example at its start, 600 seconds before its end. The time of a sheet is processor time,
 the least of several rounds in which the programs take turns, less that of an empty sheet, which is
-the start-up time. The programs have to print as many quotes, with the same prices to two billionths.
+the start-up time. The programs have to print as many quotes, with the same prices to three billionths.
 """
 import os
 import sys
@@ -18,7 +18,7 @@ from quoting import BILLION  # noqa: E402
 from sheet import MOST_BYTES, packed  # noqa: E402
 
 ROUNDS = 41
-WITHIN = 2
+WITHIN = 3
 
 
 def sheets():

@@ -86,28 +86,29 @@ def holdings():
 
 def lots():
     """Holdings within the amount limit and beyond it."""
-    # ln(9,000,001) is 16.012735; over gamma, 9,000,000, that is 1,779 billionths
+    # ln(9,000,001) is 16.0127352; over gamma, 9,000,000, that is 1,779.19 billionths, which go up to 1,780
     most = USUAL._replace(lot_size=MOST_AMOUNT)
-    quote = "Q 99.999998221 100.000001779 0\n"
-    yield most._replace(bound=1), ROOM, level(1, "99.999998221", "100.000001779")
+    quote = "Q 99.999998220 100.000001780 0\n"
+    yield most._replace(bound=1), ROOM, level(1, "99.999998220", "100.000001780")
     for bound in (2, 200):
         yield most._replace(bound=bound), ROOM, within(bound, 1, quote)
-    # 24 lots are just the limit: ln(375,001) is 12.834684, and over 375,000 that is 34,226 billionths
+    # 24 lots are just the limit: ln(375,001) is 12.8346840, and over 375,000 that is 34,225.82 billionths
     exact = USUAL._replace(lot_size=MOST_AMOUNT // 24)
     yield exact._replace(bound=25), ROOM, within(25, 24, "Q 99.999965774 100.000034226 0\n")
     yield exact._replace(bound=24), ROOM, level(24, "99.999965774", "100.000034226")
-    # 23 lots are one billionth beyond it: ln(391,305.35) is 12.877244, and over 391,304.35 that is 32,909 billionths
+    # 23 lots are one billionth beyond it: ln(391,305.348) is 12.8772435, and over 391,304.348 that is 32,908.51
+    # billionths
     beyond = USUAL._replace(lot_size=(MOST_AMOUNT + 1) // 23)
     yield beyond._replace(bound=23), ROOM, within(23, 22, "Q 99.999967091 100.000032909 0\n")
-    # half the limit and one billionth: ln(4,500,001) / 4,500,000 is 3,404 billionths
+    # half the limit and one billionth: ln(4,500,001) is 15.3195882, and over 4,500,000 that is 3,404.35 billionths
     over = USUAL._replace(lot_size=MOST_AMOUNT // 2 + 1, bound=3)
-    yield over, ROOM, within(3, 1, "Q 99.999996596 100.000003404 0\n")
+    yield over, ROOM, within(3, 1, "Q 99.999996595 100.000003405 0\n")
     # a cap report is the line of the holdings that pass
     late = most._replace(bound=3, terminal=MOST_TIME, current=0)
     yield late, ROOM, within(3, 1, None)
-    # gamma is 2 billionths: ln(1 + gamma) / gamma is 1 - gamma / 2
-    yield USUAL._replace(lot_size=2, bound=3), ROOM, level(3, "99.000000001", "100.999999999")
-    yield USUAL._replace(lot_size=1, bound=3), ROOM, untold(3)
+    # gamma is the lot size, and ln(1 + gamma) / gamma is 1 - gamma / 2: 999,999,998.5 and 999,999,999.5 billionths
+    yield USUAL._replace(lot_size=3, bound=3), ROOM, level(3, "99.000000001", "100.999999999")
+    yield USUAL._replace(lot_size=1, bound=3), ROOM, level(3, "99.000000000", "101.000000000")
 
 
 def prices():
@@ -134,9 +135,10 @@ def prices():
 def runs():
     """Lines with steps: the default's, README.md's desk, and a rebalancing."""
     # one step of t = 0.001 seconds: the middle weight is 1 - t^2/16, and those beside it are 1 - t/4 + t^2/16; the
-    # logarithms are t/4 - 3t^2/32 apart, 0.00024990625, by which 0.69314718056 grows or falls
+    # logarithms are t/4 - 3t^2/32 apart, 0.00024990625, by which 0.69314718056 grows or falls: to 0.69339708681 and
+    # 0.69289727431, of which the next billionths are the distances
     yield USUAL._replace(terminal=1, current=0), ROOM, [
-        "Q 99.307102726 - 1\n", "Q 99.306602913 100.693397087 1\n", "Q - 100.692897274 1\n"]
+        "Q 99.307102725 - 1\n", "Q 99.306602913 100.693397087 1\n", "Q - 100.692897275 1\n"]
     yield USUAL._replace(terminal=1000, current=0, bound=5), ROOM, untold(5)
     yield OPERATORS, ROOM, untold(30)
     yield OPERATORS._replace(holding=0), 64 * 61, untold(30)
@@ -277,7 +279,7 @@ def records():
     yield USUAL._replace(mid=ONE // 2), ["R 14\n", "R 14\n", "Q - 1.193147181 0\n"]
     yield OPERATORS._replace(bound=3), untold(3)
     yield USUAL._replace(terminal=MOST_TIME, current=0), ["C 42905EF39B200000 11000\n"] * 3
-    yield USUAL._replace(lot_size=MOST_AMOUNT, bound=2), within(2, 1, "Q 99.999998221 100.000001779 0\n")
+    yield USUAL._replace(lot_size=MOST_AMOUNT, bound=2), within(2, 1, "Q 99.999998220 100.000001780 0\n")
 
 
 def sheet_of_the_gate():

@@ -8,9 +8,10 @@ For each case of exact.py and each q from -Q to Q:
   paper's, and its two distances are held to Theorem 1's;
 - DESKRUN, the quotes, gets amounts. Sigma goes from root seconds to root years of 365 days, to the
   nearest billionth. Mid less bid and ask less mid are held to Theorem 1's distances (`exact_quotes`)
-  and to the closed form's (`closed_form_quotes`).
+  and to the closed form's (`closed_form_quotes`): a price lies outside the paper's, by less than a
+  billionth.
 
-A distance or price further off than the bounds below, a side that only one of both has, and a line that
+A distance or price that is not within the bounds below, a side that only one of both has, and a line that
 is no answer are faults. The first of them are told, and the status is 1 where there is one.
 """
 import os
@@ -35,9 +36,10 @@ TOLD = 10
 # case "Q 100, two minutes", the latter of a distance of -0.023
 ABSOLUTE_BOUND = 4.1e-14
 RELATIVE_BOUND = 1.9e-13
-# error of a price, in billionths: half of one by rounding, and what the float distance before it was measured to be
-# off, with sigma as it is typed: up to 0.0006 in exact quotes, and 0.0017 in the closed form
-PRICE_BOUND = 0.502
+# how far a price lies outside the paper's, in billionths: from 0 to 1 by rounding, and to either side what the float
+# distance before it was measured to be off, with sigma as it is typed: up to 0.0006 in exact quotes, and 0.0017 in the
+# closed form
+LEAST_OUT, MOST_OUT = -0.002, 1.002
 
 
 class Faults:
@@ -126,18 +128,17 @@ def floats_off(case, ours, papers, faults):
 
 
 def prices_off(what, case, ours, papers, faults):
-    """The largest error of deskrun in billionths; one above its bound is a fault."""
-    largest = mpf(0)
+    """The least and the most that deskrun's prices lie outside, in billionths; one not within the bounds is a fault."""
+    out = []
     for q, side, a, b in pairs(what, case, ours, papers, faults):
-        error = abs(a - b * BILLION)
-        largest = max(largest, error)
-        if not error <= PRICE_BOUND:
-            faults.tell(case.name, "q %d" % q, side, "%s: off by %s billionths" % (what, mp.nstr(error, 4)))
-    return largest
+        out.append(a - b * BILLION)
+        if not LEAST_OUT <= out[-1] <= MOST_OUT:
+            faults.tell(case.name, "q %d" % q, side, "%s: %s billionths outside" % (what, mp.nstr(out[-1], 4)))
+    return min(out, default=mpf(0)), max(out, default=mpf(0))
 
 
 def measured(case, floatrun, deskrun, faults):
-    """The steps, and the four largest errors of a case."""
+    """The steps of a case, the two largest errors of its floats, and the least and most of its prices, twice."""
     theorem = exact.exact(case)
     with mp.workdps(exact.DIGITS):
         form = exact.closed_form(exact.scales(case), case.bound)
@@ -146,25 +147,25 @@ def measured(case, floatrun, deskrun, faults):
     forms = from_quotes(deskrun, case, quoting.CLOSED_FORM, faults)
     with mp.workdps(DIGITS):
         return (steps, *floats_off(case, floats, theorem, faults),
-                prices_off("exact quotes", case, quotes, theorem, faults),
-                prices_off("closed form", case, forms, form, faults))
+                *prices_off("exact quotes", case, quotes, theorem, faults),
+                *prices_off("closed form", case, forms, form, faults))
 
 
 def main():
     floatrun, deskrun = sys.argv[1:]
     faults = Faults()
-    absolute = relative = price = 0
-    print("%-28s %6s  %-22s  %s" % ("", "", "floatrun's distances:", "deskrun's prices, absolute, in billionths:"))
-    print("%-28s %6s  %-11s %-11s %-13s %s" % ("case", "steps", "absolute", "relative", "exact quotes", "closed form"))
+    absolute, relative, out = 0, 0, []
+    print("%-28s %6s  %-22s  %s" % ("", "", "floatrun's distances:", "deskrun's prices, outside by billionths:"))
+    print("%-28s %6s  %-11s %-11s %-20s %s" % ("case", "steps", "absolute", "relative", "exact quotes", "closed form"))
     for case in exact.CASES:
         steps, *errors = measured(case, floatrun, deskrun, faults)
-        absolute, relative, price = max(absolute, errors[0]), max(relative, errors[1]), max(price, *errors[2:])
-        shown = [mp.nstr(e, 3) for e in errors]
-        print("%-28s %6d  %-11s %-11s %-13s %s" % (case.name, steps, *shown))
+        absolute, relative, out = max(absolute, errors[0]), max(relative, errors[1]), out + errors[2:]
+        shown = [mp.nstr(e, 3) for e in errors[:2]]
+        print("%-28s %6d  %-11s %-11s %.4f to %-10.4f %.4f to %.4f" % (case.name, steps, *shown, *errors[2:]))
     print("%d cases, %d faults; largest relative error %s (bound %s), absolute error %s units (bound %s), "
-          "price error %s billionths (bound %s)"
+          "prices outside by %.4f to %.4f billionths (bounds %s and %s)"
           % (len(exact.CASES), faults.count, mp.nstr(relative, 3), RELATIVE_BOUND, mp.nstr(absolute, 3), ABSOLUTE_BOUND,
-             mp.nstr(price, 3), PRICE_BOUND))
+             min(out), max(out), LEAST_OUT, MOST_OUT))
     sys.exit(1 if faults.count else 0)
 
 

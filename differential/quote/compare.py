@@ -6,11 +6,15 @@ OURS is what deskrun wrote, ROUTED and NOTES what `oracle routed NOTES` did, and
 platform` did. The status is 1 where a desk is not as document 01 expects:
 
 - both quote, on the same sides and with the same steps, and where the distances are below 1,000 no
-  price is more than two billionths from the routed glft.rs's (at larger ones the prices are recorded);
+  price is more than three billionths from the routed glft.rs's (at larger ones the prices are recorded);
 - or both report the cap, with the same numbers; or both refuse, by the same number;
 - or they part by design: by 2, at a number beyond document 01's limits, which the Rust does not have;
-  or by 13 or 14, where module 5, with its limits and its rounding to billionths, gives deskrun's line
-  for the Rust's own distances (quoting.py reckons it).
+  or by 13 or 14, where module 5, with its limits and its rounding up to billionths, gives deskrun's line
+  for the Rust's own distances (quoting.py reckons it); or by quotes where the Rust refuses by 14, if its
+  distances add up to no spread: it widens that to a min spread of 0, and here half of it is rounded up.
+
+How near the prices come is printed, by the size of the larger distance: the largest difference, and how many
+are above three billionths.
 
 Where the Rust has quoting.py's model floats and time, its distances are ours, and module 5 over them has to
 be deskrun's line, whichever that is. rust_decimal's conversion is not always the nearest float, so the Rust
@@ -32,11 +36,13 @@ from quoting import BILLION, MOST_AMOUNT, MOST_TIME
 ENTRIES = ("exact", "wrapper", "closed form")
 PLANS = {0: "no run", 1: "1 step", quoting.STEPS: "11,000 steps"}
 NEAR = 1000.0
-WITHIN = 2
+WITHIN = 3
 SIZES = (NEAR, 1e4, 1e5, 1e6, 1e7)
 FLOATS = (*quoting.Model._fields[:7], "tau")
 # by how much of itself a float may differ: one that is converted, and one that is reckoned from such
 CONVERTED, RECKONED = 1e-15, 1e-13
+# by how much of the larger one the sum of two distances may differ, of which the Rust's decimals keep 15 digits
+KEPT = 1e-14
 MOST_APART = {name: CONVERTED if name in ("k", "a", "tau") else RECKONED for name in FLOATS}
 
 Note = collections.namedtuple("Note", "rebalancings distances floats")
@@ -86,6 +92,12 @@ def difference(ours, theirs):
     return max(abs(int(a) - fractions.Fraction(b) * BILLION) for a, b in pairs)
 
 
+def no_spread(desk, distances):
+    """Whether both sides are there and have no spread, to the digits of the Rust's decimals, nor need any."""
+    both = None not in distances and desk.min_spread == 0
+    return both and sum(map(fractions.Fraction, distances)) <= KEPT * size_of(distances)
+
+
 def beyond_limits(desk, entry):
     amounts = [getattr(desk, name) for name in quoting.SIGNED]
     times = [desk.terminal] + [desk.current] * (entry in (quoting.EXACT, quoting.WRAPPER))
@@ -117,7 +129,7 @@ class Prices:
         for size in [s for s in (*SIZES, None) if s in self.sizes]:
             far = self.sizes[size]
             what = "below %s" % format(int(size), ",") if size else "larger"
-            print("  distances %s: %d desks, the largest difference %.4g, above two %d"
+            print("  distances %s: %d desks, the largest difference %.6g, above three %d"
                   % (what, len(far), float(max(far)), sum(f > WITHIN for f in far)))
 
 
@@ -159,7 +171,7 @@ class Comparison:
         others, wrong = self.other_floats(desk, entry, ours, note)
         if wrong:
             return wrong
-        line = module_5(desk, note.distances, routed.split()[3:] if routed_kind == "Q" else [])
+        line = module_5(desk, note.distances, (routed if routed_kind == "Q" else ours).split()[3:])
         if line and not others:
             if ours != line:
                 return "module 5 over the Rust's distances is " + line
@@ -170,6 +182,9 @@ class Comparison:
             return None
         if ours_kind in ("R 13", "R 14") and ours == line:
             self.design["%s, where the Rust gives %s" % (ours_kind[2:], routed_kind)] += 1
+            return None
+        if (ours_kind, routed_kind) == ("Q", "R 14") and ours == line and no_spread(desk, note.distances):
+            self.design["quotes, no spread before they are widened, where the Rust gives R 14"] += 1
             return None
         return "another end"
 

@@ -150,6 +150,11 @@ class Desks:
                           spread + self.amount(-9, 0))
         return self.held(desk._replace(min_spread=max(0, min(MOST_AMOUNT, least))))
 
+    def outward(self):
+        """A base distance that is a whole number of billionths, or the next float above or below one."""
+        lot = self.pick(2490178505363150, 2490178505363152, 2490178505363153)
+        return self.held(self.plain()._replace(risk_aversion=1000, k=ONE, lot_size=lot))
+
     def halfway(self):
         """A base distance halfway between two billionths; the even one is above, or below."""
         k, lot = self.pick((112, 1102600000), (115, 1088200000))
@@ -187,11 +192,20 @@ class Desks:
         desk = self.turned(self.plain()._replace(bound=self.bound() + 1, mid=self.amount(-3, 2)), -6, 12)
         return self.timed(desk, self.steps(1, 30))._replace(holding=desk.lot_size * self.pick(desk.bound, desk.bound - 1))
 
-    def not_in_order(self):
-        """A base distance of few billionths, or of less than half of one."""
+    def few_billionths(self):
+        """A base distance of few billionths, or of less than one."""
         lot = self.amount(3, 6)
         desk = self.plain()._replace(lot_size=lot, risk_aversion=self.amount(1, 6), k=self.amount(0, 6))
         return self.held(desk._replace(min_spread=self.pick(0, 0, self.whole(0, 4))))
+
+    def not_in_order(self):
+        """Weights of 1 but for their last digits, which over so small a k outweigh the base distance."""
+        lot = self.amount(5, 6)
+        desk = self.plain()._replace(lot_size=lot, risk_aversion=self.amount(6, 7) // 2, k=self.pick(1, 2, 2),
+                                     a=self.amount(-3, 0), bound=min(self.most, self.whole(4, 12)))
+        desk = self.stirred(desk, (0.02 + 0.15 * self.unit()) * 2.0**-53)  # over one second
+        q = self.whole(1, min(desk.bound, MOST_AMOUNT // lot)) * self.pick(-1, 1)
+        return desk._replace(holding=q * lot, terminal=1000, current=0, min_spread=self.pick(0, 0, 0, 1))
 
     # ---- the cap
     def over_cap(self):
@@ -304,13 +318,15 @@ SHARES = {
     Desks.more_steps: 30,
     Desks.one_step: 80,
     Desks.no_time: 40,
-    Desks.widened: 106,
+    Desks.widened: 100,
+    Desks.outward: 6,
     Desks.halfway: 4,
     Desks.far: 60,
     Desks.beyond: 40,
     Desks.not_positive: 40,
     Desks.not_positive_ask: 30,
-    Desks.not_in_order: 40,
+    Desks.few_billionths: 20,
+    Desks.not_in_order: 20,
     Desks.over_cap: 40,
     Desks.full_plan: 4,
     Desks.natural: 12,

@@ -4,9 +4,11 @@
     python3 listed.py names
 
 A case is a name, what it changes of the usual desk, and, where document 01's text tells the answer
-of `exact_quotes`, that: a refusal's number, or bid and ask in billionths; quoting.py is held to it.
-Each desk is written five times, once for each entry; with `names`, a line shows a case's name and
-the five answers by quoting.py. Nothing of the library takes part.
+of `exact_quotes`, that: a refusal's number, or bid and ask in billionths, and the steps where there
+are some. A fourth part, where there is one, is the answer of `closed_form_quotes`. quoting.py is held
+to both. Distances go up to the next billionth, as change request 5 has it. Each desk is written five
+times, once for each entry; with `names`, a line shows a case's name and the five answers by
+quoting.py. Nothing of the library takes part.
 """
 import sys
 
@@ -18,7 +20,7 @@ from quoting import CLOSED_FORM, CONFIGURATION, EXACT, MODEL, WRAPPER, Desk
 
 MILLION = 10**6 * ONE
 LARGEST, LEAST = 2**63 - 1, -(2**63)
-BASE = 693147181  # the logarithm of 2
+BASE = 693147181  # the logarithm of 2, 0.693147180559, rounded up
 CAP = "cap"
 USUAL = Desk(100 * ONE, 0, ONE, ONE, ONE, ONE, 1, ONE, 1000, 1000, 0)
 EXAMPLE = Desk(1000 * ONE, 0, 1684700000000, ONE // 100, 3 * ONE // 10, 9 * ONE // 10, 30, ONE, 600000, 0, 0)
@@ -99,11 +101,11 @@ def fractions():
     yield "one billionth more than a lot", held(ONE, ONE + 1), 4
     yield "minus 1.5 lots", held(ONE, -3 * ONE // 2), 4
     yield "1 in lots of 3", held(3 * ONE, ONE), 4
-    # the logarithm of 4, a third of it
-    yield "3 in lots of 3", held(3 * ONE, 3 * ONE), (None, 100462098120)
-    yield "minus 3 in lots of 3", held(3 * ONE, -3 * ONE), (99537901880, None)
+    # a third of the logarithm of 4 is 0.462098120373, and twice that of 1.5 is 0.810930216216
+    yield "3 in lots of 3", held(3 * ONE, 3 * ONE), (None, 100462098121)
+    yield "minus 3 in lots of 3", held(3 * ONE, -3 * ONE), (99537901879, None)
     yield "4 in lots of 3", held(3 * ONE, 4 * ONE), 4
-    yield "0.5 in lots of 0.5", held(ONE // 2, ONE // 2), (None, 100810930216)
+    yield "0.5 in lots of 0.5", held(ONE // 2, ONE // 2), (None, 100810930217)
     yield "one billionth in lots at the limit", held(LIMIT, 1), 4
 
 
@@ -172,14 +174,33 @@ def crossed():
     yield "an ask far below 0 before the end", dict(long, k=ONE // 100, current=999), 14
 
 
-def same_price():
+def few_billionths():
     averse = {"risk_aversion": LIMIT}
+    least = dict(averse, lot_size=LIMIT)
     yield "a distance of 2.5 billionths", dict(averse, lot_size=1000 * ONE), around(3)
     yield "a distance of 0.55 billionths", dict(averse, lot_size=5000 * ONE), around(1)
-    yield "a distance of 0.28 billionths", dict(averse, lot_size=10000 * ONE), 14
-    yield "a distance of nearly 0", dict(averse, lot_size=LIMIT), 14
-    yield "the same, min spread one billionth", dict(averse, lot_size=LIMIT, min_spread=1), around(1)
-    yield "the same, min spread 3 billionths", dict(averse, lot_size=LIMIT, min_spread=3), around(2)
+    yield "a distance of 0.28 billionths", dict(averse, lot_size=10000 * ONE), around(1)
+    yield "a distance of nearly 0", least, around(1)
+    yield "the same, min spread one billionth", dict(least, min_spread=1), around(1)
+    yield "the same, min spread 3 billionths", dict(least, min_spread=3), around(2)
+    yield "the same, mid one billionth", dict(least, mid=1), 14
+    yield "the same, mid two billionths", dict(least, mid=2), (1, 3)
+
+
+def same_price():
+    # Logarithms of weights that are 1 less a last digit or none: over k they are 111.02 billionths apart, and the base
+    # distance is 0.006. With 2 lots the distances are 0.006 and -111.017 billionths, which go up to 1 and -111; the
+    # spread of -110 is widened by 55 a side, and both prices are 56 below the mid
+    noise = {"volatility": 10000, "risk_aversion": LIMIT, "k": 1, "bound": 5, "lot_size": MILLION, "terminal": 1,
+             "current": 0}
+    yield "bid and ask the same", dict(noise, holding=2 * MILLION), 14
+    yield "the same, with minus 2 lots", dict(noise, holding=-2 * MILLION), 14
+    below = 100 * ONE - 57, 100 * ONE - 55, 1
+    yield "the same, min spread one billionth", dict(noise, holding=2 * MILLION, min_spread=1), below
+    # distances of 4.4 and -106.6 billionths, which go up to 5 and -106: the spread of -101, widened by 51 a side, is 1
+    lot, odd = 10**5 * ONE, (100 * ONE - 56, 100 * ONE - 55, 1)
+    noise = {"volatility": 10000, "risk_aversion": lot, "k": 1, "bound": 3, "lot_size": lot, "current": 0}
+    yield "a spread below zero, widened to one billionth", dict(noise, holding=2 * lot), odd
 
 
 def two_faults():
@@ -204,10 +225,10 @@ def two_faults():
 
 
 def prices():
-    # half the logarithm of 3, that of 1.5, and twice that
-    yield "risk aversion 2", {"risk_aversion": 2 * ONE}, around(549306144)
-    yield "k 2", {"k": 2 * ONE}, around(405465108)
-    yield "lot size 0.5", {"lot_size": ONE // 2}, around(810930216)
+    # half the logarithm of 3 is 0.549306144334, that of 1.5 is 0.405465108108, and twice that 0.810930216216
+    yield "risk aversion 2", {"risk_aversion": 2 * ONE}, around(549306145)
+    yield "k 2", {"k": 2 * ONE}, around(405465109)
+    yield "lot size 0.5", {"lot_size": ONE // 2}, around(810930217)
     yield "min spread that of the quotes", {"min_spread": 2 * BASE}, around(BASE)
     yield "min spread one billionth more", {"min_spread": 2 * BASE + 1}, around(BASE + 1)
     yield "min spread two billionths more", {"min_spread": 2 * BASE + 2}, around(BASE + 1)
@@ -217,13 +238,77 @@ def prices():
 
 
 def halfway():
-    up = {"risk_aversion": 5, "k": 112, "lot_size": 1102600000}  # 8,715,779.8779296875
-    down = {"risk_aversion": 5, "k": 115, "lot_size": 1088200000}  # 8,496,209.9072265625
-    above, below = 8715779877929688, 8496209907226562
-    yield "halfway, no ask", dict(up, mid=LIMIT, holding=-1102600000), (LIMIT - above, None)
-    yield "halfway, no bid", dict(up, holding=1102600000), (None, 100 * ONE + above)
-    yield "halfway the other way, no ask", dict(down, mid=LIMIT, holding=-1088200000), (LIMIT - below, None)
-    yield "halfway the other way, no bid", dict(down, holding=1088200000), (None, 100 * ONE + below)
+    odd = {"risk_aversion": 5, "k": 112, "lot_size": 1102600000}  # 8,715,779.8779296875
+    even = {"risk_aversion": 5, "k": 115, "lot_size": 1088200000}  # 8,496,209.9072265625
+    far, near = 8715779877929688, 8496209907226563
+    yield "halfway above an odd count, no ask", dict(odd, mid=LIMIT, holding=-1102600000), (LIMIT - far, None)
+    yield "halfway above an odd count, no bid", dict(odd, holding=1102600000), (None, 100 * ONE + far)
+    yield "halfway above an even count, no ask", dict(even, mid=LIMIT, holding=-1088200000), (LIMIT - near, None)
+    yield "halfway above an even count, no bid", dict(even, holding=1088200000), (None, 100 * ONE + near)
+
+
+# ---- distances on a billionth and next to one: a float is a whole number of billionths where it is one of 512ths
+def outward():
+    # 257/512 = 0.501953125, and with 2^-53 more and less: 501,953,125.0000001 and 501,953,124.9999999 billionths
+    averse = {"risk_aversion": 1000}
+    yield "on a billionth", dict(averse, lot_size=2490178505363152), around(501953125)
+    yield "the next float above it", dict(averse, lot_size=2490178505363150), around(501953126)
+    yield "the next float below it", dict(averse, lot_size=2490178505363153), around(501953125)
+
+
+def negative():
+    # -513/512 = -1.001953125, and with 2^-52 more and less, after two steps: -1,001,953,124.9999998 billionths, which
+    # go up to -1,001,953,124, and -1,001,953,125.0000002, which go up to -1,001,953,125
+    steep = {"risk_aversion": 2000000, "a": 1, "holding": ONE, "terminal": 1, "current": 0}
+    on, above = 100 * ONE - 1001953125, 100 * ONE - 1001953124
+    yield "minus, on a billionth", dict(steep, volatility=7943683008218277), (None, on, 2)
+    yield "minus, the next float above", dict(steep, k=2 * ONE, volatility=6881694195624682), (None, above, 2)
+    yield "minus, the next float below", dict(steep, k=2 * ONE, volatility=6881694195624683), (None, on, 2)
+    # Theorem 1 of the 2013 paper gives -0.892342418266979
+    slope = {"volatility": 10000 * ONE, "a": 1, "holding": ONE, "terminal": 1000, "current": 0}
+    yield "minus, between two billionths", slope, (None, 100 * ONE - 892342418, 1)
+    yield "the same, no ask", dict(slope, holding=-ONE), (100 * ONE + 892342418, None, 1)
+
+
+def negative_forms():
+    # the closed form's -1025/512 = -2.001953125, and with 2^-51 more and less: -2,001,953,124.9999996 billionths, which
+    # go up to -2,001,953,124, and -2,001,953,125.0000004, which go up to -2,001,953,125
+    steep, flat = {"a": 50000 * ONE, "holding": ONE}, (None, 100 * ONE + BASE)
+    on, above = 100 * ONE - 2001953125, 100 * ONE - 2001953124
+    yield "a form on a billionth", dict(steep, volatility=4786061079427177), flat, (None, on)
+    yield "a form at the next float above", dict(steep, volatility=4786061079427176), flat, (None, above)
+    yield "a form at the next float below", dict(steep, volatility=4786061079427178), flat, (None, on)
+    mirrored = dict(steep, holding=-ONE, volatility=4786061079427176)
+    yield "the same, no ask", mirrored, (100 * ONE - BASE, None), (200 * ONE - above, None)
+
+
+def distance_limits():
+    # a bid's distance of 9,000,000, and with 2^-29 less and more: 8,999,999,999,999,998.1 billionths, which go up to
+    # one less than the limit, and 9,000,000,000,000,001.9; beside the former the ask's is -2,999,977,585,009,492.5
+    long = {"mid": LIMIT, "k": 50, "a": 1, "bound": 2, "holding": ONE, "terminal": 5000, "current": 0}
+    yield "a bid's distance at the limit", dict(long, volatility=6151676951213053), 14
+    below = dict(long, volatility=6151676951213052)
+    yield "the next float below, a bid of one billionth", below, (1, LIMIT - 2999977585009492, 1)
+    yield "the next float above, 13", dict(long, volatility=6151676951213054), 13
+    # an ask's distance of -9,000,000, and with 2^-29 more and less
+    late = {"mid": LIMIT, "k": 80, "a": 1, "holding": ONE, "terminal": 10000, "current": 0}
+    yield "an ask's distance at minus the limit", dict(late, volatility=7534248673057214), 14
+    yield "the next float above, an ask of two billionths", dict(late, volatility=7534248673057213), (None, 2, 1)
+    yield "the next float below, 13", dict(late, volatility=7534248673057215), 13
+
+
+def form_limits():
+    # the same distances by the closed form; beside the bid's that is less the ask's is -2,999,999,075,803,758.6
+    # billionths. With no time left an ask is above the limit
+    long = {"mid": LIMIT, "a": 50, "bound": 2, "holding": ONE}
+    yield "a form's bid at the limit", dict(long, volatility=5327513080995885), 13, 14
+    below = dict(long, volatility=5327513080995884)
+    yield "a form's bid at the next float below", below, 13, (1, LIMIT - 2999999075803758)
+    yield "a form's bid at the next float above", dict(long, volatility=5327513080995886), 13, 13
+    late = {"mid": LIMIT, "a": 10, "holding": ONE}
+    yield "a form's ask at minus the limit", dict(late, volatility=7147609941041307), 13, 14
+    yield "a form's ask at the next float above", dict(late, volatility=7147609941041305), 13, (None, 2)
+    yield "a form's ask at the next float below", dict(late, volatility=7147609941041308), 13, 13
 
 
 def runs():
@@ -237,29 +322,31 @@ def runs():
 
 
 TABLES = (document, at_the_limit, beyond_the_limit, configurations, markets, fractions, bounds, caps, too_far,
-          widened_too_far, one_side_too_far, crossed, same_price, two_faults, prices, halfway, runs)
+          widened_too_far, one_side_too_far, crossed, few_billionths, same_price, two_faults, prices, halfway, outward,
+          negative, negative_forms, distance_limits, form_limits, runs)
 
 
-def hold(name, desk, told):
-    """The reckoning against what document 01's text tells."""
-    exact = quoting.line(desk, EXACT)
+def hold(name, line, told, steps=()):
+    """A line against what document 01's text tells, with such steps where it tells none."""
     if told is None:
         return
     if told == CAP:
-        agrees = exact.startswith("C ")
+        agrees = line.startswith("C ")
     elif isinstance(told, int):
-        agrees = exact == "R %d" % told
+        agrees = line == "R %d" % told
     else:
-        agrees = exact == quoting.prices(*told) + " 0"
+        agrees = line == " ".join([quoting.prices(*told[:2]), *map(str, told[2:] or steps)])
     if not agrees:
-        sys.exit("listed.py: %s: %s, and not %s" % (name, exact, told))
+        sys.exit("listed.py: %s: %s, and not %s" % (name, line, told))
 
 
 def cases():
     for table in TABLES:
-        for name, changes, told in table():
+        for name, changes, told, *form in table():
             desk = changes if isinstance(changes, Desk) else USUAL._replace(**changes)
-            hold(name, desk, told)
+            hold(name, quoting.line(desk, EXACT), told, (0,))
+            for answer in form:
+                hold(name, quoting.line(desk, CLOSED_FORM), answer)
             yield name, desk
 
 

@@ -5,7 +5,7 @@
 DESKS and LINES are what deskrun reads and writes. Python's floats are binary64, and each +, -, * and
 / on them rounds once, so the paper's order of operations is written down as it stands. Its
 elementary functions are those of differential/elementary/reckon.py. Amounts are whole numbers of
-billionths, and a distance is rounded over fractions.
+billionths, and a distance is rounded up to one over fractions, by change request 5.
 """
 import collections
 import fractions
@@ -227,7 +227,8 @@ def float_entry(k, alpha, eta, base, bound, tau, q):
 
 # ---- module 5: quotes
 def billionths(d):
-    return round(fractions.Fraction(d) * BILLION)  # ties to even
+    """The least count that is no smaller than a distance, which may be negative."""
+    return math.ceil(fractions.Fraction(d) * BILLION)
 
 
 def build_quotes(desk, distances):

@@ -74,8 +74,9 @@ def report(needed, left):
 
 
 class Asked:
-    def __init__(self, rust, elementary_bits, deskrun, floatrun):
-        self.programs = {"rust": rust, "elementary": elementary_bits, "desk": deskrun, "float": floatrun}
+    def __init__(self, rust, elementary_bits, deskrun, floatrun, roundrun):
+        self.programs = {"rust": rust, "elementary": elementary_bits, "desk": deskrun, "float": floatrun,
+                         "round": roundrun}
 
     def lines(self, program, data):
         done = subprocess.run([self.programs[program]], input=data, stdout=subprocess.PIPE, check=True)
@@ -97,6 +98,10 @@ class Asked:
 
     def float_entry(self, *record):
         return self.lines("float", struct.pack("<4dQdq", *record))[0].split()
+
+    def billionths(self, distance):
+        """The count that a distance becomes."""
+        return int(self.lines("round", struct.pack("<d", distance))[0])
 
     def theirs(self, desk, entry=EXACT, asked=None):
         """The Rust's answer to a desk, or to the words of one."""

@@ -4,6 +4,7 @@ from mpmath import mp, mpf
 import exact
 import quoting
 from asked import CLOSED_FORM, EXACT, ONE, USUAL, described, grouped, plain, price
+from distances import LEAST_OUT, MOST_OUT
 
 YEAR = 31536000
 # sigma 0.3 per root of a second, A 0.9, k 0.3, gamma 0.01, Q 30, and 600 seconds
@@ -19,8 +20,8 @@ def case(desk):
 
 
 def prices(desk, distances):
-    """To the billionth."""
-    bid, ask = (mp.nint(d * ONE) for d in distances)
+    """To the billionth, outward as ours are."""
+    bid, ask = (mp.ceil(d * ONE) for d in distances)
     return "%s / %s" % (price(desk.mid - int(bid)), price(desk.mid + int(ask)))
 
 
@@ -43,7 +44,7 @@ def both(ask, desk, entry):
     if " / " not in ours:
         return ours if theirs == ours else "%s, %s" % (theirs, ours)
     for a, b in zip(theirs.split(" / "), ours.split(" / ")):
-        assert a == b == "-" or abs(mpf(a) - mpf(b)) < 2e-9, desk
+        assert a == b == "-" or abs(mpf(a) - mpf(b)) <= 3e-9, desk
     return ours
 
 
@@ -83,8 +84,8 @@ def distances(ask, desk, entry=EXACT):
 
 
 def held(found, papers):
-    """Distances within a billionth of the paper's."""
-    assert all(a is None or abs(a - b * ONE) < 1 for a, b in zip(found, papers))
+    """Distances as far outside the paper's as the comparison with it allows, about a billionth."""
+    assert all(a is None or LEAST_OUT <= a - b * ONE <= MOST_OUT for a, b in zip(found, papers))
     return found
 
 

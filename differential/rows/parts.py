@@ -1,4 +1,7 @@
-"""What LN in two parts changes: LN in one part, as document 01 had it before change request 2, beside it."""
+"""What LN in two parts changes: LN in one part, as document 01 had it before change request 2, beside it.
+
+Prices of both are rounded as change request 5 has it.
+"""
 import contextlib
 import functools
 
@@ -81,10 +84,11 @@ def long_rows(ask):
 
 
 def noise_rows(ask):
-    """Over every holding and both sides, errors in billionths."""
+    """Over every holding and both sides: how many are the paper's, rounded outward, and errors in billionths."""
     one, two, theirs = long(ask)
     with mp.workdps(exact.DIGITS):
         for name, found in ("one part", one), ("two parts", two):
-            apart = [abs(a - b * ONE) for q in found for a, b in zip(found[q], theirs[q]) if a is not None]
-            right = sum(error <= mpf(1) / 2 for error in apart)
+            pairs = [(a, b * ONE) for q in found for a, b in zip(found[q], theirs[q]) if a is not None]
+            right = sum(a == mp.ceil(b) for a, b in pairs)
+            apart = [abs(a - b) for a, b in pairs]
             yield [name, str(len(apart)), str(right), "%.2f" % max(apart), "%.2f" % (sum(apart) / len(apart))]

@@ -1,6 +1,6 @@
 """The measured tables of docs/DIFFERENCES.md, made from their inputs.
 
-    python3 rows.py GLFT RUST ELEMENTARY_BITS DESKRUN FLOATRUN
+    python3 rows.py GLFT RUST ELEMENTARY_BITS DESKRUN FLOATRUN ROUNDRUN
 
 GLFT is the published glft.rs, and RUST is rows.rs, built over it. Prints each table as it stands in the document.
 The status is 1 where a row, or a table as a whole, does not stand there word for word, or where a public item of
@@ -110,6 +110,11 @@ def distance_row(ask, where, desk):
     return [where, "%s: distance %s" % (described(desk), exact), ask.rust("decimal", base), price(rounded)]
 
 
+def float_row(ask, where, x):
+    """The same of any distance, as a float."""
+    return [where, "distance %s" % shown(x), ask.rust("decimal", bits_of(x)), price(ask.billionths(x))]
+
+
 def decimal_rows(ask):
     count = int(ask.rust("first", ONE, AMOUNT_FROM))
     yield ["An amount's float", "k " + grouped(plain(count)), ask.rust("float", plain(count)), float_here(ask, count)]
@@ -118,6 +123,9 @@ def decimal_rows(ask):
         yield ["With zeros typed after it", "k " + padded, ask.rust("float", padded), float_here(ask, count)]
     yield time_row(ask)
     yield distance_row(ask, "A distance's decimal", USUAL)
+    yield distance_row(ask, "The next billionth, not the nearest", USUAL._replace(k=2 * ONE))
+    yield float_row(ask, "The smallest above zero", beyond(0.0))
+    yield float_row(ask, "Halfway, below zero", -(2.0**-10))
     yield distance_row(ask, "Its digits, dropped one by one", USUAL._replace(k=14 * ONE))
     longer = ["100.0000000001"] + words(USUAL)[1:]
     yield ["More than nine decimals", "mid " + longer[0], ask.theirs(USUAL, asked=longer), "cannot be typed"]
@@ -150,19 +158,23 @@ def widened(ask, where, entry=EXACT, **changes):
 
 def price_rows(ask):
     yield parted(ask, "A price's digits")
+    yield parted(ask, "A distance rounded outward", k=2 * ONE)
+    yield parted(ask, "A negative one, rounded up too", CLOSED_FORM, volatility=10**4 * ONE, holding=ONE, side="ask")
+    yield parted(ask, "One of less than a billionth", risk_aversion=MOST, lot_size=10**4 * ONE, side="bid")
     yield parted(ask, "A price of a large distance", mid=8 * 10**6 * ONE, holding=-ONE, risk_aversion=100, k=100,
                  side="bid")
     yield widened(ask, "Half the shortfall", min_spread=1386294363)
     yield widened(ask, "A min spread that is met here alone", min_spread=1386294362)
     yield widened(ask, "One that is met there alone", CLOSED_FORM, mid=8 * 10**6 * ONE, holding=2 * ONE,
                   volatility=8 * 10**6 * ONE, a=1000, bound=3, min_spread=2014661003679363)
+    yield parted(ask, "A spread below zero", holding=2 * 10**5 * ONE, volatility=10**4, risk_aversion=10**5 * ONE, k=1,
+                 bound=3, lot_size=10**5 * ONE, current=0)
     yield parted(ask, "An amount beyond the limit", mid=MOST + 1, side="bid")
     yield parted(ask, "A time beyond the limit", terminal=MOST + 1, current=MOST + 1, side="bid")
     yield parted(ask, "The limits come first", mid=MOST + 1, bound=0)
     yield parted(ask, "A price beyond the limit", mid=MOST - 693147180, side="ask")
     yield parted(ask, "A distance beyond the limit", risk_aversion=77, k=77)
     yield parted(ask, "A bid of less than a billionth", mid=693147181, side="bid")
-    yield parted(ask, "Bid and ask within a billionth", risk_aversion=MOST, lot_size=10**4 * ONE, side="bid")
     *row, last = parted(ask, "Steps in the answer", current=0, side="bid")
     yield row + ["%s, %s step" % (last, ask.desk(USUAL._replace(current=0))[3])]
 

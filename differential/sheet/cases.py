@@ -103,7 +103,8 @@ def lengths():
     # 562,949,953,420.312 seconds take 281,474,976,711 steps, 2^38 + 6,597,069,767: hex 425, and 6,597,069,767 * 2^14
     yield numbers({8: b"\x80\x80\x80\x80\x80\x80\x80\x01"}), "C 4250624DD2F1C000 11000\n"
     # a zero of one group: one step of t = 0.001 seconds. To 10^-10 the middle weight is 1 - t^2/16, and those beside it
-    # are 1 - t/4 + t^2/16; the logarithms are t/4 - 3t^2/32 apart: 0.00024990625 + 0.69314718056 = 0.69339708681
+    # are 1 - t/4 + t^2/16; the logarithms are t/4 - 3t^2/32 apart: 0.00024990625 + 0.69314718056 = 0.69339708681, of
+    # which the next billionth is the distance
     yield numbers({9: b"\x00", 8: b"\x01"}), "Q 99.306602913 100.693397087 1\n"
     yield numbers({0: b"\x80" * 7 + b"\x00"}), "R 7\n"
     # of 6 and 7 the first met decides
@@ -122,8 +123,8 @@ def long():
                    min_spread=big)
     longest = wide * (MOST_BYTES // len(wide)) + last
     assert len(longest) == MOST_BYTES
-    # k is 562,949.95 and gamma k^2: base is LN1P(k) / k^2, about 13.2 / (3.2 * 10^11), and rounds to 0 billionths.
-    # Both prices are mid, 16 * 2^48, and half of min spread moves each by 2^48: to 15 * 2^48 and 17 * 2^48
+    # k is 562,949.95 and gamma k^2: base is LN1P(k) / k^2, about 13.2 / (3.2 * 10^11), and goes up to 1 billionth. The
+    # prices are one beside mid, 16 * 2^48, and half the shortfall moves each by 2^48 - 1: to 15 * 2^48 and 17 * 2^48
     told = "Q 4222124.650659840 4785074.604081152 0\n"
     yield longest, "R 2\n" * (MOST_BYTES // len(wide)) + told
     yield longest + b"\0", "R 9\n"

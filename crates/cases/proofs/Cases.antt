@@ -12,7 +12,7 @@ use Rattle.distances.specs.Distances.{place, distance, bidAt, askAt, fine, side
 use Rattle.distances.specs.FloatEntry.{withVector, answerBy, entryIf, floatsOk, floatEntry}
 use Rattle.quote.specs.Configuration.{amountOk, timeOk, above0, toFloat, configLimits, configOk, configIf, newConfig}
 use Rattle.quote.specs.Model.{lots, holdingOk, marketOk, modelBy, modelFrom, modelOf, modelOk, tauOf, modelIf, modelLimits, newModel}
-use Rattle.quote.specs.Rounding.{rounded, billionths}
+use Rattle.quote.specs.Rounding.{billionths}
 use Rattle.quote.specs.Quotes.{side, halfUp, widening, bidPrice, askPrice, each, inOrder, judgeIf, judge, quotesBy, buildQuotes, exactFrom, exactIf, exactAnswer, closedFrom, closedAnswer, withSteps, exactBy, exactQuotes, wrapped, optimalQuotes, closedBy, closedFormQuotes}
 use Rattle.cases.specs.Cases.{ofConfig, ofModel, ofExact, ofOptimal, ofClosed, ofAnswer, ofFloats, reckonedFrom, ofTurn, reply, configurationCases, holdingCases, vectorCases, quoteCases, table, Cases}
 
@@ -24,7 +24,7 @@ unfolding
     from everyFrom fold larger orNan diagonalAt leftAt rightAt norm needed start begin runOn fixed runFor run
     padded vectorOf place distance bidAt askAt fine sides exactAt withVector answerBy entryIf floatsOk floatEntry
     amountOk timeOk above0 toFloat configLimits configOk configIf newConfig lots holdingOk marketOk modelBy modelFrom modelOf modelOk tauOf modelIf modelLimits newModel
-    rounded billionths side halfUp widening bidPrice askPrice each inOrder judgeIf judge quotesBy buildQuotes
+    billionths side halfUp widening bidPrice askPrice each inOrder judgeIf judge quotesBy buildQuotes
     exactFrom exactIf exactAnswer closedFrom closedAnswer withSteps exactBy exactQuotes wrapped optimalQuotes closedBy closedFormQuotes
     ofConfig ofModel ofExact ofOptimal ofClosed ofAnswer ofFloats reckonedFrom ofTurn reply configurationCases holdingCases vectorCases quoteCases table
 cases = refl

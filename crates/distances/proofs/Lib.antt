@@ -6,3 +6,4 @@ pub mod Presence
 pub mod Weights
 pub mod Refusing
 pub mod Reading
+pub mod Finite

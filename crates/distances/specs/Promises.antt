@@ -10,8 +10,11 @@ use Rattle.elementary.specs.Float.{0ᶠ, 1ᶠ}
 use Rattle.vector.specs.Vectors.{fill}
 use Rattle.vector.specs.Run.{cap, boundOk, rows}
 use Rattle.vector.specs.Values.{vectorOf}
-use Rattle.distances.specs.Distances.{place}
+use Rattle.vector.specs.declared.ValueVector.{ValueVector}
+use Rattle.vector.specs.declared.VectorAnswer.{VectorAnswer}
+use Rattle.distances.specs.Distances.{place, fine, exactDistances}
 use Rattle.distances.specs.FloatEntry.{floatsOk, floatEntry, floatSteps}
+use Rattle.distances.specs.Reading.{answerFrom}
 use Rattle.distances.specs.declared.Distance.{Distance}
 use Rattle.distances.specs.declared.Distance.the-variants.{At, Absent}
 use Rattle.distances.specs.declared.Sides.{Sides}
@@ -67,3 +70,12 @@ Withheld bound q b a = ((b ≡ Absent) ↔ (q ≡ pos bound)) × ((a ≡ Absent)
 abbrev pub FloatPresence : Type 0
 FloatPresence = (k alpha eta base : Float) (bound : ℕ) (tau : Float) (q : ℤ) (b a : Distance) (s : ℕ)
     → floatEntry k alpha eta base bound tau q .answer ≡ Distances b a s → Withheld bound q b a
+
+-- ---- a distance that is answered is finite: by the float entry, from what `value_vector` answered, and from a vector
+abbrev pub Finite : Distance → Distance → Type 0
+Finite b a = (fine b ≡ true) × (fine a ≡ true)
+
+pub record FiniteDistances : Type 0 where
+  pub entry : (k alpha eta base : Float) (bound : ℕ) (tau : Float) (q : ℤ) (b a : Distance) (s : ℕ) → floatEntry k alpha eta base bound tau q .answer ≡ Distances b a s → Finite b a
+  pub answer : (v : VectorAnswer) (k base : Float) (q : ℤ) (b a : Distance) (s : ℕ) → answerFrom v k base q ≡ Distances b a s → Finite b a
+  pub vector : (v : ValueVector) (k base : Float) (q : ℤ) (b a : Distance) → exactDistances v k base q ≡ Sides.Distances b a → Finite b a

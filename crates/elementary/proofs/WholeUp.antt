@@ -1,7 +1,7 @@
 -- Rounding up to a whole number: the laws of `ceilOf`, and what the code that cuts off a fraction computes. Assumes nothing.
 use mathlib.Core.Path.{_≡_, refl, sym, ap, _∙_, subst}
 use Prim.Native.Nat.{ℕ, zero, suc, _+_, _-_, _*_, _/_, _^_, _≤_, _<_, zero-le, suc-le-suc}
-use native.Mathlib.Nat.{zero-lt-suc, mul-one, mul-pos, le-mul-of-pos-right, lt-div-mul-add, div-mul-le-self, div-eq-of-lt-le, div-lt-iff-lt-mul}
+use native.Mathlib.Nat.{zero-lt-suc, mul-one, mul-pos, mul-comm, mul-le-mul-right, mul-lt-mul-of-pos-right, le-mul-of-pos-right, lt-div-mul-add, div-mul-le-self, div-eq-of-lt-le, div-lt-iff-lt-mul}
 use native.Mathlib.Omega.{arith}
 use mathlib.Core.Bool.{Bool, true, false, true≢false}
 use borrow.Author.Tests.{ltb-true, ltb-false}
@@ -14,16 +14,30 @@ use lib.Ieee.Exact.{HasValue}
 use lib.Ieee.Back.{round-whole}
 use Rattle.elementary.specs.Float.{finite, hex, 0ᶠ}
 use Rattle.elementary.specs.Elementary.{ceilOf}
-use Rattle.elementary.specs.WholeUp.{Next, CeilLeast, CeilWhole, CeilLarge}
+use Rattle.elementary.specs.WholeUp.{Next, next, CeilLeast, CeilWhole, CeilLarge}
 use Rattle.elementary.proofs.Signs.{round-neg}
 use Rattle.elementary.proofs.Exact.{round-value, held, ltb-same, whole-value}
 
--- ---- there is a k with `Next s a d k`, it is at most a, and `ceilOf` rounds it
-next-of : (s : Bool) (a d : ℕ) → 0 < d → (k : ℕ) × Next s a d k
-next-of true a d h = (a / d, (div-mul-le-self a d, lt-div-mul-add h))
-next-of false a d h =
-    let b = a + (d - 1) in (b / d, (omega (arith, lt-div-mul-add {a = b} h), omega (arith, div-mul-le-self b d)))
+-- ---- `next` is the k with `Next s a d k`, the only one, and that of every equal fraction
+pub next-holds : (s : Bool) (a d : ℕ) → 0 < d → Next s a d (next s a d)
+next-holds true a d h = (div-mul-le-self a d, lt-div-mul-add h)
+next-holds false a d h = let b = a + (d - 1) in (omega (arith, lt-div-mul-add {a = b} h), omega (arith, div-mul-le-self b d))
 
+pub next-only : (s : Bool) (a d k : ℕ) → 0 < d → Next s a d k → next s a d ≡ k
+next-only true a d k h n = div-eq-of-lt-le d (n .0) (omega arith)
+next-only false a d k h n = div-eq-of-lt-le d (omega arith) (omega arith)
+
+next-times : (s : Bool) (a d x : ℕ) → 0 < d → 0 < x → next s (a * x) (d * x) ≡ next s a d
+next-times s a d x h p = next-only s (a * x) (d * x) (next s a d) (mul-pos h p) (go s (next s a d) (next-holds s a d h))
+  where
+    go : (s : Bool) (k : ℕ) → Next s a d k → Next s (a * x) (d * x) k
+    go true k n = (omega (arith, mul-le-mul-right x (n .0)), omega (arith, mul-lt-mul-of-pos-right (n .1) p))
+    go false k n = (omega (arith, mul-le-mul-right x (n .0)), omega (arith, mul-lt-mul-of-pos-right (n .1) p))
+
+pub next-same : (s : Bool) (a b c d : ℕ) → 0 < b → 0 < d → a * d ≡ c * b → next s a b ≡ next s c d
+next-same s a b c d B D h = sym (next-times s a b d B D) ∙ (λ i. next s (h i) (mul-comm b d i)) ∙ next-times s c d b D B
+
+-- it is at most a, and `ceilOf` rounds it
 next-le : (s : Bool) (a d k : ℕ) → 0 < d → Next s a d k → k ≤ a
 next-le true a d k h n = omega (arith, le-mul-of-pos-right k h)
 next-le false a d zero h n = omega arith
@@ -31,8 +45,8 @@ next-le false a d (suc k) h n = omega (arith, le-mul-of-pos-right k h)
 
 ceil-is : (s : Bool) (m : ℕ) (e : ℤ) (k : ℕ) → Next s (m * up e) (down e) k → ceilOf (fin s m e) ≡ round binary64 s k 1
 unfolding ceilOf
-ceil-is true m e k n = ap (λ (j : ℕ). round binary64 true j 1) (div-eq-of-lt-le (down e) (n .0) (omega arith))
-ceil-is false m e k n = ap (λ (j : ℕ). round binary64 false j 1) (div-eq-of-lt-le (down e) (omega arith) (omega (arith, down-pos e)))
+ceil-is true m e k n = ap (λ (j : ℕ). round binary64 true j 1) (next-only true (m * up e) (down e) k (down-pos e) n)
+ceil-is false m e k n = ap (λ (j : ℕ). round binary64 false j 1) (next-only false (m * up e) (down e) k (down-pos e) n)
 
 next-self : (s : Bool) (a d k : ℕ) → 0 < d → a ≡ k * d → Next s a d k
 next-self true a d k p h = (omega arith, omega arith)
@@ -51,10 +65,10 @@ ceil-least s m (pos j) t =
     let h : a ≡ a * 1 = sym (mul-one a) in
     (a, (subst (λ (x : Float). HasValue x s a 1) (sym (ceil-whole s m (pos j) a t h)) (refl, refl), next-self s a 1 a (zero-lt-suc 0) h))
 ceil-least s m (negsuc j) t =
-    let n = next-of s (m * 1) (2 ^ suc j) (down-pos (negsuc j)) in
-    let k = n .0 in
-    let small : k ≤ 2 ^ 53 = omega (arith, next-le s (m * 1) (2 ^ suc j) k (down-pos (negsuc j)) (n .1), held binary64 s m (negsuc j) t .digits) in
-    (k, (subst (λ (x : Float). HasValue x s k 1) (sym (ceil-is s m (negsuc j) k (n .1))) (round-whole binary64 s k small), n .1))
+    let k = next s (m * 1) (2 ^ suc j) in
+    let n = next-holds s (m * 1) (2 ^ suc j) (down-pos (negsuc j)) in
+    let small : k ≤ 2 ^ 53 = omega (arith, next-le s (m * 1) (2 ^ suc j) k (down-pos (negsuc j)) n, held binary64 s m (negsuc j) t .digits) in
+    (k, (subst (λ (x : Float). HasValue x s k 1) (sym (ceil-is s m (negsuc j) k n)) (round-whole binary64 s k small), n))
 
 -- ---- what is left of a number below 2 ^ 52 when its fraction is cut off
 cut-lt : (m : ℕ) (e : ℤ) → m * up e < 2 ^ 52 * down e → m * up e / down e < 2 ^ 52

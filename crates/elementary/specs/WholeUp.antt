@@ -1,6 +1,6 @@
 -- What rounding up to a whole number is to give. No public contract cites this file. Definitions only.
 use mathlib.Core.Path.{_≡_}
-use Prim.Native.Nat.{ℕ, _+_, _*_, _^_, _≤_, _<_}
+use Prim.Native.Nat.{ℕ, _+_, _-_, _*_, _/_, _^_, _≤_, _<_}
 use mathlib.Core.Bool.{Bool, true, false}
 use lib.IntN.{ℤ}
 use lib.Dec.{T}
@@ -12,6 +12,11 @@ use Rattle.elementary.specs.Elementary.{ceilOf}
 abbrev pub Next : Bool → ℕ → ℕ → ℕ → Type 0
 Next false a d k = (a ≤ k * d) × (k * d < a + d)
 Next true a d k = (k * d ≤ a) × (a < k * d + d)
+
+-- it is: a / d rounded up, and for a minus sign cut
+abbrev pub next : Bool → ℕ → ℕ → ℕ
+next false a d = (a + (d - 1)) / d
+next true a d = a / d
 
 -- of x = ±m * 2 ^ e, `ceilOf` is that number: it is a whole one, not below x, and one less is below x
 abbrev pub CeilLeast : Type 0

@@ -3,7 +3,9 @@ pub mod Passed
 pub mod Mirrors
 pub mod Pairs
 pub mod Refusing
-pub mod Nearest
+pub mod Differences
+pub mod Least
+pub mod Outward
 pub mod Replies
 pub mod Limits
 pub mod Sizes

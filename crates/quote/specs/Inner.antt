@@ -1,12 +1,12 @@
 -- What the crate's own functions hand each other. No public contract cites this file. Definitions only.
-use Prim.Native.Nat.{ℕ}
+use Prim.Native.Nat.{ℕ, _*_}
 use lib.IntN.{ℤ}
-use mathlib.Core.Path.{_≡_}
 use mathlib.Core.Bool.{Bool, true, false}
-use lib.Ieee.{Float}
-use Rattle.quote.specs.Configuration.{amountOk}
+use lib.Ieee.{Float, nan, inf, fin, up, down}
+use Rattle.elementary.specs.WholeUp.{next}
+use Rattle.quote.specs.Configuration.{billion, amountOk}
 use Rattle.quote.specs.Model.{lots, holdingOk, modelOk, modelOf, modelIf}
-use Rattle.quote.specs.Rounding.{billionths}
+use Rattle.quote.specs.Rounding.{countIf}
 use Rattle.quote.specs.declared.GLFTConfig.{GLFTConfig}
 use Rattle.quote.specs.declared.ModelAnswer.{ModelAnswer}
 use Rattle.quote.specs.Quotes.{Judged, quoted, refused, quotesBy}
@@ -19,20 +19,21 @@ use Rattle.quote.specs.declared.quotes.Side.{Side}
 use Rattle.quote.specs.declared.quotes.Side.the-variants as Side
 use Rattle.quote.specs.declared.quotes.Built.{Built}
 use Rattle.quote.specs.declared.quotes.Built.the-variants as Built
-use Rattle.quote.specs.declared.rounding.Rounded.{Rounded}
-use Rattle.quote.specs.declared.rounding.Rounded.the-variants as Rounded
+use Rattle.quote.specs.declared.rounding.Billionths.{Billionths}
 
 -- a model after 2, 1 and 3
 unfoldable pub modelAfter : ℤ → GLFTConfig → ℤ → ModelAnswer
 modelAfter h c vol = modelIf true true true (holdingOk h c) (modelOk (modelOf c vol)) (modelOf c vol) (lots h c)
 
--- a rounded distance: the count, where it is within the limit
-unfoldable pub roundedBy : Bool → ℤ → Rounded
-roundedBy true z = Rounded.Count z
-roundedBy false z = Rounded.Beyond
+-- a number's billionths in size: cut, or rounded up
+unfoldable pub sizeBy : Bool → Float → ℕ
+sizeBy t nan = 0
+sizeBy t (inf s) = 0
+sizeBy t (fin s m e) = next t (m * up e * billion) (down e)
 
-abbrev pub RoundedIs : Float → Rounded → Type 0
-RoundedIs d r = r ≡ roundedBy (amountOk (billionths d)) (billionths d)
+-- a count, where it is within the limit, or 13
+unfoldable pub countOf : ℤ → Billionths
+countOf z = countIf true (amountOk z) z
 
 -- a side's rounded distance, where it is within the limit
 unfoldable pub sideBy : Bool → ℤ → Side

@@ -9,3 +9,4 @@ pub mod Promises
 pub mod Replies
 pub mod Presence
 pub mod Reckoning
+pub mod Outward

@@ -15,6 +15,8 @@ pub use reckoning::check_call;
 pub use reckoning::quotes_from;
 pub use reckoning::quotes_of_lots;
 pub use reckoning::reckon;
+pub use rounding::Billionths;
+pub use rounding::to_billionths;
 ghost use mathlib.Core.Path.{_≡_};
 ghost use Rattle.quote.specs.Configuration.{newConfig};
 ghost use Rattle.quote.specs.Model.{newModel};

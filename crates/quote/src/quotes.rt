@@ -7,6 +7,7 @@ ghost use Rattle.distances.specs.FloatEntry.{floatEntry};
 ghost use Rattle.quote.specs.Configuration.{amountLimit, amountOk};
 ghost use Rattle.quote.specs.Quotes.{side, halfUp, quotesBy, buildQuotes, exactBy, closedBy};
 ghost use Rattle.quote.specs.Inner.{sideOf, sideOk, builtOf, builtWith, stepsWith};
+use crate::Billionths;
 use crate::ClosedFormQuotes;
 use crate::ExactQuotes;
 use crate::GlftQuotes;
@@ -15,7 +16,6 @@ use crate::Price;
 use crate::amounts::amount_fits;
 use crate::amounts::is_positive;
 use crate::refusals;
-use crate::rounding::Rounded;
 use distances::Answer;
 use distances::Distance;
 use distances::Sides;
@@ -37,9 +37,9 @@ fn side_of(d: Distance) -> Side
     ensures { λ r. ⌜ r ≡ sideOf (side d) ⌝ }
 {
     match d {
-        Distance::At(x) => match crate::rounding::to_billionths(x) {
-            Rounded::Count(n) => Side::At(n),
-            Rounded::Beyond => Side::Beyond,
+        Distance::At(x) => match crate::rounding::count_of(x) {
+            Billionths::Count(n) => Side::At(n),
+            Billionths::Refused(_) => Side::Beyond,
         },
         Distance::Absent => Side::Absent,
     }

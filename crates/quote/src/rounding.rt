@@ -1,4 +1,5 @@
-// A distance to the nearest billionth, ties to even.
+// A distance in billionths. One that is no whole number of them goes up to the next, toward plus
+// infinity: above zero it is rounded up, below zero cut.
 ghost use mathlib.Core.Path.{_≡_};
 ghost use mathlib.Core.Bool.{true, false};
 ghost use Prim.Native.Nat.{_+_, _*_, _^_, _<_};
@@ -6,32 +7,33 @@ ghost use lib.IntN.{pos};
 ghost use lib.Dec.{T};
 ghost use lib.Ieee.{neg, lt};
 ghost use Rattle.elementary.specs.Float.{positive, hex};
+ghost use Rattle.elementary.specs.WholeUp.{next};
 ghost use Rattle.quote.specs.Configuration.{billion};
-ghost use Rattle.quote.specs.Rounding.{rounded, billionths};
-ghost use Rattle.quote.specs.Inner.{RoundedIs};
+ghost use Rattle.quote.specs.Rounding.{billionths, toBillionths};
+ghost use Rattle.quote.specs.Inner.{sizeBy, countOf};
 use crate::BILLION;
 use crate::GLFTConfig;
+use crate::refusals;
 
 // 2^52, the weight of a significand's leading digit.
 const HIDDEN: u64 = 4503599627370496;
 
-// 2^28, the high word's weight. Every divisor below is 2^29 at least, so that half of it is a number
-// of high words.
-const WORD: u64 = 268435456;
+// 2^23, the high word's weight. Every divisor below is a number of high words.
+const WORD: u64 = 8388608;
 
-// 2^-31. What is below has less than half a billionth.
-const LEAST: f64 = 4.656612873077393e-10;
+// 2^-30. What is below has less than one billionth.
+const LEAST: f64 = 9.313225746154785e-10;
 
-// 2^24. What is not below has more billionths than the amount limit.
-const MOST: f64 = 16777216.0;
+// 2^30. What is not below has more billionths than the amount limit.
+const MOST: f64 = 1073741824.0;
 
-// A count of billionths within the amount limit, or one beyond it.
-pub(crate) enum Rounded {
+// A count of billionths within the amount limit, or a refusal's number.
+pub enum Billionths {
     Count(i64),
-    Beyond,
+    Refused(u8),
 }
 
-// A number of two words, high * 2^28 + low.
+// A number of two words, high * 2^23 + low.
 struct Wide {
     high: u64,
     low: u64,
@@ -40,7 +42,7 @@ struct Wide {
 // The product with 10^9.
 fn times_billion(n: u64) -> Wide
     requires { ⌜ n < 2 ^ 53 ⌝ }
-    ensures { λ r. ⌜ (r .high * 2 ^ 28 + r .low ≡ n * billion) × (r .high < 2 ^ 55) × (r .low < 2 ^ 28) ⌝ }
+    ensures { λ r. ⌜ (r .high * 2 ^ 23 + r .low ≡ n * billion) × (r .high < 2 ^ 60) × (r .low < 2 ^ 23) ⌝ }
 {
     let low = n % WORD * BILLION;
     let high = n / WORD * BILLION;
@@ -50,71 +52,91 @@ fn times_billion(n: u64) -> Wide
     }
 }
 
-// p over half * 2^29, to the nearest whole number, ties to even.
-fn divided(p: Wide, half: u64) -> u64
-    requires { ⌜ (p .high < 2 ^ 55) × (p .low < 2 ^ 28) ⌝ }
-    requires { ⌜ (0 < half) × (half < 2 ^ 55) ⌝ }
-    ensures { λ r. ⌜ r ≡ rounded (p .high * 2 ^ 28 + p .low) (half * 2 ^ 29) ⌝ }
+// p over unit * 2^23 as a whole number, cut or rounded up.
+fn divided(p: Wide, unit: u64, cut: bool) -> u64
+    requires { ⌜ (p .high < 2 ^ 60) × (p .low < 2 ^ 23) ⌝ }
+    requires { ⌜ (0 < unit) × (unit < 2 ^ 60) ⌝ }
+    ensures { λ r. ⌜ r ≡ next cut (p .high * 2 ^ 23 + p .low) (unit * 2 ^ 23) ⌝ }
 {
-    let unit = half * 2;
     let q = p.high / unit;
     let rest = p.high % unit;
-    if rest < half {
+    if cut {
         return q;
     }
-    if (rest == half) & (p.low == 0) {
-        return q + q % 2;
+    if 0 < rest + p.low {
+        return q + 1;
     }
-    q + 1
+    q
 }
 
-// The count of a number from 2^-31 up to 2^24, which is its 53 digits over 2^(1075 - field), where
+// The billionths of a number from 2^-30 up to 2^30, which is its 53 digits over 2^(1075 - field), where
 // `field` is the exponent's.
-fn counted(x: f64) -> u64
+fn counted(x: f64, cut: bool) -> u64
     requires { ⌜ T (positive x) ⌝ }
-    requires { ⌜ (lt x (hex 0x3E00000000000000) ≡ false) × (lt x (hex 0x4170000000000000) ≡ true) ⌝ }
-    ensures { λ r. ⌜ pos r ≡ billionths x ⌝ }
+    requires { ⌜ (lt x (hex 0x3E10000000000000) ≡ false) × (lt x (hex 0x41D0000000000000) ≡ true) ⌝ }
+    ensures { λ r. ⌜ r ≡ sizeBy cut x ⌝ }
 {
     let bits: u64 = f64::to_bits(x);
     let field = bits / HIDDEN;
-    divided(times_billion(bits % HIDDEN + HIDDEN), 1 << (1046 - field))
+    divided(
+        times_billion(bits % HIDDEN + HIDDEN),
+        1 << (1052 - field),
+        cut,
+    )
 }
 
-fn above_zero(x: f64) -> Rounded
+// The billionths of a positive number, cut or rounded up: refused by 13 where they are beyond the
+// limit.
+fn sized(x: f64, cut: bool) -> Billionths
     requires { ⌜ T (positive x) ⌝ }
-    ensures { λ r. ⌜ RoundedIs x r ⌝ }
+    ensures { λ r. ⌜ r ≡ countOf (pos (sizeBy cut x)) ⌝ }
 {
     if x < LEAST {
-        return Rounded::Count(0);
+        if cut {
+            return Billionths::Count(0);
+        }
+        return Billionths::Count(1);
     }
     if x < MOST {
-        let n = counted(x);
+        let n = counted(x, cut);
         if n <= GLFTConfig::MAX_AMOUNT as u64 {
-            return Rounded::Count(n as i64);
+            return Billionths::Count(n as i64);
         }
     }
-    Rounded::Beyond
+    Billionths::Refused(refusals::BEYOND)
 }
 
-fn below_zero(x: f64) -> Rounded
+// The count of a negative number, whose opposite is cut.
+fn below_zero(x: f64) -> Billionths
     requires { ⌜ T (positive (neg x)) ⌝ }
-    ensures { λ r. ⌜ RoundedIs x r ⌝ }
+    ensures { λ r. ⌜ r ≡ countOf (billionths x) ⌝ }
 {
-    match above_zero(-x) {
-        Rounded::Count(n) => Rounded::Count(0 - n),
-        Rounded::Beyond => Rounded::Beyond,
+    match sized(-x, true) {
+        Billionths::Count(n) => Billionths::Count(0 - n),
+        Billionths::Refused(number) => Billionths::Refused(number),
     }
 }
 
-// The count of a distance. Of a zero, and of what is not finite, it is 0.
-pub(crate) fn to_billionths(d: f64) -> Rounded
-    ensures { λ r. ⌜ RoundedIs d r ⌝ }
+// The count of a finite distance. Of what is not finite it is 0.
+pub(crate) fn count_of(d: f64) -> Billionths
+    ensures { λ r. ⌜ r ≡ countOf (billionths d) ⌝ }
 {
     if elementary::is_positive_finite(d) {
-        return above_zero(d);
+        return sized(d, false);
     }
     if elementary::is_positive_finite(-d) {
         return below_zero(d);
     }
-    Rounded::Count(0)
+    Billionths::Count(0)
+}
+
+// The count of a distance: refused by 11 where it is not finite, by 13 where the count is beyond the
+// limit.
+pub fn to_billionths(d: f64) -> Billionths
+    ensures { λ r. ⌜ r ≡ toBillionths d ⌝ }
+{
+    if elementary::is_finite(d) {
+        return count_of(d);
+    }
+    Billionths::Refused(vector::refusals::NUMERICAL)
 }

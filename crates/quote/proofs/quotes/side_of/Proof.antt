@@ -3,29 +3,30 @@ use mathlib.Core.Bool.{Bool, true, false}
 use lib.IntN.{ℤ}
 use borrow.Author.Needs.{needs}
 use Rattle.quote.specs.Quotes.{side}
-use Rattle.quote.specs.Inner.{roundedBy, sideBy, sideOf}
+use Rattle.quote.specs.Rounding.{countIf}
+use Rattle.quote.specs.Inner.{countOf, sideBy, sideOf}
 use Rattle.quote.specs.declared.quotes.Side.{Side}
 use Rattle.quote.specs.declared.quotes.Side.the-variants as Side
-use Rattle.quote.specs.declared.rounding.Rounded.{Rounded}
-use Rattle.quote.specs.declared.rounding.Rounded.the-variants as Rounded
+use Rattle.quote.specs.declared.rounding.Billionths.{Billionths}
+use Rattle.quote.specs.declared.rounding.Billionths.the-variants as Billionths
 use Rattle.quote.proofs.quotes.side_of.Statement.{statement}
 use Rattle.quote.proofs.quotes.side_of.Tie as tie
 
 -- the side of a rounded distance
-unfoldable held : Rounded → Side
-held (Rounded.Count n) = Side.At n
-held Rounded.Beyond = Side.Beyond
+unfoldable held : Billionths → Side
+held (Billionths.Count n) = Side.At n
+held (Billionths.Refused r) = Side.Beyond
 
-held-is : (t : Bool) (z : ℤ) → sideBy t z ≡ held (roundedBy t z)
-unfolding held roundedBy sideBy
+held-is : (t : Bool) (z : ℤ) → sideBy t z ≡ held (countIf true t z)
+unfolding held countIf sideBy
 held-is true z = refl
 held-is false z = refl
 
 enum-known-d : tie.Need-enum-known-d
 enum-known-d c = search needs
 
-to-billionths-requires : tie.Need-to-billionths-requires
-to-billionths-requires c κs = search needs
+count-of-requires : tie.Need-count-of-requires
+count-of-requires c κs = search needs
 
 enum-known-n : tie.Need-enum-known-n
 enum-known-n c = search needs
@@ -37,16 +38,16 @@ enum-told-2 : tie.Need-enum-told-2
 enum-told-2 c = search needs
 
 returns : tie.Need-returns
-unfolding side sideOf held
+unfolding side sideOf held countOf
 returns c =
     let r = c .before .before .before in
-    rw (r .before .before .d .given .1, held-is, ← (r .to-billionths .ensures), c .before .n .given .1) (search needs)
+    rw (r .before .before .d .given .1, held-is, ← (r .count-of .ensures), c .before .n .given .1) (search needs)
 
 returns-2 : tie.Need-returns-2
-unfolding side sideOf held
+unfolding side sideOf held countOf
 returns-2 c =
     let r = c .before .before in
-    rw (r .before .before .d .given .1, held-is, ← (r .to-billionths .ensures), c .enum-told .given .1)
+    rw (r .before .before .d .given .1, held-is, ← (r .count-of .ensures), c .enum-told .given .1)
 
 returns-3 : tie.Need-returns-3
 unfolding side sideOf
@@ -57,7 +58,7 @@ side-of-spec =
     tie.close
     (tie.spec
     enum-known-d
-    to-billionths-requires
+    count-of-requires
     enum-known-n
     enum-told
     enum-told-2

@@ -3,7 +3,7 @@ use native.Mathlib.Nat.{lt-trans}
 use lib.Dec.{T, lit<}
 use lib.Ieee.{binary64, fits}
 use Rattle.elementary.proofs.Parts.{positive-no-nan}
-use Rattle.quote.proofs.Billionths.{field-most, shift-lt, half-some, half-small, by-words}
+use Rattle.quote.proofs.Billionths.{field-most, shift-lt, unit-some, unit-small, by-words}
 use borrow.Author.Needs.{needs}
 use Rattle.quote.proofs.rounding.counted.Statement.{statement}
 use Rattle.quote.proofs.rounding.counted.Tie as tie
@@ -35,13 +35,13 @@ divided-requires : tie.Need-divided-requires
 divided-requires c κs =
     let s = c .before in
     let e = c .times-billion .ensures in
-    ((e .1, e .2), (half-some (s .args .x) (held s) (s .pre .0) (s .pre .1), half-small (s .args .x) (held s) (s .pre .0) (s .pre .1)))
+    ((e .1, e .2), (unit-some (s .args .x) (held s) (s .pre .0) (s .pre .1), unit-small (s .args .x) (held s) (s .pre .0) (s .pre .1)))
 
 returns : tie.Need-returns
 returns c =
     let s = c .before .before in
     let p = c .before .times-billion in
-    by-words (s .args .x) (held s) (s .pre .0) (s .pre .1) (c .divided .result) (p .result .high) (p .result .low) (p .ensures .0) (c .divided .ensures)
+    by-words (s .args .x) (held s) (s .pre .0) (s .pre .1) (s .args .cut) (c .divided .result) (p .result .high) (p .result .low) (p .ensures .0) (c .divided .ensures)
 
 pub counted-spec : {M : Type 1} → statement M
 counted-spec =

@@ -1,45 +1,25 @@
-use mathlib.Core.Path.{sym, subst, _∙_}
-use Prim.Native.Nat.{zero-le}
-use lib.Dec.{T}
-use Rattle.quote.proofs.Billionths.{neither, is-count}
+use mathlib.Core.Path.{sym, _∙_}
+use Rattle.quote.specs.Rounding.{countIf, toBillionths}
+use Rattle.quote.specs.Inner.{countOf}
 use borrow.Author.Needs.{needs}
 use Rattle.quote.proofs.rounding.to_billionths.Statement.{statement}
 use Rattle.quote.proofs.rounding.to_billionths.Tie as tie
 
-is-positive-finite-requires : tie.Need-is-positive-finite-requires
-is-positive-finite-requires c κs = search needs
+is-finite-requires : tie.Need-is-finite-requires
+is-finite-requires c κs = search needs
 
-above-zero-requires : tie.Need-above-zero-requires
-above-zero-requires c κs = subst T (sym (c .if1 .taken) ∙ c .before .is-positive-finite .ensures) tt
+count-of-requires : tie.Need-count-of-requires
+count-of-requires c κs = search needs
 
 returns : tie.Need-returns
-returns c = search needs
-
-is-positive-finite-requires-2 : tie.Need-is-positive-finite-requires-2
-is-positive-finite-requires-2 c κs = search needs
-
-below-zero-requires : tie.Need-below-zero-requires
-below-zero-requires c κs = subst T (sym (c .if2 .taken) ∙ c .before .is-positive-finite2 .ensures) tt
+unfolding toBillionths countOf
+returns c =
+    let b = c .before in
+    rw (← (sym (b .if1 .taken) ∙ b .before .is-finite .ensures)) (c .count-of .ensures)
 
 returns-2 : tie.Need-returns-2
-returns-2 c = search needs
-
-returns-3 : tie.Need-returns-3
-returns-3 c =
-    let a = c .before in
-    let b = a .before in
-    is-count (b .before .before .args .d) _
-    (neither (b .before .before .args .d) (sym (b .before .is-positive-finite .ensures) ∙ b .if1 .left) (sym (a .is-positive-finite2 .ensures) ∙ c .if2 .left))
-    zero-le
+unfolding toBillionths countIf
+returns-2 c = rw (← (sym (c .if1 .left) ∙ c .before .is-finite .ensures))
 
 pub to-billionths-spec : {M : Type 1} → statement M
-to-billionths-spec =
-    tie.close
-    (tie.spec
-    is-positive-finite-requires
-    above-zero-requires
-    returns
-    is-positive-finite-requires-2
-    below-zero-requires
-    returns-2
-    returns-3)
+to-billionths-spec = tie.close (tie.spec is-finite-requires count-of-requires returns returns-2)
