@@ -14,8 +14,10 @@ use harness::first;
 use harness::make_room;
 use harness::pattern_of;
 use harness::put;
-use harness::put_count;
+use harness::put_cut;
 use harness::put_number;
+use harness::put_refusal;
+use harness::put_signed;
 use harness::read_block;
 use harness::size_of;
 use harness::word_at;
@@ -41,9 +43,6 @@ const BLOCK: usize = 65472;
 // line's end.
 const LINE: usize = 164;
 
-// The refusal of a record that ends inside itself.
-const CUT_SHORT: u8 = 6;
-
 // A space and a float's 16 hex digits, in lower case.
 fn put_float(out: &mut [u8], at: usize, x: f64) -> usize {
     let mut text = [0u8; 16];
@@ -54,11 +53,8 @@ fn put_float(out: &mut [u8], at: usize, x: f64) -> usize {
 
 // A space and a number with its sign.
 fn put_lots(out: &mut [u8], at: usize, q: i64) -> usize {
-    if q < 0 {
-        let next = put(out, at, b" -");
-        return put_count(out, next, size_of(q));
-    }
-    put_number(out, at, size_of(q))
+    let next = put(out, at, b" ");
+    put_signed(out, next, q)
 }
 
 // A space and a price, of which no quote has a negative one.
@@ -76,12 +72,6 @@ fn put_quotes(out: &mut [u8], start: usize, q: GlftQuotes) -> usize {
     let mut at = put(out, start, b"Q");
     at = put_price(out, at, bid);
     put_price(out, at, ask)
-}
-
-// `R` and a refusal's number.
-fn put_refusal(out: &mut [u8], start: usize, number: u8) -> usize {
-    let at = put(out, start, b"R");
-    put_number(out, at, number as u64)
 }
 
 // `Q`, bid, ask and the steps.
@@ -236,16 +226,6 @@ fn put_lines(out: &mut [u8], s: &[u8], n: usize) -> usize {
         used = put_line(out, used, s, i * RECORD);
     }
     used
-}
-
-// After the lines, that of a record that ends inside itself, if any of its bytes are left.
-fn put_cut(out: &mut [u8], used: usize, left: usize) -> usize {
-    if left == 0 {
-        return used;
-    }
-    let start = make_room(out, used, LINE);
-    let end = put_refusal(out, start, CUT_SHORT);
-    put(out, end, b"\n")
 }
 
 // Reads a block and writes its lines. A full one holds whole records, and more may follow it.

@@ -13,8 +13,10 @@ use harness::first;
 use harness::float_of;
 use harness::make_room;
 use harness::put;
+use harness::put_cut;
 use harness::put_float;
 use harness::put_number;
+use harness::put_refusal;
 use harness::read_block;
 use harness::signed_of;
 use harness::word_at;
@@ -30,9 +32,6 @@ const BLOCK: usize = 65520;
 // The most bytes of a line: 804 floats and two counts, a space before each, a letter and the line's
 // end.
 const LINE: usize = 13712;
-
-// The refusal of a record that ends inside itself.
-const CUT_SHORT: u8 = 6;
 
 // A space and a side's distance.
 fn put_side(out: &mut [u8], at: usize, d: Distance) -> usize {
@@ -77,12 +76,6 @@ fn put_cap(out: &mut [u8], start: usize, needed: f64, budget: u32) -> usize {
     let mut at = put(out, start, b"C");
     at = put_float(out, at, needed);
     put_number(out, at, budget as u64)
-}
-
-// `R` and a refusal's number.
-fn put_refusal(out: &mut [u8], start: usize, number: u8) -> usize {
-    let at = put(out, start, b"R");
-    put_number(out, at, number as u64)
 }
 
 // An answer, with its vector where there are distances.
@@ -132,16 +125,6 @@ fn put_lines(out: &mut [u8], s: &[u8], n: usize) -> usize {
         used = put_line(out, used, s, i * RECORD);
     }
     used
-}
-
-// After the lines, that of a record that ends inside itself, if any of its bytes are left.
-fn put_cut(out: &mut [u8], used: usize, left: usize) -> usize {
-    if left == 0 {
-        return used;
-    }
-    let start = make_room(out, used, LINE);
-    let end = put_refusal(out, start, CUT_SHORT);
-    put(out, end, b"\n")
 }
 
 // Reads a block and writes its lines. A full one holds whole records, and more may follow it.

@@ -33,6 +33,44 @@ spaced l at t = placed (placed l at space) (after l at space) t
 unfoldable pub afterSpaced : List ℕ → ℕ → List ℕ → ℕ
 afterSpaced l at t = after (placed l at space) (after l at space) t
 
+-- `R`, and after it a space and a text
+abbrev pub letterR : List ℕ
+letterR = 82 ∷ []
+
+unfoldable pub lettered : List ℕ → ℕ → List ℕ → List ℕ
+lettered l at t = spaced (placed l at letterR) (after l at letterR) t
+
+unfoldable pub afterLettered : List ℕ → ℕ → List ℕ → ℕ
+afterLettered l at t = afterSpaced (placed l at letterR) (after l at letterR) t
+
+-- a minus sign, where it is to be, and after it a text
+abbrev pub minus : List ℕ
+minus = 45 ∷ []
+
+unfoldable pub signedBy : Bool → List ℕ → ℕ → List ℕ → List ℕ
+signedBy true l at t = placed (placed l at minus) (after l at minus) t
+signedBy false l at t = placed l at t
+
+unfoldable pub afterSigned : Bool → List ℕ → ℕ → List ℕ → ℕ
+afterSigned true l at t = after (placed l at minus) (after l at minus) t
+afterSigned false l at t = after l at t
+
+-- the place for n bytes after the first ones that are used, which go where they leave none
+unfoldable pub room : List ℕ → ℕ → ℕ → ℕ
+room l used n = cond (fits l used n) used 0
+
+-- the line of a record that ends inside itself, `R 6`, in that place; is none of its bytes left?
+abbrev pub cutLine : List ℕ
+cutLine = 82 ∷ 32 ∷ 54 ∷ 10 ∷ []
+
+unfoldable pub cutBy : Bool → List ℕ → ℕ → List ℕ
+cutBy true l used = l
+cutBy false l used = placed l (room l used 4) cutLine
+
+unfoldable pub afterCut : Bool → List ℕ → ℕ → ℕ
+afterCut true l used = used
+afterCut false l used = after l (room l used 4) cutLine
+
 -- ---- digits
 -- the lowest hex digit of a number: `0` to `9`, then `A` to `F`
 unfoldable pub glyph : ℕ → ℕ

@@ -1,10 +1,13 @@
 // Texts placed into a buffer that is lent. Each writer leaves the buffer as it is where its text does
 // not fit, and answers the place after it.
 ghost use mathlib.Core.Path.{_≡_};
+ghost use lib.IntN.{pos, natAbs};
+ghost use lib.Signed.{ltZ};
 ghost use lib.ListN.{length};
 ghost use lib.Ieee.{binary64, toBits};
-ghost use Rattle.harness.specs.Texts.{fits, placed, after, spaced, afterSpaced, glyph, hex, count};
+ghost use Rattle.harness.specs.Texts.{fits, placed, after, spaced, afterSpaced, lettered, afterLettered, signedBy, afterSigned, glyph, hex, count};
 use crate::word::pattern_of;
+use crate::word::size_of;
 
 // Do n bytes fit from a place on?
 pub(crate) fn has_room(out: &[u8], at: usize, n: usize) -> bool
@@ -76,6 +79,27 @@ pub fn put_number(out: &mut [u8], at: usize, n: u64) -> usize
 {
     let next = put(out, at, b" ");
     put_count(out, next, n)
+}
+
+// `R`, a space and a refusal's number.
+pub fn put_refusal(out: &mut [u8], at: usize, number: u8) -> usize
+    ensures { λ _. ⌜ now (out .exit) ≡ lettered (now (out .entry)) at (count number) ⌝ }
+    ensures { λ r. ⌜ r ≡ afterLettered (now (out .entry)) at (count number) ⌝ }
+{
+    let next = put(out, at, b"R");
+    put_number(out, next, number as u64)
+}
+
+// A number in decimal digits, after a minus sign where it is negative.
+pub fn put_signed(out: &mut [u8], at: usize, n: i64) -> usize
+    ensures { λ _. ⌜ now (out .exit) ≡ signedBy (ltZ n (pos 0)) (now (out .entry)) at (count (natAbs n)) ⌝ }
+    ensures { λ r. ⌜ r ≡ afterSigned (ltZ n (pos 0)) (now (out .entry)) at (count (natAbs n)) ⌝ }
+{
+    if n < 0 {
+        let next = put(out, at, b"-");
+        return put_count(out, next, size_of(n));
+    }
+    put_count(out, at, size_of(n))
 }
 
 // A space and a float's pattern in 16 hex digits.

@@ -14,6 +14,7 @@ use harness::first;
 use harness::make_room;
 use harness::put;
 use harness::put_number;
+use harness::put_refusal;
 use harness::read_block;
 use harness::word_at;
 use quote::refusals::LIMITS;
@@ -36,10 +37,9 @@ const BEFORE: u8 = 0xA5;
 // and a letter with the line's end.
 const ANSWER: usize = sheet::MOST_LADDER + 10;
 
-// `R` and a refusal's number.
-fn put_refusal(out: &mut [u8], start: usize, number: u8) -> usize {
-    let at = put(out, start, b"R");
-    let end = put_number(out, at, number as u64);
+// The line of a refusal.
+fn put_refused(out: &mut [u8], start: usize, number: u8) -> usize {
+    let end = put_refusal(out, start, number);
     put(out, end, b"\n")
 }
 
@@ -79,7 +79,7 @@ fn put_answer(out: &mut [u8], start: usize, a: LadderAnswer, buffer: &[u8]) -> u
             put_rest(out, at, buffer, n)
         }
         LadderAnswer::Refused(number) => {
-            let at = put_refusal(out, start, number);
+            let at = put_refused(out, start, number);
             put_rest(out, at, buffer, 0)
         }
     }
@@ -87,7 +87,7 @@ fn put_answer(out: &mut [u8], start: usize, a: LadderAnswer, buffer: &[u8]) -> u
 
 // A refusal without a call.
 fn put_unasked(out: &mut [u8], start: usize, number: u8) -> usize {
-    let at = put_refusal(out, start, number);
+    let at = put_refused(out, start, number);
     put(out, at, b"U\n")
 }
 

@@ -32,7 +32,7 @@ module _ (e k : ℤ) (d : ℕ) where
       let scaled : (over k + under z) * d < (over z + under k + 1) * d = omega (arith, over-times z d, under-times z d, most) in
       parts-le k z (omega (arith, lt-of-mul-lt-mul-right d scaled))
 
-pub at-most : (s : Bool) (m : ℕ) (e : ℤ) → exactly s m e ≤ℤ (billionths (fin s m e) *ℤ pos (down e))
+at-most : (s : Bool) (m : ℕ) (e : ℤ) → exactly s m e ≤ℤ (billionths (fin s m e) *ℤ pos (down e))
 unfolding exactly billionths
 at-most false m e = reached (pos (m * up e * billion)) (pos (next false (m * up e * billion) (down e))) (down e) (omega (arith, next-holds false (m * up e * billion) (down e) (down-pos e) .0))
 at-most true m e =

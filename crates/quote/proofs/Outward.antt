@@ -1,10 +1,10 @@
 -- No price lies inside its reckoned distance: the count is not below it, and a widening moves outward. Assumes nothing.
-use mathlib.Core.Path.{_≡_, refl, sym, ap}
-use Prim.Native.Nat.{ℕ, _+_, _*_, _/_, _≤_}
+use mathlib.Core.Path.{_≡_, refl, sym, ap, subst}
+use Prim.Native.Nat.{ℕ, _+_, _*_, _/_}
 use native.Mathlib.Omega.{arith}
-use mathlib.Core.Bool.{Bool, true, false, _&&_, true≢false}
-use lib.IntN.{ℤ, pos, negsuc, negℤ, _+ℤ_, _-ℤ_, _*ℤ_}
-use lib.Signed.{_≤ℤ_}
+use mathlib.Core.Bool.{Bool, true, false, _&&_}
+use lib.IntN.{ℤ, pos, negsuc, negℤ, _+ℤ_, _-ℤ_, _*ℤ_, +ℤ-comm, +ℤ-assoc, +ℤ-invr, +ℤ-idl, +ℤ-negℤ-cancel, negℤ-+ℤ, negℤ-negℤ}
+use lib.Dec.{T}
 use lib.Ieee.{Float, nan, inf, fin, down}
 use Rattle.elementary.specs.Float.{finite, positive}
 use Rattle.vector.specs.declared.VectorAnswer.{VectorAnswer}
@@ -21,10 +21,10 @@ use Rattle.distances.proofs.Finite.{sides-fine, finite-distances}
 use Rattle.quote.specs.Configuration.{amountOk, above0, timeOk}
 use Rattle.quote.specs.Model.{newModel, tauOf}
 use Rattle.quote.specs.ClosedForm.{slope, bidForm, askForm, formIf, closedFormDistances}
-use Rattle.quote.specs.Rounding.{billionths, exactly}
+use Rattle.quote.specs.Rounding.{billionths, exactly, AtMost}
 use Rattle.quote.specs.Quotes.{side, halfUp, widening, bidPrice, askPrice, quoted, buildQuotes, exactFrom, exactIf, exactAnswer, withoutReport, optimalAnswer, exactBy, exactQuotes, optimalQuotes, closedFrom, closedAnswer, closedBy, closedFormQuotes}
 use Rattle.quote.specs.Reckoning.{fromIf, quotesFrom, holdingOf, lotsIf, quotesOfLots}
-use Rattle.quote.specs.Outward.{BidOutside, AskOutside, OnSide, Outside, OutsideOf, NeverInside}
+use Rattle.quote.specs.Outward.{OnSide, Outside, OutsideOf, NeverInside}
 use Rattle.quote.specs.declared.GLFTConfig.{GLFTConfig}
 use Rattle.quote.specs.declared.ModelAnswer.{ModelAnswer}
 use Rattle.quote.specs.declared.ModelAnswer.the-variants as ModelAnswer
@@ -35,37 +35,29 @@ use Rattle.quote.specs.declared.ExactQuotes.the-variants as Exact
 use Rattle.quote.specs.declared.OptimalQuotes.the-variants as Optimal
 use Rattle.quote.specs.declared.ClosedFormQuotes.the-variants as Closed
 use Rattle.quote.specs.declared.reckoning.Reckoning.{Reckoning}
-use Rattle.quote.proofs.Differences.{over, under, over-neg, under-neg, add-parts, over-times, under-times, le-parts, parts-le}
+use Rattle.quote.proofs.Differences.{over, under, add-parts, over-times, under-times, le-parts, parts-le}
 use Rattle.quote.proofs.Pairs.{built-is, with-steps-is, wrapped-is, of-judged-is}
-use Rattle.quote.proofs.Least.{at-most}
+use Rattle.quote.proofs.Least.{rounding-is-right}
 
--- ---- a price as far out as the count, and n billionths more
-module _ (mid z e : ℤ) (n d : ℕ) (h : e ≤ℤ (z *ℤ pos d)) where
-  reckoned : over e + under z * d ≤ over z * d + under e
-  reckoned = omega (arith, le-parts e (z *ℤ pos d) h, over-times z d, under-times z d)
+-- ---- n billionths more
+further : (x : Float) (z : ℤ) (n : ℕ) → AtMost x z → AtMost x (z +ℤ pos n)
+unfolding AtMost
+further nan z n h = h
+further (inf s) z n h = h
+further (fin s m e) z n h =
+    let x = exactly s m e in
+    let u = z +ℤ pos n in
+    let d = down e in
+    let moved : over u + under z ≡ over z + n + under u = omega (arith, add-parts z (pos n)) in
+    let scaled = ap (λ (k : ℕ). k * d) moved in
+    parts-le x (u *ℤ pos d) (omega (arith, le-parts x (z *ℤ pos d) h, over-times z d, under-times z d, over-times u d, under-times u d, scaled))
 
-  moved : over (z +ℤ pos n) + under z ≡ over z + n + under (z +ℤ pos n)
-  moved = omega (arith, add-parts z (pos n))
+-- how far a bid lies below the mid, and an ask above it
+below-mid : (m u : ℤ) → m -ℤ (m -ℤ u) ≡ u
+below-mid m u = rw (negℤ-+ℤ m (negℤ u), negℤ-negℤ u, ← +ℤ-assoc m (negℤ m) u, +ℤ-invr m, +ℤ-idl u)
 
-  bid-out : ((mid -ℤ (z +ℤ pos n)) *ℤ pos d) ≤ℤ (mid *ℤ pos d -ℤ e)
-  bid-out =
-      let u = z +ℤ pos n in
-      let p = mid -ℤ u in
-      let y = mid *ℤ pos d in
-      let placed : over p + under mid + over z + n ≡ over mid + under z + under p = omega (arith, add-parts mid (negℤ u), over-neg u, under-neg u, moved) in
-      let scaled = ap (λ (x : ℕ). x * d) placed in
-      parts-le (p *ℤ pos d) (y -ℤ e)
-      (omega (arith, over-times p d, under-times p d, over-times mid d, under-times mid d, add-parts y (negℤ e), over-neg e, under-neg e, scaled, reckoned))
-
-  ask-out : (mid *ℤ pos d +ℤ e) ≤ℤ ((mid +ℤ (z +ℤ pos n)) *ℤ pos d)
-  ask-out =
-      let u = z +ℤ pos n in
-      let p = mid +ℤ u in
-      let y = mid *ℤ pos d in
-      let placed : over p + under mid + under z ≡ over mid + over z + n + under p = omega (arith, add-parts mid u, moved) in
-      let scaled = ap (λ (x : ℕ). x * d) placed in
-      parts-le (y +ℤ e) (p *ℤ pos d)
-      (omega (arith, over-times p d, under-times p d, over-times mid d, under-times mid d, add-parts y e, scaled, reckoned))
+above-mid : (m u : ℤ) → (m +ℤ u) -ℤ m ≡ u
+above-mid m u = rw (+ℤ-comm m u) (+ℤ-negℤ-cancel u m)
 
 -- ---- quotes from finite distances
 widened : (least : ℤ) (b a : Price) → (n : ℕ) × (widening least b a ≡ pos n)
@@ -78,18 +70,18 @@ widened least (At b) (At a) = half (least -ℤ (b +ℤ a))
     half (pos n) = ((n + 1) / 2, refl)
     half (negsuc n) = (0, refl)
 
-bid-outside : (mid : ℤ) (n : ℕ) (b : Distance) → fine b ≡ true → OnSide (BidOutside mid) b (bidPrice mid (pos n) (side b))
-unfolding fine finite side bidPrice OnSide BidOutside
-bid-outside mid n (Distance.At nan) f = absurd (true≢false (sym f))
-bid-outside mid n (Distance.At (inf s)) f = absurd (true≢false (sym f))
-bid-outside mid n (Distance.At (fin s m e)) f = bid-out mid (billionths (fin s m e)) (exactly s m e) n (down e) (at-most s m e)
+-- a finite distance is at most its count, and n more
+counted : (d : Float) (n : ℕ) → finite d ≡ true → AtMost d (billionths d +ℤ pos n)
+counted d n f = further d (billionths d) n (rounding-is-right d (subst T (sym f) tt) .0)
+
+bid-outside : (mid : ℤ) (n : ℕ) (b : Distance) → fine b ≡ true → OnSide (λ d p. AtMost d (mid -ℤ p)) b (bidPrice mid (pos n) (side b))
+unfolding fine side bidPrice OnSide
+bid-outside mid n (Distance.At d) f = rw (below-mid mid (billionths d +ℤ pos n)) (counted d n f)
 bid-outside mid n Distance.Absent f = tt
 
-ask-outside : (mid : ℤ) (n : ℕ) (a : Distance) → fine a ≡ true → OnSide (AskOutside mid) a (askPrice mid (pos n) (side a))
-unfolding fine finite side askPrice OnSide AskOutside
-ask-outside mid n (Distance.At nan) f = absurd (true≢false (sym f))
-ask-outside mid n (Distance.At (inf s)) f = absurd (true≢false (sym f))
-ask-outside mid n (Distance.At (fin s m e)) f = ask-out mid (billionths (fin s m e)) (exactly s m e) n (down e) (at-most s m e)
+ask-outside : (mid : ℤ) (n : ℕ) (a : Distance) → fine a ≡ true → OnSide (λ d p. AtMost d (p -ℤ mid)) a (askPrice mid (pos n) (side a))
+unfolding fine side askPrice OnSide
+ask-outside mid n (Distance.At d) f = rw (above-mid mid (billionths d +ℤ pos n)) (counted d n f)
 ask-outside mid n Distance.Absent f = tt
 
 outside : (mid least : ℤ) (b a : Distance) (q : GlftQuotes) → Finite b a → buildQuotes mid least b a ≡ quoted q → Outside mid b a q

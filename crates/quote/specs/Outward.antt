@@ -1,9 +1,8 @@
 -- Change request 5: no price lies inside its reckoned distance. Proved once, in proofs/. Definitions only.
 use mathlib.Core.Path.{_≡_}
 use Prim.Native.Nat.{ℕ}
-use lib.IntN.{ℤ, pos, _+ℤ_, _-ℤ_, _*ℤ_}
-use lib.Signed.{_≤ℤ_}
-use lib.Ieee.{Float, nan, inf, fin, down}
+use lib.IntN.{ℤ, _-ℤ_}
+use lib.Ieee.{Float}
 use Rattle.vector.specs.declared.VectorAnswer.{VectorAnswer}
 use Rattle.distances.specs.Reading.{answerFrom}
 use Rattle.distances.specs.declared.Distance.{Distance}
@@ -11,7 +10,7 @@ use Rattle.distances.specs.declared.Distance.the-variants as Distance
 use Rattle.distances.specs.declared.Sides.the-variants as Sides
 use Rattle.distances.specs.declared.Answer.{Answer}
 use Rattle.distances.specs.declared.Answer.the-variants as Answer
-use Rattle.quote.specs.Rounding.{exactly}
+use Rattle.quote.specs.Rounding.{AtMost}
 use Rattle.quote.specs.Quotes.{exactAnswer, optimalAnswer, closedAnswer, exactQuotes, optimalQuotes, closedFormQuotes}
 use Rattle.quote.specs.Reckoning.{quotesFrom, quotesOfLots}
 use Rattle.quote.specs.declared.GLFTConfig.{GLFTConfig}
@@ -23,19 +22,6 @@ use Rattle.quote.specs.declared.OptimalQuotes.the-variants as Optimal
 use Rattle.quote.specs.declared.ClosedFormQuotes.the-variants as Closed
 use Rattle.quote.specs.declared.reckoning.Reckoning.{Reckoning}
 
--- ---- a mid, a distance of ±m × 2 ^ e and a price, as exact fractions: billionths over down e
--- bid ≤ mid - distance
-unfoldable pub BidOutside : ℤ → Float → ℤ → Type 0
-BidOutside mid nan p = ⊥
-BidOutside mid (inf s) p = ⊥
-BidOutside mid (fin s m e) p = (p *ℤ pos (down e)) ≤ℤ (mid *ℤ pos (down e) -ℤ exactly s m e)
-
--- mid + distance ≤ ask
-unfoldable pub AskOutside : ℤ → Float → ℤ → Type 0
-AskOutside mid nan p = ⊥
-AskOutside mid (inf s) p = ⊥
-AskOutside mid (fin s m e) p = (mid *ℤ pos (down e) +ℤ exactly s m e) ≤ℤ (p *ℤ pos (down e))
-
 -- a side has a price just where it has a distance
 unfoldable pub OnSide : (Float → ℤ → Type 0) → Distance → Price → Type 0
 OnSide R (Distance.At d) (At p) = R d p
@@ -43,9 +29,10 @@ OnSide R (Distance.At d) Absent = ⊥
 OnSide R Distance.Absent (At p) = ⊥
 OnSide R Distance.Absent Absent = Unit {0}
 
+-- bid ≤ mid - distance and mid + distance ≤ ask, as exact fractions: the bid's distance is at most mid - bid, the ask's at most ask - mid
 pub record Outside (mid : ℤ) (b a : Distance) (q : GlftQuotes) : Type 0 where
-  pub bid : OnSide (BidOutside mid) b (q .bid)
-  pub ask : OnSide (AskOutside mid) a (q .ask)
+  pub bid : OnSide (λ d p. AtMost d (mid -ℤ p)) b (q .bid)
+  pub ask : OnSide (λ d p. AtMost d (p -ℤ mid)) a (q .ask)
 
 -- quotes of an answer before prices: it has distances, and with them its steps
 abbrev pub OutsideOf : ℤ → Answer → GlftQuotes → ℕ → Type 0

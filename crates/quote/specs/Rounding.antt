@@ -14,7 +14,7 @@ use Rattle.quote.specs.Configuration.{billion, amountOk}
 use Rattle.quote.specs.declared.rounding.Billionths.{Billionths}
 use Rattle.quote.specs.declared.rounding.Billionths.the-variants.{Count, Refused}
 
--- a finite distance in billionths, toward plus infinity: above zero rounded up, below zero cut
+-- a finite distance in billionths, toward plus infinity: above zero rounded up, below zero cut; what is not finite has none, and 0 stands for it
 unfoldable pub billionths : Float → ℤ
 billionths nan = pos 0
 billionths (inf s) = pos 0

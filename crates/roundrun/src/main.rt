@@ -7,10 +7,10 @@ use harness::first;
 use harness::float_of;
 use harness::make_room;
 use harness::put;
-use harness::put_count;
-use harness::put_number;
+use harness::put_cut;
+use harness::put_refusal;
+use harness::put_signed;
 use harness::read_block;
-use harness::size_of;
 use harness::word_at;
 use quote::Billionths;
 use quote::to_billionths;
@@ -23,24 +23,6 @@ const BLOCK: usize = 65536;
 
 // The most bytes of a line: a sign, 16 digits and the line's end.
 const LINE: usize = 18;
-
-// The refusal of a pattern that ends inside itself.
-const CUT_SHORT: u8 = 6;
-
-// A number with its sign.
-fn put_signed(out: &mut [u8], at: usize, n: i64) -> usize {
-    if n < 0 {
-        let next = put(out, at, b"-");
-        return put_count(out, next, size_of(n));
-    }
-    put_count(out, at, size_of(n))
-}
-
-// `R` and a refusal's number.
-fn put_refusal(out: &mut [u8], start: usize, number: u8) -> usize {
-    let at = put(out, start, b"R");
-    put_number(out, at, number as u64)
-}
 
 // A count, or a refusal.
 fn put_billionths(out: &mut [u8], at: usize, b: Billionths) -> usize {
@@ -65,16 +47,6 @@ fn put_lines(out: &mut [u8], s: &[u8], n: usize) -> usize {
         used = put_line(out, used, word_at(s, i * RECORD, 0));
     }
     used
-}
-
-// After the lines, that of a pattern that ends inside itself, if any of its bytes are left.
-fn put_cut(out: &mut [u8], used: usize, left: usize) -> usize {
-    if left == 0 {
-        return used;
-    }
-    let start = make_room(out, used, LINE);
-    let end = put_refusal(out, start, CUT_SHORT);
-    put(out, end, b"\n")
 }
 
 // Reads a block and writes its lines. A full one holds whole patterns, and more may follow it.

@@ -12,13 +12,14 @@ use harness::LARGEST_BOUND;
 use harness::first;
 use harness::make_room;
 use harness::put;
+use harness::put_cut;
 use harness::put_number;
+use harness::put_refusal;
 use harness::read_block;
 use harness::word_at;
 use quote::refusals::LIMITS;
 use sheet::Record;
 use sheet::SaveAnswer;
-use sheet::refusals::CUT_SHORT;
 
 // The bytes of a record.
 const RECORD: usize = 96;
@@ -61,12 +62,6 @@ fn put_bytes(out: &mut [u8], start: usize, s: &[u8]) -> usize {
         at = put_byte(out, at, s[i]);
     }
     at
-}
-
-// `R` and a refusal's number.
-fn put_refusal(out: &mut [u8], start: usize, number: u8) -> usize {
-    let at = put(out, start, b"R");
-    put_number(out, at, number as u64)
 }
 
 // `W` and the count of bytes.
@@ -136,16 +131,6 @@ fn put_lines(out: &mut [u8], s: &[u8], n: usize) -> usize {
         used = put_line(out, used, s, i * RECORD);
     }
     used
-}
-
-// After the lines, that of a record that ends inside itself, if any of its bytes are left.
-fn put_cut(out: &mut [u8], used: usize, left: usize) -> usize {
-    if left == 0 {
-        return used;
-    }
-    let start = make_room(out, used, LINE);
-    let end = put_refusal(out, start, CUT_SHORT);
-    put(out, end, b"\n")
 }
 
 // Reads a block and writes its lines. A full one holds whole records, and more may follow it.
