@@ -76,8 +76,8 @@ def line(desk):
         return "R %d\n" % refusal.number
 
 
-def answers(sheet):
-    """The desks of a sheet, None for what is none, and what quotesheet prints for each."""
+def answers(sheet, line=line):
+    """The desks of a sheet, None for what is none, and what quotesheet prints for each, or a program with other lines."""
     if len(sheet) > MOST_BYTES:
         yield None, "R 9\n"
         return

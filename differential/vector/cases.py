@@ -317,14 +317,18 @@ SHARES = {
 }
 
 
-def main():
-    seed, count, *most = map(int, sys.argv[1:])
-    cases = Cases(seed, *most)
-    kinds, shares = list(SHARES), list(SHARES.values())
+def write(cases, shares, count):
+    """Writes so many records, their kinds by the shares, and one that is cut short."""
+    kinds, weights = list(shares), list(shares.values())
     for _ in range(count):
-        kind = cases.rng.choices(kinds, shares)[0]
+        kind = cases.rng.choices(kinds, weights)[0]
         sys.stdout.buffer.write(kind(cases))
     sys.stdout.buffer.write(cases.plain()[: cases.whole(1, 55)])
+
+
+def main():
+    seed, count, *most = map(int, sys.argv[1:])
+    write(Cases(seed, *most), SHARES, count)
 
 
 if __name__ == "__main__":

@@ -5,7 +5,7 @@
 //! `routed` is glft.rs with its elementary calls led to document 01's functions, and `platform` is
 //! glft.rs as published, whose steps nothing counts (its lines have 0 for them). NOTES gets a line a
 //! record: the rebalancings, the finished steps, and the words of glft.rs where it fails.
-//! The float entry's own refusals, which glft.rs has in other places, are made here: 5, 1 and 4.
+//! The float entry's own refusals, which glft.rs has in other places, are made in entry.rs: 5, 1 and 4.
 #![allow(dead_code, unexpected_cfgs)]
 
 use std::cell::Cell;
@@ -17,8 +17,7 @@ pub use rust_decimal::Decimal;
 mod elementary;
 
 include!("around.rs");
-
-const RECORD: usize = 56;
+include!("entry.rs");
 
 /// One answer of either glft.rs, in one form.
 enum Answer {
@@ -28,9 +27,10 @@ enum Answer {
 }
 
 macro_rules! ask {
-    ($glft:ident, $($argument:expr),*) => {{
+    ($glft:ident, $e:expr) => {{
         use strategy::$glft::inside::{Reply, ask};
-        match ask($($argument),*) {
+        let e: Entry = $e;
+        match ask(e.k, e.alpha, e.eta, e.base, e.bound, e.tau, e.q) {
             Reply::Vector { bid, ask, weights, offsets } => {
                 Answer::Vector { bid, ask, weights, offsets }
             }
@@ -40,28 +40,11 @@ macro_rules! ask {
     }};
 }
 
-fn refused(number: u8, words: &str) -> Answer {
-    Answer::Refused { number, words: words.to_string() }
-}
-
 fn answer(routed: bool, record: &[u8]) -> Answer {
-    let word = |i: usize| u64::from_le_bytes(record[8 * i..8 * i + 8].try_into().unwrap());
-    let float = |i: usize| f64::from_bits(word(i));
-    let (k, alpha, eta, base, tau) = (float(0), float(1), float(2), float(3), float(5));
-    let q = i64::from_le_bytes(record[48..56].try_into().unwrap());
-    if [k, alpha, eta, base].iter().any(|x| !(x.is_finite() && *x > 0.0)) || !tau.is_finite() {
-        return refused(5, "a float");
-    }
-    let Some(bound) = u32::try_from(word(4)).ok().filter(|b| (1..=200).contains(b)) else {
-        return refused(1, "the bound");
-    };
-    if q.unsigned_abs() > u64::from(bound) {
-        return refused(4, "the holding");
-    }
-    if routed {
-        ask!(routed, k, alpha, eta, base, bound, tau, q)
-    } else {
-        ask!(platform, k, alpha, eta, base, bound, tau, q)
+    match entry_of(record) {
+        Ok(e) if routed => ask!(routed, e),
+        Ok(e) => ask!(platform, e),
+        Err((number, words)) => Answer::Refused { number, words: words.to_string() },
     }
 }
 
@@ -85,7 +68,7 @@ fn line_of(answer: &Answer) -> String {
             }
         }
         Answer::OverCap { steps_needed, budget } => {
-            write!(line, "C {:016X} {budget}", steps_needed.to_bits()).unwrap();
+            line.push_str(&cap_line(*steps_needed, *budget));
         }
         Answer::Refused { number, .. } => write!(line, "R {number}").unwrap(),
     }
@@ -102,11 +85,7 @@ fn note_of(answer: &Answer) -> String {
 
 fn main() {
     answer_all(RECORD, |routed, record| {
-        let answer = if record.len() == RECORD {
-            answer(routed, record)
-        } else {
-            refused(6, "the record ends inside itself")
-        };
+        let answer = answer(routed, record);
         (line_of(&answer), note_of(&answer))
     });
 }

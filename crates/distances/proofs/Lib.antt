@@ -5,5 +5,6 @@ pub mod Counting
 pub mod Presence
 pub mod Weights
 pub mod Refusing
+pub mod Count
 pub mod Reading
 pub mod Finite

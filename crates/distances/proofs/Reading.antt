@@ -36,10 +36,14 @@ scale true true false b t h = cc
 scale true true true false t h = cc
 scale true true true true t h = refl
 
+pub rates-pass : (k alpha eta base tau : Float) → floatsOk k alpha eta base tau ≡ true → ratesOk alpha eta tau ≡ true
+unfolding floatsOk ratesOk
+rates-pass k alpha eta base tau = inner (positive k) (positive alpha) (positive eta) (positive base) (finite tau)
+
 pub vector-is : (k alpha eta base : Float) (bound : ℕ) (tau : Float) → floatsOk k alpha eta base tau ≡ true → boundOk bound ≡ true
     → valueVector alpha eta bound tau ≡ vectorBy (rows bound) (run bound alpha eta tau)
-unfolding floatsOk valueVector ratesOk vectorIf
-vector-is k alpha eta base bound tau f b = rw (inner (positive k) (positive alpha) (positive eta) (positive base) (finite tau) f, b)
+unfolding valueVector vectorIf
+vector-is k alpha eta base bound tau f b = rw (rates-pass k alpha eta base tau f, b)
 
 scale-is : (k alpha eta base tau : Float) → floatsOk k alpha eta base tau ≡ true → (positive k && positive base) ≡ true
 unfolding floatsOk

@@ -1,4 +1,5 @@
-// The exact distances at a holding, from a value vector; and the float entry over both.
+// The exact distances at a holding, from a value vector; the float entry over both; and the count of
+// its first plan.
 mod entry;
 mod from_vector;
 mod places;
@@ -8,6 +9,8 @@ pub use from_vector::answer_from;
 ghost use mathlib.Core.Path.{_≡_};
 ghost use Rattle.distances.specs.Distances.{within, fine, exactDistances};
 ghost use Rattle.distances.specs.FloatEntry.{floatEntry};
+ghost use Rattle.distances.specs.Count.{stepCount};
+use vector::FirstPlan;
 use vector::ValueVector;
 use vector::refusals::CONFIGURATION;
 
@@ -96,4 +99,29 @@ pub fn float_entry(
         return entry::refused_entry(CONFIGURATION);
     }
     entry::refused_entry(elementary::OUTSIDE)
+}
+
+// The steps of the first plan of the float entry's run, before anything runs; 0 where no time is left.
+// Refused by 5, then 1, then 4, as the float entry is, then 11.
+pub fn step_count(
+    k: f64,
+    alpha: f64,
+    eta: f64,
+    base: f64,
+    bound: u32,
+    tau: f64,
+    q: i64,
+) -> FirstPlan
+    ensures { λ r. ⌜ r ≡ stepCount k alpha eta base bound tau q ⌝ }
+{
+    if entry::floats_fit(k, alpha, eta, base, tau) {
+        if entry::bound_fits(bound) {
+            if within(q, bound) {
+                return vector::first_plan(alpha, eta, bound, tau);
+            }
+            return FirstPlan::Refused(refusals::HOLDING);
+        }
+        return FirstPlan::Refused(CONFIGURATION);
+    }
+    FirstPlan::Refused(elementary::OUTSIDE)
 }

@@ -9,13 +9,13 @@ use mathlib.Core.Bool.{Bool, true, false, not, _&&_, _||_, cond, true≢false}
 use borrow.Author.Tests.{ltb-false, le-ltb, ne-eqb}
 use lib.IntN.{ℤ, pos}
 use lib.Dec.{T, ltb, eqb, ltb→lt, eqb→eq}
-use lib.Ieee.{Float, nan, inf, fin, Format, prec, emax, low, up, down, unlike, odd, units, round, add, sub, mul, div, lt, eq, le, ofBits, toUnsigned, fits, isNan}
+use lib.Ieee.{Float, nan, inf, fin, Format, prec, emax, low, up, down, unlike, odd, units, round, add, sub, mul, div, lt, eq, le, ofInt, ofBits, toUnsigned, fits, isNan}
 use lib.Ieee.Fits.{up-pos, down-pos, round-is, and-l, and-r}
 use lib.Ieee.Order.{le-of-values, round-mono}
 use lib.Ieee.Positive.{through, first-pos}
 use Rattle.elementary.specs.Float.{finite, positive, count}
 use Rattle.elementary.proofs.Exact.{round-own}
-use Rattle.elementary.proofs.Signs.{nonneg, round-neg, isNan-neg}
+use Rattle.elementary.proofs.Signs.{nonneg, round-neg, round-zero, isNan-neg}
 
 -- ---- a `nonneg` value is +infinity or m * 2 ^ e
 data Nonneg : Float → Type 0 where
@@ -162,6 +162,15 @@ pub round-number : (f : Format) (s : Bool) (a b : ℕ) → T (not (isNan (round 
 round-number f true a b = rw (round-neg f false a b, isNan-neg (round f false a b)) (number-of (round-cases f a b))
 round-number f false a b = number-of (round-cases f a b)
 
+-- ---- natural numbers as floats
+pub ofInt-nonneg : (f : Format) (n : ℕ) → T (nonneg (ofInt f (pos n)))
+unfolding ofInt
+ofInt-nonneg f n = round-nonneg f n 1
+
+pub ofInt-mono : (f : Format) (m n : ℕ) → m ≤ n → T (le (ofInt f (pos m)) (ofInt f (pos n)))
+unfolding ofInt
+ofInt-mono f m n h = round-mono f m 1 n 1 (omega arith) (omega arith) (omega arith)
+
 -- ---- sums
 add-cases : (f : Format) {x y : Float} → Nonneg x → Nonneg y → Nonneg (add f x y)
 unfolding add
@@ -215,6 +224,24 @@ mul-number f (fin s m e) nan h k = absurd k
 mul-number f (fin s m e) (inf t) h k = absurd k
 mul-number f (fin s m e) (fin t n d) h k = round-number f (unlike s t) (m * up e * (n * up d)) (down e * down d)
 
+-- of two finite values, and with the second once more, which is no zero where the first product is infinite
+again-number : (f : Format) {z : Float} (n : ℕ) (d : ℤ) → Nonneg z → T (not (isNan (mul f z (fin false (suc n) d))))
+unfolding mul isNan
+again-number f n d inf⁺ = rw (ne-eqb (suc n) 0 (λ k. omega arith)) tt
+again-number f n d (fin⁺ m e) = round-number f false (m * up e * (suc n * up d)) (down e * down d)
+
+pub mul-twice-number : (f : Format) (x y : Float) → T (nonneg x) → T (finite x) → T (nonneg y) → T (finite y) → T (not (isNan (mul f (mul f x y) y)))
+unfolding finite mul
+mul-twice-number f x y p t q u = go (cases x p) (cases y q) t u
+  where
+    go : {x y : Float} → Nonneg x → Nonneg y → T (finite x) → T (finite y) → T (not (isNan (mul f (mul f x y) y)))
+    go inf⁺ q t u = absurd t
+    go (fin⁺ m e) inf⁺ t u = absurd u
+    go (fin⁺ m e) (fin⁺ zero d) t u =
+        let z : m * up e * (0 * up d) ≡ 0 = omega arith in
+        rw (z, round-zero f false (down e * down d) (mul-pos (down-pos e) (down-pos d))) (round-number f false (0 * 1 * (0 * up d)) (1 * down d))
+    go (fin⁺ m e) (fin⁺ (suc n) d) t u = again-number f n d (round-cases f (m * up e * (suc n * up d)) (down e * down d))
+
 -- x / p * (y / q) ≤ x′ / p′ * (y′ / q′)
 products : (x y x′ y′ p q p′ q′ : ℕ) → x * p′ ≤ x′ * p → y * q′ ≤ y′ * q → x * y * (p′ * q′) ≤ x′ * y′ * (p * q)
 products x y x′ y′ p q p′ q′ h k = omega (arith, mul-le-mul h k)
@@ -258,6 +285,12 @@ positive-cases nan p = absurd p
 positive-cases (inf s) p = absurd p
 positive-cases (fin true n d) p = absurd p
 positive-cases (fin false n d) p = fin> n d (first-pos n (up d) (omega (arith, ltb→lt (0 * 1 * down d) (n * up d * 1) p)))
+
+pub positive-nonneg : (x : Float) → T (positive x) → T (nonneg x) × T (finite x)
+positive-nonneg x p = go (positive-cases x p)
+  where
+    go : {x : Float} → Positive x → T (nonneg x) × T (finite x)
+    go (fin> n d h) = unfold finite in (tt, tt)
 
 div-is : (f : Format) (m : ℕ) (e : ℤ) (n : ℕ) (d : ℤ) → 0 < n → div f (fin false m e) (fin false n d) ≡ round f false (m * up e * down d) (n * up d * down e)
 unfolding div

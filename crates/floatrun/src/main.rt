@@ -10,9 +10,10 @@ use distances::float_entry;
 use harness::MANY;
 use harness::bound_of;
 use harness::first;
-use harness::float_of;
+use harness::float_at;
 use harness::make_room;
 use harness::put;
+use harness::put_cap;
 use harness::put_cut;
 use harness::put_float;
 use harness::put_number;
@@ -71,13 +72,6 @@ fn put_distances(out: &mut [u8], start: usize, bid: Distance, ask: Distance, ste
     put_side(out, at, ask)
 }
 
-// `C`, the steps needed and the budget left.
-fn put_cap(out: &mut [u8], start: usize, needed: f64, budget: u32) -> usize {
-    let mut at = put(out, start, b"C");
-    at = put_float(out, at, needed);
-    put_number(out, at, budget as u64)
-}
-
 // An answer, with its vector where there are distances.
 fn put_answer(out: &mut [u8], start: usize, answer: Answer, v: ValueVector) -> usize {
     match answer {
@@ -88,11 +82,6 @@ fn put_answer(out: &mut [u8], start: usize, answer: Answer, v: ValueVector) -> u
         Answer::OverCap(needed, budget, _) => put_cap(out, start, needed, budget),
         Answer::Refused(number) => put_refusal(out, start, number),
     }
-}
-
-// The float of the word i places after a place.
-fn float_at(s: &[u8], at: usize, i: usize) -> f64 {
-    float_of(word_at(s, at, i))
 }
 
 // The answer to the record at a place.

@@ -33,15 +33,18 @@ spaced l at t = placed (placed l at space) (after l at space) t
 unfoldable pub afterSpaced : List ℕ → ℕ → List ℕ → ℕ
 afterSpaced l at t = after (placed l at space) (after l at space) t
 
--- `R`, and after it a space and a text
+-- `R` or `C`, and after it a space and a text
 abbrev pub letterR : List ℕ
 letterR = 82 ∷ []
 
-unfoldable pub lettered : List ℕ → ℕ → List ℕ → List ℕ
-lettered l at t = spaced (placed l at letterR) (after l at letterR) t
+abbrev pub letterC : List ℕ
+letterC = 67 ∷ []
 
-unfoldable pub afterLettered : List ℕ → ℕ → List ℕ → ℕ
-afterLettered l at t = afterSpaced (placed l at letterR) (after l at letterR) t
+unfoldable pub lettered : List ℕ → List ℕ → ℕ → List ℕ → List ℕ
+lettered c l at t = spaced (placed l at c) (after l at c) t
+
+unfoldable pub afterLettered : List ℕ → List ℕ → ℕ → List ℕ → ℕ
+afterLettered c l at t = afterSpaced (placed l at c) (after l at c) t
 
 -- a minus sign, where it is to be, and after it a text
 abbrev pub minus : List ℕ

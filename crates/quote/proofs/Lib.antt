@@ -16,3 +16,4 @@ pub mod Wrapper
 pub mod Presence
 pub mod Lots
 pub mod OneRun
+pub mod DeskPlan

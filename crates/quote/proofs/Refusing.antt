@@ -63,7 +63,7 @@ module _ {R : Type 0} (refusal : ℕ → R) (g : ModelAnswer → R) (kept : (r :
   unfolding modelIf
   goes-on l v m h f b q (el, ev, em, eh, ef) = rw (el, ev, em, eh, ef)
 
-  after-checks : (l v m h f : Bool) (b : Model) (q : ℤ) (n : ℕ)
+  pub after-checks : (l v m h f : Bool) (b : Model) (q : ℤ) (n : ℕ)
       → (g (modelIf l v m h f b q) ≡ refusal n) ↔ (Checked l v m h f n ⊎ (Passed l v m h f × (g (ModelAnswer.Model b q) ≡ refusal n)))
   after-checks l v m h f b q n = (
     stopped-at n (outcome l v m h f b q),
@@ -100,10 +100,10 @@ joined f g = (
 )
 
 -- after the checks, D being what the reply comes to: P is their passing
-late : {P D F : Type 0} {n m : ℕ} → (P → D ↔ ((n ≡ m) × F)) → (P × D) ↔ ((n ≡ m) × (P × F))
+pub late : {P D F : Type 0} {n m : ℕ} → (P → D ↔ ((n ≡ m) × F)) → (P × D) ↔ ((n ≡ m) × (P × F))
 late f = (λ x. let y = f (x .0) .0 (x .1) in (y .0, (x .0, y .1)), λ x. (x .1 .0, f (x .1 .0) .1 (x .0, x .1 .1)))
 
-right : {A B C : Type 0} → (B ↔ C) → (A ⊎ B) ↔ (A ⊎ C)
+pub right : {A B C : Type 0} → (B ↔ C) → (A ⊎ B) ↔ (A ⊎ C)
 right f = (λ x. elim x [ inl a ↦ inl a | inr b ↦ inr (f .0 b) ], λ x. elim x [ inl a ↦ inl a | inr c ↦ inr (f .1 c) ])
 
 -- ---- exact quotes

@@ -10,3 +10,4 @@ pub mod Replies
 pub mod Presence
 pub mod Reckoning
 pub mod Outward
+pub mod Horizon

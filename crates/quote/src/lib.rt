@@ -2,12 +2,14 @@
 mod amounts;
 mod closed_form;
 mod config;
+mod horizon;
 mod parameters;
 mod quotes;
 mod reckoning;
 pub mod refusals;
 mod rounding;
 
+pub use horizon::first_plan;
 pub use parameters::limits_fit;
 pub use reckoning::Check;
 pub use reckoning::Reckoning;

@@ -5,12 +5,14 @@ use mathlib.Core.Bool.{Bool, true, false}
 use mathlib.Core.List.{List}
 use lib.ListN.{length, drop}
 use Rattle.sheet.specs.Record.{Read, taken, refused, numbers, fields, recordFrom, asHeld, heldAs, readAs, readRecord}
-use Rattle.sheet.specs.Sheet.{recordLine, line, stepOf, stepIf, stepAt, lineAt}
+use Rattle.sheet.specs.Sheet.{line, stepOf, stepIf, stepAt, lineAt}
 use Rattle.sheet.specs.Ladder.{ladderAt}
-use Rattle.sheet.specs.Inner.{recordText, textAt}
+use Rattle.sheet.specs.Horizon.{planAt}
+use Rattle.sheet.specs.Inner.{isFlat, recordText, textAt}
 use Rattle.sheet.specs.declared.record.Record.{Record}
 use Rattle.sheet.specs.declared.record.RecordAnswer.{RecordAnswer}
 use Rattle.sheet.specs.declared.record.RecordAnswer.the-variants as RecordAnswer
+use Rattle.sheet.specs.declared.text.Kind.the-variants as Kind
 
 held-same : (x : Read (List ℕ)) → heldAs false x ≡ x
 unfolding heldAs asHeld
@@ -21,11 +23,6 @@ held-same (refused k) = refl
 pub as-it-is : (s : List ℕ) (at : ℕ) → readAs false s at ≡ readRecord s at
 unfolding readAs readRecord
 as-it-is s at = ap (recordFrom (length s)) (held-same (numbers fields (drop at s)))
-
--- its text is its line, or its ladder
-same-text : (r : Record) (room : ℕ) → recordText false room r ≡ recordLine r
-unfolding recordText
-same-text r room = refl
 
 step-same : (f g : Record → List ℕ) → ((r : Record) → f r ≡ g r) → (n : ℕ) (a : RecordAnswer) → stepOf f n a ≡ stepOf g n a
 unfolding stepOf
@@ -39,10 +36,15 @@ at-same false m f g h n a = refl
 at-same true false f g h n a = refl
 at-same true true f g h n a = step-same f g h n a
 
-pub as-line : (room : ℕ) (s : List ℕ) (at : ℕ) → textAt false room s at ≡ lineAt s at
-unfolding lineAt stepAt
-as-line room s at = rw (as-it-is s at) (at-same _ _ _ _ (λ r. same-text r room) _ _)
+-- its text is its line, its ladder or its plan
+pub as-line : (room : ℕ) (s : List ℕ) (at : ℕ) → textAt Kind.Line room s at ≡ lineAt s at
+unfolding lineAt stepAt isFlat recordText
+as-line room s at = rw (as-it-is s at) (at-same _ _ _ _ (λ r. refl) _ _)
 
-pub as-ladder : (room : ℕ) (s : List ℕ) (at : ℕ) → textAt true room s at ≡ ladderAt room s at
-unfolding ladderAt stepAt recordText
+pub as-ladder : (room : ℕ) (s : List ℕ) (at : ℕ) → textAt Kind.Ladder room s at ≡ ladderAt room s at
+unfolding ladderAt stepAt isFlat recordText
 as-ladder room s at = at-same _ _ _ _ (λ r. refl) _ _
+
+pub as-plan : (room : ℕ) (s : List ℕ) (at : ℕ) → textAt Kind.Plan room s at ≡ planAt s at
+unfolding planAt stepAt isFlat recordText
+as-plan room s at = rw (as-it-is s at) (at-same _ _ _ _ (λ r. refl) _ _)

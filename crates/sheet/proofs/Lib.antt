@@ -19,3 +19,4 @@ pub mod Due
 pub mod Ladders
 pub mod Flat
 pub mod LadderLaws
+pub mod Plans

@@ -34,7 +34,7 @@ fill-refused false f k e = (cc, refl)
 fill-refused true (upTo t next) k e = let z : _≡_ {A = ℕ} 0 1 = cc in absurd (omega arith)
 
 -- whatever stands at the place
-step-refusals : (x : Step) (b : List ℕ) (k : ℕ) → (answered (hasRoom b) x ≡ LineAnswer.Refused k) ↔ ((k ≡ smallBuffer) × (length b < leastRoom))
+pub step-refusals : (x : Step) (b : List ℕ) (k : ℕ) → (answered (hasRoom b) x ≡ LineAnswer.Refused k) ↔ ((k ≡ smallBuffer) × (length b < leastRoom))
 unfolding answered
 step-refusals x b k = (
   λ e. let h = line-refused (hasRoom b) x k e in (h .0, leb-false leastRoom (length b) (h .1)),

@@ -35,9 +35,9 @@ side-most (At (negsuc n)) h = absurd h
 side-most Absent h = omega arith
 
 -- ---- lines
-pub length-refusal : (n : ℕ) → length (refusalLine n) ≡ length (count n) + 3
-unfolding refusalLine joined
-length-refusal n = rw (length-append (count n) (10 ∷ [])) (omega arith)
+pub length-counted : (a n : ℕ) → length (joined (a ∷ []) (count n ∷ [])) ≡ length (count n) + 3
+unfolding joined
+length-counted a n = rw (length-append (count n) (10 ∷ [])) (omega arith)
 
 pub length-cap : (need : Float) (b : ℕ) → length (capLine need b) ≡ length (count b) + 20
 unfolding capLine joined
@@ -49,13 +49,20 @@ length-quotes q s =
     rw (length-append (side (q .bid)) (32 ∷ (side (q .ask) ++ (32 ∷ (count s ++ (10 ∷ []))))), length-append (side (q .ask)) (32 ∷ (count s ++ (10 ∷ []))), length-append (count s) (10 ∷ []))
     (omega arith)
 
+pub counted-most : (a n : ℕ) → n < 2 ^ 32 → length (joined (a ∷ []) (count n ∷ [])) ≤ 64
+counted-most a n h = rw (length-counted a n) (omega (arith, count-most 9 n (omega arith)))
+
 pub refusal-most : (n : ℕ) → n < 256 → length (refusalLine n) ≤ 64
-refusal-most n h = rw (length-refusal n) (omega (arith, count-most 2 n (omega arith)))
+unfolding refusalLine
+refusal-most n h = counted-most 82 n (omega arith)
+
+pub cap-most : (need : Float) (b : ℕ) → b < 2 ^ 32 → length (capLine need b) ≤ 64
+cap-most need b h = rw (length-cap need b) (omega (arith, count-most 9 b (omega arith)))
 
 -- a reply's line has at most 44 bytes
 pub answer-most : (a : ExactQuotes) → ReplyKept a → length (answerLine a) ≤ 64
 unfolding answerLine ReplyKept
 answer-most (ExactQuotes.Quotes q s) h =
     rw (length-quotes q s) (omega (arith, side-most (q .bid) (h .0), side-most (q .ask) (h .1), count-most 4 s (omega (arith, h .2))))
-answer-most (ExactQuotes.OverStepCap need b s) h = rw (length-cap need b) (omega (arith, count-most 4 b (omega (arith, h .1))))
+answer-most (ExactQuotes.OverStepCap need b s) h = cap-most need b (omega (arith, h .1))
 answer-most (ExactQuotes.Refused n) h = refusal-most n (omega arith)

@@ -4,6 +4,7 @@ pub mod Lines
 pub mod Sheet
 pub mod Fill
 pub mod Ladder
+pub mod Horizon
 pub mod Save
 pub mod Promises
 pub mod Refusing

@@ -8,15 +8,14 @@ ghost use Rattle.quote.specs.declared.reckoning.Check.the-variants as Check;
 ghost use Rattle.sheet.specs.Lines.{over};
 ghost use Rattle.sheet.specs.Sheet.{leastRoom, hasRoom, answered, left};
 ghost use Rattle.sheet.specs.Ladder.{rungs, lotAt, ladder, ladderRoom, laddered, ladderedIn, recordLadder, ladderAt};
-ghost use Rattle.sheet.specs.Inner.{recordText};
 use crate::line::LEAST_ROOM;
 use crate::line::LineAnswer;
-use crate::line::next_text;
 use crate::line::write_answer;
-use crate::line::write_record;
 use crate::line::write_refusal;
 use crate::record::Record;
 use crate::refusals::SMALL_LADDER_BUFFER;
+use crate::text::Kind;
+use crate::text::next_text;
 use quote::Check;
 use quote::GLFTConfig;
 
@@ -95,7 +94,7 @@ pub fn write_ladder(
 }
 
 // The ladder of a record, or the line of what refuses it as a whole.
-fn write_record_ladder(out: &mut [u8], r: Record) -> usize
+pub(crate) fn write_record_ladder(out: &mut [u8], r: Record) -> usize
     requires { ⌜ leastRoom ≤ length (now out) ⌝ }
     ensures { λ _. ⌜ now (out .exit) ≡ over (recordLadder (length (now (out .entry))) r) (now (out .entry)) ⌝ }
     ensures { λ n. ⌜ n ≡ length (recordLadder (length (now (out .entry))) r) ⌝ }
@@ -107,23 +106,11 @@ fn write_record_ladder(out: &mut [u8], r: Record) -> usize
     }
 }
 
-// A record's line, or its ladder.
-pub(crate) fn write_text(out: &mut [u8], r: Record, ladder: bool) -> usize
-    requires { ⌜ leastRoom ≤ length (now out) ⌝ }
-    ensures { λ _. ⌜ now (out .exit) ≡ over (recordText ladder (length (now (out .entry))) r) (now (out .entry)) ⌝ }
-    ensures { λ n. ⌜ n ≡ length (recordText ladder (length (now (out .entry))) r) ⌝ }
-{
-    if ladder {
-        return write_record_ladder(out, r);
-    }
-    write_record(out, r)
-}
-
 // Writes the ladder of the record at a place of a sheet, its holding left aside, or the line of what
 // refuses it: refused by 8, which leaves the buffer as it is.
 pub fn next_ladder(sheet: &[u8], at: usize, out: &mut [u8]) -> LineAnswer
     ensures { λ r. ⌜ r ≡ answered (hasRoom (now (out .entry))) (ladderAt (length (now (out .entry))) (now (sheet .entry)) at) ⌝ }
     ensures { λ _. ⌜ now (out .exit) ≡ left (hasRoom (now (out .entry))) (ladderAt (length (now (out .entry))) (now (sheet .entry)) at) (now (out .entry)) ⌝ }
 {
-    next_text(sheet, at, out, true)
+    next_text(sheet, at, out, Kind::Ladder)
 }

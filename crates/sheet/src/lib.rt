@@ -2,9 +2,11 @@
 mod fill;
 mod ladder;
 mod line;
+mod plan;
 mod record;
 pub mod refusals;
 mod save;
+mod text;
 
 pub use fill::FillAnswer;
 pub use fill::fill_lines;
@@ -16,6 +18,7 @@ pub use line::LEAST_ROOM;
 pub use line::LineAnswer;
 pub use line::MOST_BYTES;
 pub use line::next_line;
+pub use plan::next_plan;
 pub use record::Record;
 pub use record::RecordAnswer;
 pub use record::read_record;

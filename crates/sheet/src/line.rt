@@ -2,20 +2,17 @@
 // lent, answers how many bytes that took, and leaves the others as they were.
 ghost use mathlib.Core.Path.{_≡_};
 ghost use mathlib.Core.Bool.{not};
+ghost use mathlib.Core.List.{[], _∷_};
 ghost use Prim.Native.Nat.{_<_, _≤_};
 ghost use lib.ListN.{length};
 ghost use lib.Dec.{T};
 ghost use lib.Ieee.{isNan};
 ghost use Rattle.quote.specs.Replies.{PriceKept, ReplyKept};
-ghost use Rattle.sheet.specs.Lines.{glyph, digits, places, count, price, side, hex, quotesLine, capLine, refusalLine, answerLine, over};
-ghost use Rattle.sheet.specs.Inner.{textAt};
+ghost use Rattle.sheet.specs.Lines.{glyph, digits, places, count, price, side, hex, joined, quotesLine, capLine, refusalLine, answerLine, over};
 ghost use Rattle.sheet.specs.Sheet.{leastRoom, recordLine, lineAt, hasRoom, answered, left};
-use crate::ladder::write_text;
 use crate::record::Record;
-use crate::record::RecordAnswer;
-use crate::record::read;
-use crate::refusals::LONG_SHEET;
-use crate::refusals::SMALL_BUFFER;
+use crate::text::Kind;
+use crate::text::next_text;
 use quote::BILLION;
 use quote::ExactQuotes;
 use quote::GLFTStrategy;
@@ -152,7 +149,7 @@ fn write_quotes(line: &mut [u8], q: GlftQuotes, steps: u32) -> usize
     at + 1
 }
 
-fn write_cap(line: &mut [u8], need: f64, budget: u32) -> usize
+pub(crate) fn write_cap(line: &mut [u8], need: f64, budget: u32) -> usize
     requires { ⌜ T (not (isNan need)) ⌝ }
     requires { ⌜ length (capLine need budget) ≤ length (now line) ⌝ }
     ensures { λ _. ⌜ now (line .exit) ≡ over (capLine need budget) (now (line .entry)) ⌝ }
@@ -169,17 +166,26 @@ fn write_cap(line: &mut [u8], need: f64, budget: u32) -> usize
     at + 1
 }
 
+// A letter and a count.
+pub(crate) fn write_counted(line: &mut [u8], letter: u8, n: u64) -> usize
+    requires { ⌜ length (joined (letter ∷ []) (count n ∷ [])) ≤ length (now line) ⌝ }
+    ensures { λ _. ⌜ now (line .exit) ≡ over (joined (letter ∷ []) (count n ∷ [])) (now (line .entry)) ⌝ }
+    ensures { λ r. ⌜ r ≡ length (joined (letter ∷ []) (count n ∷ [])) ⌝ }
+{
+    line[0] = letter;
+    line[1] = b' ';
+    let mut at: usize = 2;
+    at += write_count(&mut line[at..], n);
+    line[at] = b'\n';
+    at + 1
+}
+
 pub(crate) fn write_refusal(line: &mut [u8], number: u8) -> usize
     requires { ⌜ length (refusalLine number) ≤ length (now line) ⌝ }
     ensures { λ _. ⌜ now (line .exit) ≡ over (refusalLine number) (now (line .entry)) ⌝ }
     ensures { λ r. ⌜ r ≡ length (refusalLine number) ⌝ }
 {
-    line[0] = b'R';
-    line[1] = b' ';
-    let mut at: usize = 2;
-    at += write_count(&mut line[at..], number as u64);
-    line[at] = b'\n';
-    at + 1
+    write_counted(line, b'R', number as u64)
 }
 
 // The line of an answer, which takes at most 64 bytes.
@@ -213,38 +219,10 @@ pub(crate) fn write_record(line: &mut [u8], r: Record) -> usize
     write_answer(line, answer)
 }
 
-// Writes what stands for the record at a place of a sheet, its line or its ladder: refused by 8, which
-// leaves the buffer as it is.
-pub(crate) fn next_text(sheet: &[u8], at: usize, out: &mut [u8], ladder: bool) -> LineAnswer
-    ensures { λ r. ⌜ r ≡ answered (hasRoom (now (out .entry))) (textAt ladder (length (now (out .entry))) (now (sheet .entry)) at) ⌝ }
-    ensures { λ _. ⌜ now (out .exit) ≡ left (hasRoom (now (out .entry))) (textAt ladder (length (now (out .entry))) (now (sheet .entry)) at) (now (out .entry)) ⌝ }
-{
-    if out.len() < LEAST_ROOM {
-        return LineAnswer::Refused(SMALL_BUFFER);
-    }
-    if at >= sheet.len() {
-        return LineAnswer::End;
-    }
-    if sheet.len() > MOST_BYTES {
-        return LineAnswer::Written(write_refusal(out, LONG_SHEET), sheet.len());
-    }
-    match read(sheet, at, ladder) {
-        RecordAnswer::Record(r, next) => LineAnswer::Written(write_text(out, r, ladder), next),
-        RecordAnswer::Skipped(number, next) => LineAnswer::Written(
-            write_refusal(out, number),
-            next,
-        ),
-        RecordAnswer::Refused(number) => LineAnswer::Written(
-            write_refusal(out, number),
-            sheet.len(),
-        ),
-    }
-}
-
 // Writes the line at a place of a sheet: refused by 8, which leaves the buffer as it is.
 pub fn next_line(sheet: &[u8], at: usize, line: &mut [u8]) -> LineAnswer
     ensures { λ r. ⌜ r ≡ answered (hasRoom (now (line .entry))) (lineAt (now (sheet .entry)) at) ⌝ }
     ensures { λ _. ⌜ now (line .exit) ≡ left (hasRoom (now (line .entry))) (lineAt (now (sheet .entry)) at) (now (line .entry)) ⌝ }
 {
-    next_text(sheet, at, line, false)
+    next_text(sheet, at, line, Kind::Line)
 }

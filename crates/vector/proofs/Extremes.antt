@@ -1,20 +1,23 @@
--- From either end a vector has the same largest entry, and a smallest entry on the same side of a limit. NaNs, infinities and both zeros may be among the entries. Assumes nothing.
+-- From either end a vector has the same largest entry, and a smallest entry on the same side of a limit; the first two may hold the largest. NaNs, infinities and both zeros may be among the entries. Assumes nothing.
 use mathlib.Core.Path.{_≡_, refl, sym, ap, _∙_}
-use Prim.Native.Nat.{ℕ, zero, suc, _+_, _*_, _<_}
-use native.Mathlib.Nat.{le-antisymm}
+use Prim.Native.Nat.{ℕ, zero, suc, _+_, _*_, _≤_, _<_}
+use native.Mathlib.Nat.{le-refl, le-antisymm}
 use native.Mathlib.Omega.{arith}
+use mathlib.Core.Logic.{_⊎_, inl, inr}
 use mathlib.Core.Bool.{Bool, true, false, not, _&&_, cond, and-assoc, and-true, true≢false, false≢true, Bool·not-not}
 use borrow.Author.Tests.{ltb-false, le-ltb}
-use lib.Dec.{T}
-use lib.Ieee.{Float, nan, inf, fin, Format, binary64, up, down, below, lt, fits, isNan}
+use lib.IntN.{pos}
+use lib.Dec.{T, not-T}
+use lib.Ieee.{Float, nan, inf, fin, Format, binary64, up, down, below, lt, le, fits, isNan}
 use lib.Ieee.Fits.{down-pos}
-use lib.Ieee.Bits.{ofBits-fits}
+use lib.Ieee.Bits.{is-false, ofBits-fits}
 use lib.Ieee.Positive.{through}
 use Rattle.elementary.specs.Float.{0ᶠ}
 use Rattle.elementary.proofs.Signs.{nonneg}
-use Rattle.elementary.proofs.Order.{lt→le, lt→not-ge}
+use Rattle.elementary.proofs.Order.{le-trans-f, not-lt→le, lt→le, lt→not-ge}
 use Rattle.elementary.proofs.Exact.{value-unique, zero-is}
 use Rattle.vector.specs.Vectors.{from, tab, everyFrom, every, fold, larger, smaller}
+use Rattle.vector.proofs.Loops.{larger-left}
 use Rattle.vector.proofs.Lists.{Opposite, every-mirror, fold-mirror}
 
 -- ---- `not below` goes from one value to the next, and to a third, where the middle one is no NaN
@@ -159,6 +162,19 @@ larger-apart f a b x y p q v w =
 pub zero-gathered : Gathered binary64 0ᶠ
 zero-gathered = (rw (zero-is binary64) tt, ofBits-fits binary64 0)
 
+-- nothing that is gathered lies below it
+above-zero : (x : Float) → T (nonneg x) → lt x (fin false 0 (pos 0)) ≡ false
+unfolding lt
+above-zero nan p = refl
+above-zero (inf true) p = absurd p
+above-zero (inf false) p = refl
+above-zero (fin true m e) p = absurd p
+above-zero (fin false m e) p = le-ltb (m * up e * 1) (0 * 1 * down e) (omega arith)
+
+pub larger-zero : (x : Float) → Gathered binary64 x → larger 0ᶠ x ≡ x
+unfolding larger
+larger-zero x p = larger-comm binary64 0ᶠ x zero-gathered p ∙ rw (zero-is binary64, above-zero x (p .0))
+
 pub zero-zero : larger 0ᶠ 0ᶠ ≡ 0ᶠ
 unfolding larger
 zero-zero = go (lt 0ᶠ 0ᶠ)
@@ -167,6 +183,30 @@ zero-zero = go (lt 0ᶠ 0ᶠ)
     go true = refl
     go false = refl
 
+-- ---- the largest of many, where none after the first two is above both
+settled : (a : Float) (i n : ℕ) (f : ℕ → Float) → ((j : ℕ) → i ≤ j → j < i + n → lt a (f j) ≡ false) → fold larger a (from i n f) ≡ a
+unfolding from fold
+settled a i zero f h = refl
+settled a i (suc n) f h =
+    rw (← larger-left a (f i) (h i (le-refl i) (omega arith)), fold)
+    (settled a (suc i) n f (λ j l k. h j (omega arith) (omega arith)))
+
+pub first-two : (k : ℕ) (f : ℕ → Float) → Gathered binary64 (f 0) → ((j : ℕ) → 2 ≤ j → j < 2 + k → lt (larger (f 0) (f 1)) (f j) ≡ false)
+    → fold larger 0ᶠ (tab (suc (suc k)) f) ≡ larger (f 0) (f 1)
+unfolding from fold
+first-two k f p h = ap (λ (z : Float). fold larger (larger z (f 1)) (from 2 k f)) (larger-zero (f 0) p) ∙ settled (larger (f 0) (f 1)) 2 k f h
+
+pub not-above : (x y z : Float) → T (nonneg x) → T (nonneg y) → T (nonneg z) → T (le z x) ⊎ T (le z y) → lt (larger x y) z ≡ false
+unfolding larger
+not-above x y z p q r h = is-false (lt (larger x y) z) (not-T (lt (larger x y) z) (λ l. lt→not-ge (larger x y) z l (go (lt x y) refl h)))
+  where
+    go : (t : Bool) → lt x y ≡ t → T (le z x) ⊎ T (le z y) → T (le z (cond t y x))
+    go true e (inl u) = le-trans-f z x y r p q u (lt→le x y (rw e tt))
+    go true e (inr u) = u
+    go false e (inl u) = u
+    go false e (inr u) = le-trans-f z y x r q p u (not-lt→le x y p q e)
+
+-- ---- from either end
 pub largest-mirror : (n : ℕ) (f g : ℕ → Float) → ((i : ℕ) → T (fits binary64 (f i))) → Opposite n f g
     → fold larger 0ᶠ (tab n f) ≡ fold larger 0ᶠ (tab n g)
 largest-mirror n f g v m =

@@ -8,6 +8,9 @@ pub mod RunLaws
 pub mod Bounds
 pub mod Extremes
 pub mod Mirror
+pub mod Lots
+pub mod Rows
+pub mod Ahead
 pub mod OwnMirror
 pub mod Turns
 pub mod Summing

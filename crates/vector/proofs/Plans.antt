@@ -8,14 +8,14 @@ use borrow.Author.Tests.{lt-ltb}
 use lib.IntN.{pos}
 use lib.Dec.{T, lit<, lit≤, le→leb}
 use lib.Pow.{pow-lt}
-use lib.Ieee.{Float, nan, inf, fin, binary64, up, down, lt, le, ofBits, ofInt, inFloat, toUnsigned}
+use lib.Ieee.{Float, nan, inf, fin, binary64, up, down, lt, le, ofBits, inFloat, toUnsigned}
 use lib.Ieee.Fits.{down-pos}
 use lib.Ieee.Back.{unsigned-back}
 use lib.Ieee.Order.{le-of-values}
 use Rattle.elementary.specs.Float.{_⊘_, whole, 1ᶠ, 2ᶠ}
 use Rattle.elementary.specs.Elementary.{CEIL, orNan}
 use Rattle.elementary.proofs.Signs.{nonneg}
-use Rattle.elementary.proofs.Order.{not-lt→le, le-lt-trans, round-nonneg, toUnsigned-mono}
+use Rattle.elementary.proofs.Order.{not-lt→le, le-lt-trans, ofInt-nonneg, toUnsigned-mono}
 use Rattle.elementary.proofs.Exact.{whole-value}
 use Rattle.vector.specs.Vectors.{larger}
 use Rattle.vector.specs.Run.{needed}
@@ -53,8 +53,7 @@ above-minus-one (fin false m e) p = rw (lt-ltb 0 (1 * 1 * down e + m * up e * 1)
 
 -- ---- a budget of 32 bits as a float
 pub whole-nonneg : (b : ℕ) → T (nonneg (whole (pos b)))
-unfolding ofInt
-whole-nonneg b = round-nonneg binary64 b 1
+whole-nonneg = ofInt-nonneg binary64
 
 module _ (b : ℕ) (fits : b < 2 ^ 32) where
   exact : b ≤ 2 ^ 53

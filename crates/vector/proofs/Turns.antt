@@ -7,7 +7,7 @@ use mathlib.Core.Bool.{Bool, true, false, _&&_, cond}
 use mathlib.Core.List.{List}
 use lib.IntN.{pos}
 use lib.Dec.{T}
-use lib.Ieee.{Float, nan, inf, fin, binary64, up, down, div, lt, le, ofInt, ofBits, fits}
+use lib.Ieee.{Float, nan, inf, fin, binary64, up, down, div, lt, le, ofBits, fits}
 use lib.Ieee.Fits.{down-pos, mul-fits, and-r}
 use Rattle.elementary.specs.Float.{_⊗_, _⊘_, whole, 1ᶠ, 2ᶠ, finite, positive}
 use Rattle.elementary.specs.Reply.{Reply, value, refusal, given}
@@ -18,6 +18,7 @@ use Rattle.vector.specs.Vectors.{tab, at, every, larger}
 use Rattle.vector.specs.Series.{leftAt, rightAt, taylorStep}
 use Rattle.vector.specs.Run.{Ended, vector, overCap, failed, Fixed, Going, Turn, going, ended, cap, norm, needed, start, begin, divided, rebalance, next, stepped, stepOperator, turn}
 use Rattle.vector.specs.Promises.{divided-only, rebalanced, SumOf, OwnSum}
+use Rattle.vector.proofs.Plans.{whole-nonneg}
 
 -- ---- the steps needed for a time × norm that is finite and above zero are a number, so those that do not keep the budget are above it
 half : (x : Float) → T (fits binary64 x) → T (positive x) → T (nonneg (x ⊘ 2ᶠ)) × T (finite (x ⊘ 2ᶠ))
@@ -49,10 +50,6 @@ larger-nonneg x y p q = go (lt x y)
 needed-nonneg : (x : Float) → T (fits binary64 x) → T (positive x) → T (nonneg (needed x))
 unfolding needed ofBits
 needed-nonneg x t p = let (n, f) = half x t p in larger-nonneg (orNan (CEIL (x ⊘ 2ᶠ))) 1ᶠ (ceil-nonneg (x ⊘ 2ᶠ) n f) tt
-
-whole-nonneg : (b : ℕ) → T (nonneg (whole (pos b)))
-unfolding ofInt
-whole-nonneg b = round-nonneg binary64 b 1
 
 not-le→lt : (x y : Float) → T (nonneg x) → T (nonneg y) → le x y ≡ false → T (lt y x)
 not-le→lt x y p q h = go (lt y x) (not-lt→le y x q p)

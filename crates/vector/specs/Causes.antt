@@ -13,7 +13,7 @@ use Rattle.elementary.specs.Elementary.{LN, orNan}
 use Rattle.vector.specs.Refusals.{numerical}
 use Rattle.vector.specs.Vectors.{tab, at, fill, every, fold, smaller}
 use Rattle.vector.specs.Series.{Operator, leftAt, rightAt, term, plus, bothFinite, converged, mostTerms, taylorStep}
-use Rattle.vector.specs.Run.{Ended, overCap, failed, Fixed, Going, Turn, going, ended, cap, norm, needed, begin, divided, rebalances, stepOperator, turn, fixed, run}
+use Rattle.vector.specs.Run.{Ended, overCap, failed, Fixed, Going, Turn, going, ended, cap, norm, needed, divided, rebalances, stepOperator, turn, firstTurn, fixed, run}
 
 -- ==== a Taylor step
 -- From the last term t and the sum s before term j: the sum with term j; are term and sum finite; has every entry converged; is every entry of the sum above zero.
@@ -49,7 +49,7 @@ SeriesRefused = (p : Operator) (eta : Float) (v : List Float) (n : ℕ) → (tay
 -- ==== a run
 -- what a run over tau meets: its states, each with the budget left
 pub data Reached (p : Fixed) (tau : Float) : ℕ → Turn → Type 0 where
-  first : Reached p tau cap (begin p cap (fill (p .n) 1ᶠ) (fill (p .n) 0ᶠ) tau)
+  first : Reached p tau cap (firstTurn p tau)
   later : {b : ℕ} {g : Going} → Reached p tau (suc b) (going g) → Reached p tau b (turn p b g)
 
 -- a run that is going has steps to go, and no more than the budget left: so it never goes on without a budget

@@ -19,6 +19,8 @@ use Rattle.vector.specs.declared.ValueVector.{ValueVector}
 use Rattle.vector.specs.declared.VectorAnswer.{VectorAnswer}
 use Rattle.vector.specs.declared.Outcome.{Outcome}
 use Rattle.vector.specs.declared.Outcome.the-variants as Outcome
+use Rattle.vector.specs.declared.FirstPlan.{FirstPlan}
+use Rattle.vector.specs.declared.FirstPlan.the-variants as FirstPlan
 use Rattle.vector.specs.declared.plan.Planned.{Planned}
 use Rattle.vector.specs.declared.plan.Planned.the-variants as Planned
 use Rattle.vector.specs.declared.run.Pace.{Pace}
@@ -75,6 +77,12 @@ planFor size rest b = planBy true (le (needed size) (whole (pos b))) rest (neede
 unfoldable pub planOf : Fixed → ℕ → List Float → List Float → Float → Planned
 planOf p b left right rest =
     let size = rest ⊗ norm p left right in planBy (positive size) (le (needed size) (whole (pos b))) rest (needed size)
+
+-- as a first plan, with the whole budget
+unfoldable pub aheadOf : Planned → FirstPlan
+aheadOf (Planned.Steps s dt) = FirstPlan.Steps s
+aheadOf (Planned.OverCap need) = FirstPlan.OverCap need cap
+aheadOf Planned.Refused = FirstPlan.Refused numerical
 
 -- ---- the paces that the code makes
 abbrev pub pacedOf : ℕ → ℕ → Float → Float → Pace

@@ -4,6 +4,7 @@ pub mod Series
 pub mod Late
 pub mod Run
 pub mod Values
+pub mod Count
 pub mod Inner
 pub mod Promises
 pub mod Causes

@@ -121,10 +121,14 @@ runOn (suc b) p (going g) = runOn b p (turn p b g)
 unfoldable pub fixed : ℕ → Float → Float → Fixed
 fixed bound alpha eta = record { n = rows bound; diagonal = tab (rows bound) (diagonalAt bound alpha eta); eta = eta }
 
+-- where a run begins: the first plan, over all rows and with the whole budget
+abbrev pub firstTurn : Fixed → Float → Turn
+firstTurn p tau = begin p cap (fill (p .n) 1ᶠ) (fill (p .n) 0ᶠ) tau
+
 -- is tau above zero
 unfoldable pub runFor : Bool → Fixed → Float → Ended
 runFor false p tau = vector (fill (p .n) 1ᶠ) (fill (p .n) 0ᶠ) 0
-runFor true p tau = runOn cap p (begin p cap (fill (p .n) 1ᶠ) (fill (p .n) 0ᶠ) tau)
+runFor true p tau = runOn cap p (firstTurn p tau)
 
 unfoldable pub run : ℕ → Float → Float → Float → Ended
 run bound alpha eta tau = runFor (lt 0ᶠ tau) (fixed bound alpha eta) tau

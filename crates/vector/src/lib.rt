@@ -1,5 +1,6 @@
 // The float layer: the tridiagonal operator of the value vector's equation, its series, the plan of
 // steps, and the run that gives the value vector.
+mod count;
 mod operator;
 mod plan;
 mod reals;
@@ -11,6 +12,7 @@ pub use run::refused_vector;
 ghost use mathlib.Core.Path.{_≡_};
 ghost use Rattle.vector.specs.Run.{rebalances};
 ghost use Rattle.vector.specs.Values.{valueVector};
+ghost use Rattle.vector.specs.Count.{firstPlan};
 
 // The largest bound.
 pub const MAX_INVENTORY_LOTS: u32 = 200;
@@ -45,6 +47,14 @@ pub struct VectorAnswer {
     pub vector: ValueVector,
 }
 
+// The first plan of a run: its steps; or the steps needed, above the budget left; or a refusal's
+// number.
+pub enum FirstPlan {
+    Steps(u32),
+    OverCap(f64, u32),
+    Refused(u8),
+}
+
 // Whether a step is followed by rebalancing: steps remain, and the smallest weight is below 1e-200.
 // The run asks it of each weight: one calls for rebalancing just where the smallest does.
 pub fn must_rebalance(smallest: f64, steps: u32) -> bool
@@ -64,4 +74,18 @@ pub fn value_vector(alpha: f64, eta: f64, bound: u32, tau: f64) -> VectorAnswer
         return run::refused_vector(refusals::CONFIGURATION);
     }
     run::refused_vector(elementary::OUTSIDE)
+}
+
+// The first plan of the run that `value_vector` makes, before anything runs; 0 steps where no time is
+// left. Refused by 5, then 1, then 11.
+pub fn first_plan(alpha: f64, eta: f64, bound: u32, tau: f64) -> FirstPlan
+    ensures { λ r. ⌜ r ≡ firstPlan alpha eta bound tau ⌝ }
+{
+    if run::floats_fit(alpha, eta, tau) {
+        if run::bound_fits(bound) {
+            return count::plan_within(alpha, eta, bound, tau);
+        }
+        return FirstPlan::Refused(refusals::CONFIGURATION);
+    }
+    FirstPlan::Refused(elementary::OUTSIDE)
 }

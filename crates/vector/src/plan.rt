@@ -48,7 +48,7 @@ fn steps_needed(size: f64) -> f64
 }
 
 // The plan for a norm times a time that is finite and positive.
-fn plan_for(size: f64, tau: f64, budget: u32) -> Planned
+pub(crate) fn plan_for(size: f64, tau: f64, budget: u32) -> Planned
     ensures { λ r. ⌜ r ≡ planFor size tau budget ⌝ }
 {
     let need = steps_needed(size);

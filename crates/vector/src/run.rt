@@ -100,12 +100,6 @@ fn end_of(pace: Pace) -> Outcome
     stop
 }
 
-fn larger_of(x: f64, y: f64) -> f64
-    ensures { λ r. ⌜ r ≡ larger x y ⌝ }
-{
-    if x < y { y } else { x }
-}
-
 // The largest weight, from 0.0, by the even and the odd places apart: neither waits for the other.
 fn largest(w: &[f64]) -> f64
     requires { ⌜ Fit (now w) ⌝ }
@@ -115,13 +109,13 @@ fn largest(w: &[f64]) -> f64
     let mut odd = 0.0;
     let mut i: usize = 0;
     while i + 1 < w.len() {
-        even = larger_of(even, w[i]);
-        odd = larger_of(odd, w[i + 1]);
+        even = crate::reals::larger_of(even, w[i]);
+        odd = crate::reals::larger_of(odd, w[i + 1]);
         i += 2;
     }
-    let both = larger_of(even, odd);
+    let both = crate::reals::larger_of(even, odd);
     if i < w.len() {
-        return larger_of(both, w[i]);
+        return crate::reals::larger_of(both, w[i]);
     }
     both
 }

@@ -1,4 +1,4 @@
--- `sheet::line::next_text` meets its contract: at each return the tests that led there, and what was read, say which line is due. Assumes nothing.
+-- `sheet::text::next_text` meets its contract: at each return the tests that led there, and what was read, say which line is due. Assumes nothing.
 use mathlib.Core.Path.{_≡_, sym, ap, _∙_}
 use native.Mathlib.Nat.{le-trans}
 use native.Mathlib.Omega.{arith}
@@ -10,15 +10,16 @@ use Rattle.sheet.specs.Inner.{recordText, textAt}
 use Rattle.sheet.proofs.Widths.{refusal-most}
 use Rattle.sheet.proofs.Steps.{step-end, step-long, step-read, no-room, no-line, one-line}
 use borrow.Author.Needs.{needs}
-use Rattle.sheet.proofs.line.next_text.Statement.{statement}
-use Rattle.sheet.proofs.line.next_text.Tie as tie
+use Rattle.sheet.proofs.text.next_text.Statement.{statement}
+use Rattle.sheet.proofs.text.next_text.Tie as tie
 
 -- the step there, by the record that is read
-step-there : (c : tie.After-read) → let a = c .before .before .before .before .before .before .args in
-    textAt (a .ladder) (length (now (a .out))) (now (a .sheet)) (a .at) ≡ stepOf (recordText (a .ladder) (length (now (a .out)))) (length (now (a .sheet))) (c .read .result)
+step-there : (c : tie.After-read) → let a = c .before .before .before .before .before .before .before .args in
+    textAt (a .kind) (length (now (a .out))) (now (a .sheet)) (a .at) ≡ stepOf (recordText (a .kind) (length (now (a .out)))) (length (now (a .sheet))) (c .read .result)
 step-there c =
-    let e = c .before in
-    step-read _ _ _ _ (e .before .if2 .left) (e .if3 .left) ∙ ap (stepOf _ _) (sym (c .read .ensures))
+    let f = c .before in
+    let e = f .before in
+    step-read _ _ _ _ (e .before .if2 .left) (e .if3 .left) ∙ ap (stepOf _ _) (sym (rw (← f .is-flat .ensures) (c .read .ensures)))
 
 returns : tie.Need-returns
 returns c = no-room _ _ (c .if1 .taken)
@@ -38,6 +39,9 @@ returns-3 c =
     let e = w .before .before in
     one-line _ _ _ _ _ _ (e .before .before .if1 .left) (step-long _ _ _ _ (e .before .if2 .left) (e .if3 .taken)) (w .write-refusal .ensures .0) (w .write-refusal .ensures .1)
 
+is-flat-requires : tie.Need-is-flat-requires
+is-flat-requires c κs = search needs
+
 read-requires : tie.Need-read-requires
 read-requires c κs = search needs
 
@@ -51,13 +55,13 @@ enum-known-number : tie.Need-enum-known-number
 enum-known-number c = search needs
 
 write-refusal-requires-2 : tie.Need-write-refusal-requires-2
-write-refusal-requires-2 c κs = le-trans (refusal-most _ (omega arith)) (c .before .before .before .before .before .before .before .if1 .left)
+write-refusal-requires-2 c κs = le-trans (refusal-most _ (omega arith)) (c .before .before .before .before .before .before .before .before .if1 .left)
 
 enum-known-number-2 : tie.Need-enum-known-number-2
 enum-known-number-2 c = search needs
 
 write-refusal-requires-3 : tie.Need-write-refusal-requires-3
-write-refusal-requires-3 c κs = le-trans (refusal-most _ (omega arith)) (c .before .before .before .before .before .before .before .if1 .left)
+write-refusal-requires-3 c κs = le-trans (refusal-most _ (omega arith)) (c .before .before .before .before .before .before .before .before .if1 .left)
 
 same-length-2 : tie.Need-same-length-2
 same-length-2 c = search needs
@@ -67,7 +71,7 @@ unfolding stepOf
 returns-4 c =
     let w = c .before .before in
     let k = w .before .before .before in
-    one-line _ _ _ _ _ _ (k .before .before .before .before .before .if1 .left) (step-there (k .before .before) ∙ ap (stepOf _ _) (k .r .given .1)) (w .write-text .ensures .0) (w .write-text .ensures .1)
+    one-line _ _ _ _ _ _ (k .before .before .before .before .before .before .if1 .left) (step-there (k .before .before) ∙ ap (stepOf _ _) (k .r .given .1)) (w .write-text .ensures .0) (w .write-text .ensures .1)
 
 same-length-3 : tie.Need-same-length-3
 same-length-3 c = search needs
@@ -77,7 +81,7 @@ unfolding stepOf
 returns-5 c =
     let w = c .before .before in
     let k = w .before .before .before in
-    one-line _ _ _ _ _ _ (k .before .before .before .before .before .if1 .left) (step-there (k .before .before) ∙ ap (stepOf _ _) (k .number .given .1)) (w .write-refusal2 .ensures .0) (w .write-refusal2 .ensures .1)
+    one-line _ _ _ _ _ _ (k .before .before .before .before .before .before .if1 .left) (step-there (k .before .before) ∙ ap (stepOf _ _) (k .number .given .1)) (w .write-refusal2 .ensures .0) (w .write-refusal2 .ensures .1)
 
 same-length-4 : tie.Need-same-length-4
 same-length-4 c = search needs
@@ -87,7 +91,7 @@ unfolding stepOf
 returns-6 c =
     let w = c .before .before in
     let k = w .before .before .before in
-    one-line _ _ _ _ _ _ (k .before .before .before .before .before .if1 .left) (step-there (k .before .before) ∙ ap (stepOf _ _) (k .number2 .given .1)) (w .write-refusal3 .ensures .0) (w .write-refusal3 .ensures .1)
+    one-line _ _ _ _ _ _ (k .before .before .before .before .before .before .if1 .left) (step-there (k .before .before) ∙ ap (stepOf _ _) (k .number2 .given .1)) (w .write-refusal3 .ensures .0) (w .write-refusal3 .ensures .1)
 
 pub next-text-spec : {M : Type 1} → statement M
 next-text-spec =
@@ -98,6 +102,7 @@ next-text-spec =
     write-refusal-requires
     same-length
     returns-3
+    is-flat-requires
     read-requires
     enum-known-r
     write-text-requires

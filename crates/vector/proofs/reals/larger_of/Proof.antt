@@ -1,7 +1,7 @@
 -- The larger by the test. Assumes nothing.
 use Rattle.vector.specs.Vectors.{larger}
-use Rattle.vector.proofs.run.larger_of.Statement.{statement}
-use Rattle.vector.proofs.run.larger_of.Tie as tie
+use Rattle.vector.proofs.reals.larger_of.Statement.{statement}
+use Rattle.vector.proofs.reals.larger_of.Tie as tie
 
 returns : tie.Need-returns
 unfolding larger

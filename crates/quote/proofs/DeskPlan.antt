@@ -1,0 +1,158 @@
+-- A desk's plan is the count of its model's floats, so what ties that to the float entry ties it to the exact quotes. Assumes nothing.
+use mathlib.Core.Path.{_≡_, refl, sym, _∙_}
+use mathlib.Core.Logic.{_↔_, Iff·trans}
+use Prim.Native.Nat.{ℕ, suc}
+use native.Mathlib.Omega.{arith}
+use mathlib.Core.Bool.{Bool, true, false, _&&_}
+use lib.IntN.{ℤ}
+use lib.Ieee.{Float, lt}
+use Rattle.elementary.specs.Float.{0ᶠ, positive}
+use Rattle.vector.specs.Refusals.{numerical}
+use Rattle.vector.specs.Run.{boundOk}
+use Rattle.vector.specs.Count.{firstSize, FirstIs, no-time, fails, over, kept, FirstGoes}
+use Rattle.vector.specs.declared.FirstPlan.{FirstPlan}
+use Rattle.vector.specs.declared.FirstPlan.the-variants as FirstPlan
+use Rattle.distances.specs.Distances.{within}
+use Rattle.distances.specs.FloatEntry.{floatsOk}
+use Rattle.distances.specs.Count.{stepCount, CountIs, at-5, at-1, at-4, counted}
+use Rattle.distances.specs.declared.Answer.{Answer}
+use Rattle.distances.specs.declared.Answer.the-variants as Answer
+use Rattle.distances.proofs.Refusing.{never}
+use Rattle.distances.proofs.Count.{step-counts, count-is-first-plan}
+use Rattle.quote.specs.Configuration.{timeOk, configOk}
+use Rattle.quote.specs.Model.{lots, marketOk, holdingOk, modelOk, modelOf, modelFrom, modelBy, modelIf, modelLimits, newModel, tauOf}
+use Rattle.quote.specs.Quotes.{Judged, quoted, refused, exactFrom, exactIf, exactAnswer, buildQuotes, withSteps, exactBy, exactQuotes, stepsFrom, stepsIf, exactSteps}
+use Rattle.quote.specs.Horizon.{planFrom, deskPlanIf, deskPlan, DeskPlanIsFirst, DeskPlanRefusals}
+use Rattle.quote.specs.declared.GLFTConfig.{GLFTConfig}
+use Rattle.quote.specs.declared.Model.{Model}
+use Rattle.quote.specs.declared.ModelAnswer.{ModelAnswer}
+use Rattle.quote.specs.declared.ModelAnswer.the-variants as ModelAnswer
+use Rattle.quote.specs.declared.ExactQuotes.the-variants as ExactQuotes
+use Rattle.quote.proofs.Passed.{bound-passed, lots-passed, tau-passed, floats-passed}
+use Rattle.quote.proofs.Refusing.{after-checks, late, right}
+
+-- ---- the report of an exact call is that of its answer
+judged-report : (s : ℕ) (j : Judged) (need : Float) (b : ℕ) → withSteps s j ≡ ExactQuotes.OverStepCap need b 0 → _≡_ {A = ℕ} 0 1
+unfolding withSteps
+judged-report s (quoted q) need b e = cc
+judged-report s (refused r) need b e = cc
+
+report-of : (mid least : ℤ) (a : Answer) (need : Float) (b : ℕ) → exactBy mid least a ≡ ExactQuotes.OverStepCap need b 0 → a ≡ Answer.OverCap need b 0
+unfolding exactBy
+report-of mid least (Answer.Distances x y s) need b e = let z = judged-report s (buildQuotes mid least x y) need b e in absurd (omega arith)
+report-of mid least (Answer.OverCap n l s) need b e = cc
+report-of mid least (Answer.Refused r) need b e = let z : _≡_ {A = ℕ} 0 1 = cc in absurd (omega arith)
+
+module _ (mid h : ℤ) (c : GLFTConfig) (vol : ℤ) (t : ℕ) where
+  tau : Float
+  tau = tauOf (c .«terminal_time») t
+
+  -- by the model that the call has
+  over-to : (a : ModelAnswer) (need : Float) (b : ℕ) → planFrom a tau ≡ FirstPlan.OverCap need b → exactFrom a tau ≡ Answer.OverCap need b 0
+  unfolding planFrom exactFrom
+  over-to (ModelAnswer.Refused r) need b e = let z : _≡_ {A = ℕ} 0 1 = cc in absurd (omega arith)
+  over-to (ModelAnswer.Model m q) need b e = count-is-first-plan .over _ _ _ _ _ tau q need b .0 e
+
+  over-from : (a : ModelAnswer) (need : Float) (b : ℕ) → exactFrom a tau ≡ Answer.OverCap need b 0 → planFrom a tau ≡ FirstPlan.OverCap need b
+  unfolding planFrom exactFrom
+  over-from (ModelAnswer.Refused r) need b e = let z : _≡_ {A = ℕ} 0 1 = cc in absurd (omega arith)
+  over-from (ModelAnswer.Model m q) need b e = count-is-first-plan .over _ _ _ _ _ tau q need b .1 e
+
+  refusing : (a : ModelAnswer) (n : ℕ) → planFrom a tau ≡ FirstPlan.Refused n → exactFrom a tau ≡ Answer.Refused n
+  unfolding planFrom exactFrom
+  refusing (ModelAnswer.Refused r) n e = cc
+  refusing (ModelAnswer.Model m q) n e = count-is-first-plan .refused _ _ _ _ _ tau q n e .0
+
+  going-on : (a : ModelAnswer) (s : ℕ) → planFrom a tau ≡ FirstPlan.Steps (suc s) → (m : Model) × (q : ℤ) × (a ≡ ModelAnswer.Model m q) × FirstGoes (m .«q_max») (m .alpha) (m .eta) tau (suc s)
+  unfolding planFrom
+  going-on (ModelAnswer.Refused r) s e = let z : _≡_ {A = ℕ} 0 1 = cc in absurd (omega arith)
+  going-on (ModelAnswer.Model m q) s e = (m, q, refl, count-is-first-plan .steps _ _ _ _ _ tau q s e .0)
+
+  spending : (a : ModelAnswer) → planFrom a tau ≡ FirstPlan.Steps 0 → stepsFrom a tau ≡ 0
+  unfolding planFrom stepsFrom
+  spending (ModelAnswer.Refused r) e = refl
+  spending (ModelAnswer.Model m q) e = count-is-first-plan .none _ _ _ _ _ tau q e .1
+
+  -- by the current time, which 2 looks at first
+  over-both : (u : Bool) (need : Float) (b : ℕ) → (deskPlanIf u mid h c vol t ≡ FirstPlan.OverCap need b) ↔ (exactBy mid (c .«min_spread») (exactIf u mid h c vol t) ≡ ExactQuotes.OverStepCap need b 0)
+  unfolding deskPlanIf exactIf exactBy tau
+  over-both false need b = (λ e. let z : _≡_ {A = ℕ} 0 1 = cc in absurd (omega arith), λ e. let z : _≡_ {A = ℕ} 0 1 = cc in absurd (omega arith))
+  over-both true need b = (
+    λ e. rw (over-to (newModel mid h c vol) need b e),
+    λ e. over-from (newModel mid h c vol) need b (report-of mid (c .«min_spread») (exactFrom (newModel mid h c vol) tau) need b e),
+  )
+
+  refused-by : (u : Bool) (n : ℕ) → deskPlanIf u mid h c vol t ≡ FirstPlan.Refused n → exactBy mid (c .«min_spread») (exactIf u mid h c vol t) ≡ ExactQuotes.Refused n
+  unfolding deskPlanIf exactIf exactBy tau
+  refused-by false n e = cc
+  refused-by true n e = rw (refusing (newModel mid h c vol) n e)
+
+  steps-by : (u : Bool) (s : ℕ) → deskPlanIf u mid h c vol t ≡ FirstPlan.Steps (suc s) → (m : Model) × (q : ℤ) × (newModel mid h c vol ≡ ModelAnswer.Model m q) × FirstGoes (m .«q_max») (m .alpha) (m .eta) tau (suc s)
+  unfolding deskPlanIf tau
+  steps-by false s e = let z : _≡_ {A = ℕ} 0 1 = cc in absurd (omega arith)
+  steps-by true s e = going-on (newModel mid h c vol) s e
+
+  none-by : (u : Bool) → deskPlanIf u mid h c vol t ≡ FirstPlan.Steps 0 → stepsIf u mid h c vol t ≡ 0
+  unfolding deskPlanIf stepsIf tau
+  none-by false e = refl
+  none-by true e = spending (newModel mid h c vol) e
+
+pub desk-plan-is-first : DeskPlanIsFirst
+unfolding deskPlan exactQuotes exactAnswer exactSteps tau
+desk-plan-is-first = record {
+  over = λ mid h c vol t. over-both mid h c vol t (timeOk t);
+  refused = λ mid h c vol t. refused-by mid h c vol t (timeOk t);
+  steps = λ mid h c vol t. steps-by mid h c vol t (timeOk t);
+  none = λ mid h c vol t. none-by mid h c vol t (timeOk t);
+}
+
+-- ---- its refusals
+module _ (k alpha eta base : Float) (bound : ℕ) (tau : Float) (q : ℤ) (f : floatsOk k alpha eta base tau ≡ true) (b : boundOk bound ≡ true) (w : within bound q ≡ true) where
+  abbrev Fails : Type 0
+  Fails = (lt 0ᶠ tau ≡ true) × (positive (firstSize bound alpha eta tau) ≡ false)
+
+  -- of a count whose checks pass
+  abbrev Why : FirstPlan → Type 0
+  Why (FirstPlan.Steps s) = Unit {0}
+  Why (FirstPlan.OverCap need l) = Unit {0}
+  Why (FirstPlan.Refused n) = (n ≡ numerical) × Fails
+
+  plan-why : {r : FirstPlan} → FirstIs bound alpha eta tau r → Why r
+  plan-why (no-time l) = tt
+  plan-why (fails l s) = (refl, (l, s))
+  plan-why (over l s h) = tt
+  plan-why (kept l s h) = tt
+
+  count-why : {r : FirstPlan} → CountIs k alpha eta base bound tau q r → Why r
+  count-why (at-5 e) = never (sym f ∙ e)
+  count-why (at-1 e i) = never (sym b ∙ i)
+  count-why (at-4 e i j) = never (sym w ∙ j)
+  count-why (counted e i j c) = plan-why c
+
+  count-fails : (n : ℕ) → (stepCount k alpha eta base bound tau q ≡ FirstPlan.Refused n) ↔ ((n ≡ numerical) × Fails)
+  count-fails n = (
+    λ e. count-why (step-counts k alpha eta base bound tau q (FirstPlan.Refused n) .0 e),
+    λ x. rw (x .0) (step-counts k alpha eta base bound tau q (FirstPlan.Refused numerical) .1 (counted f b w (fails (x .1 .0) (x .1 .1)))),
+  )
+
+plan-is : (mid h : ℤ) (c : GLFTConfig) (vol : ℤ) (t : ℕ)
+    → deskPlan mid h c vol t
+    ≡ planFrom (modelIf (timeOk t && modelLimits mid h c vol) (configOk c) (marketOk mid vol) (holdingOk h c) (modelOk (modelOf c vol)) (modelOf c vol) (lots h c)) (tauOf (c .«terminal_time») t)
+unfolding deskPlan deskPlanIf newModel planFrom modelIf
+plan-is mid h c vol t = go (timeOk t)
+  where
+    go : (u : Bool) → deskPlanIf u mid h c vol t
+        ≡ planFrom (modelIf (u && modelLimits mid h c vol) (configOk c) (marketOk mid vol) (holdingOk h c) (modelOk (modelOf c vol)) (modelOf c vol) (lots h c)) (tauOf (c .«terminal_time») t)
+    go true = refl
+    go false = refl
+
+same-plan : (r n : ℕ) → FirstPlan.Refused r ≡ FirstPlan.Refused n → r ≡ n
+same-plan r n e = cc
+
+pub desk-plan-refusals : DeskPlanRefusals
+unfolding planFrom modelOf modelFrom modelBy
+desk-plan-refusals mid h c vol t n =
+    let tau = tauOf (c .«terminal_time») t in
+    let m = modelOf c vol in
+    rw (plan-is mid h c vol t) (Iff·trans (after-checks FirstPlan.Refused (λ x. planFrom x tau) (λ r. refl) same-plan (timeOk t && modelLimits mid h c vol) (configOk c) (marketOk mid vol) (holdingOk h c) (modelOk m) m (lots h c) n)
+    (right (late (λ p. count-fails (m .k) (m .alpha) (m .eta) (m .base) (m .«q_max») tau (lots h c) (floats-passed m tau (p .4) (tau-passed mid h c vol t (p .0))) (bound-passed c (p .1)) (lots-passed h c (p .3)) n))))

@@ -1,0 +1,60 @@
+-- Change request 6 for a desk's own numbers: is its horizon too long? Each statement is proved once, in proofs/. Definitions only.
+use mathlib.Core.Path.{_≡_}
+use mathlib.Core.Logic.{_⊎_, _↔_}
+use Prim.Native.Nat.{ℕ, suc}
+use mathlib.Core.Bool.{Bool, true, false, _&&_}
+use lib.IntN.{ℤ}
+use lib.Ieee.{Float, lt}
+use Rattle.elementary.specs.Float.{0ᶠ, positive}
+use Rattle.vector.specs.Refusals.{numerical}
+use Rattle.vector.specs.Count.{firstSize, FirstGoes}
+use Rattle.vector.specs.declared.FirstPlan.{FirstPlan}
+use Rattle.vector.specs.declared.FirstPlan.the-variants as FirstPlan
+use Rattle.distances.specs.Count.{stepCount}
+use Rattle.quote.specs.Refusals.{limits}
+use Rattle.quote.specs.Configuration.{timeOk, configOk}
+use Rattle.quote.specs.Model.{marketOk, holdingOk, modelOk, modelOf, modelLimits, newModel, tauOf}
+use Rattle.quote.specs.Quotes.{exactQuotes, exactSteps}
+use Rattle.quote.specs.Promises.{Passed, ExactChecked}
+use Rattle.quote.specs.declared.GLFTConfig.{GLFTConfig}
+use Rattle.quote.specs.declared.Model.{Model}
+use Rattle.quote.specs.declared.ModelAnswer.{ModelAnswer}
+use Rattle.quote.specs.declared.ModelAnswer.the-variants as ModelAnswer
+use Rattle.quote.specs.declared.ExactQuotes.the-variants as ExactQuotes
+
+-- the count of the model's floats
+unfoldable pub planFrom : ModelAnswer → Float → FirstPlan
+planFrom (ModelAnswer.Refused r) tau = FirstPlan.Refused r
+planFrom (ModelAnswer.Model m q) tau = stepCount (m .k) (m .alpha) (m .eta) (m .base) (m .«q_max») tau q
+
+-- the current time is one of the numbers that 2 looks at
+unfoldable pub deskPlanIf : Bool → ℤ → ℤ → GLFTConfig → ℤ → ℕ → FirstPlan
+deskPlanIf false mid h c vol t = FirstPlan.Refused limits
+deskPlanIf true mid h c vol t = planFrom (newModel mid h c vol) (tauOf (c .«terminal_time») t)
+
+unfoldable pub deskPlan : ℤ → ℤ → GLFTConfig → ℤ → ℕ → FirstPlan
+deskPlan mid h c vol t = deskPlanIf (timeOk t) mid h c vol t
+
+-- ---- it is the first plan of the run that the exact quotes come from
+pub record DeskPlanIsFirst : Type 0 where
+  -- over the cap: the exact call reports just that, no step being spent; and a report with none spent is this one's
+  pub over : (mid h : ℤ) (c : GLFTConfig) (vol : ℤ) (t : ℕ) (need : Float) (b : ℕ)
+      → (deskPlan mid h c vol t ≡ FirstPlan.OverCap need b) ↔ (exactQuotes mid h c vol t ≡ ExactQuotes.OverStepCap need b 0)
+  -- a refusal: the exact call refuses by it
+  pub refused : (mid h : ℤ) (c : GLFTConfig) (vol : ℤ) (t n : ℕ) → deskPlan mid h c vol t ≡ FirstPlan.Refused n → exactQuotes mid h c vol t ≡ ExactQuotes.Refused n
+  -- some steps: the model's run begins with a plan of so many; none: no step is spent
+  pub steps : (mid h : ℤ) (c : GLFTConfig) (vol : ℤ) (t s : ℕ) → deskPlan mid h c vol t ≡ FirstPlan.Steps (suc s)
+      → (m : Model) × (q : ℤ) × (newModel mid h c vol ≡ ModelAnswer.Model m q) × FirstGoes (m .«q_max») (m .alpha) (m .eta) (tauOf (c .«terminal_time») t) (suc s)
+  pub none : (mid h : ℤ) (c : GLFTConfig) (vol : ℤ) (t : ℕ) → deskPlan mid h c vol t ≡ FirstPlan.Steps 0 → exactSteps mid h c vol t ≡ 0
+
+-- ---- its refusals: what the numbers' checks refuse, and 11 where they pass, time is left, and tau × norm is not finite and positive
+abbrev pub DeskPlanFails : ℤ → ℤ → GLFTConfig → ℤ → ℕ → Type 0
+DeskPlanFails mid h c vol t =
+    let m = modelOf c vol in
+    let tau = tauOf (c .«terminal_time») t in
+    Passed (timeOk t && modelLimits mid h c vol) (configOk c) (marketOk mid vol) (holdingOk h c) (modelOk m)
+    × ((lt 0ᶠ tau ≡ true) × (positive (firstSize (m .«q_max») (m .alpha) (m .eta) tau) ≡ false))
+
+abbrev pub DeskPlanRefusals : Type 0
+DeskPlanRefusals = (mid h : ℤ) (c : GLFTConfig) (vol : ℤ) (t n : ℕ)
+    → (deskPlan mid h c vol t ≡ FirstPlan.Refused n) ↔ (ExactChecked mid h c vol t n ⊎ ((n ≡ numerical) × DeskPlanFails mid h c vol t))

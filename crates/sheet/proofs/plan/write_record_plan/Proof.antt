@@ -1,0 +1,34 @@
+-- `sheet::plan::write_record_plan` meets its contract: the plan is the definition's, and such a plan is one that `write_plan` takes. Assumes nothing.
+use mathlib.Core.Path.{_≡_}
+use borrow.Author.Needs.{needs}
+use Rattle.quote.proofs.Limits.{kept}
+use Rattle.sheet.specs.Horizon.{planOf, recordPlan}
+use Rattle.sheet.proofs.Plans.{plans-kept}
+use Rattle.sheet.proofs.plan.write_record_plan.Statement.{statement}
+use Rattle.sheet.proofs.plan.write_record_plan.Tie as tie
+
+reply : (c : tie.After-first-plan) → c .first-plan .result ≡ planOf (c .before .before .before .before .before .before .args .r)
+reply c =
+    let r = c .before .before .before .before .before .before .args .r in
+    let g = c .before .struct-told3 .given in
+    rw (← kept (r .«mid_price») (g .0 .1), ← kept (r .inventory) (g .1 .0 .1), ← kept (r .volatility) (g .1 .1 .0 .1)) (c .first-plan .ensures)
+
+first-plan-requires : tie.Need-first-plan-requires
+first-plan-requires c κs = search needs
+
+write-plan-requires : tie.Need-write-plan-requires
+write-plan-requires c κs =
+    let a = c .before in
+    let s = a .before .before .before .before .before .before in
+    (rw (reply a) (plans-kept (s .args .r)), s .pre)
+
+same-length : tie.Need-same-length
+same-length c = search needs
+
+returns : tie.Need-returns
+unfolding recordPlan
+returns c = rw (← reply (c .before .before .before .before)) (c .before .before .write-plan .ensures)
+
+pub write-record-plan-spec : {M : Type 1} → statement M
+write-record-plan-spec =
+    tie.close (tie.spec first-plan-requires write-plan-requires same-length returns)

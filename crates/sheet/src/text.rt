@@ -1,0 +1,78 @@
+// The text that stands for a record of a sheet: its line, its ladder or its plan.
+ghost use mathlib.Core.Path.{_≡_};
+ghost use Prim.Native.Nat.{_≤_};
+ghost use lib.ListN.{length};
+ghost use Rattle.sheet.specs.Lines.{over};
+ghost use Rattle.sheet.specs.Sheet.{leastRoom, hasRoom, answered, left};
+ghost use Rattle.sheet.specs.Inner.{isFlat, recordText, textAt};
+use crate::ladder::write_record_ladder;
+use crate::line::LEAST_ROOM;
+use crate::line::LineAnswer;
+use crate::line::MOST_BYTES;
+use crate::line::write_record;
+use crate::line::write_refusal;
+use crate::plan::write_record_plan;
+use crate::record::Record;
+use crate::record::RecordAnswer;
+use crate::record::read;
+use crate::refusals::LONG_SHEET;
+use crate::refusals::SMALL_BUFFER;
+
+// The kinds of text.
+pub(crate) enum Kind {
+    Line,
+    Ladder,
+    Plan,
+}
+
+// Whether a record is read without its holding: for its ladder alone.
+fn is_flat(kind: Kind) -> bool
+    ensures { λ r. ⌜ r ≡ isFlat kind ⌝ }
+{
+    match kind {
+        Kind::Line => false,
+        Kind::Ladder => true,
+        Kind::Plan => false,
+    }
+}
+
+// A record's text.
+fn write_text(out: &mut [u8], r: Record, kind: Kind) -> usize
+    requires { ⌜ leastRoom ≤ length (now out) ⌝ }
+    ensures { λ _. ⌜ now (out .exit) ≡ over (recordText kind (length (now (out .entry))) r) (now (out .entry)) ⌝ }
+    ensures { λ n. ⌜ n ≡ length (recordText kind (length (now (out .entry))) r) ⌝ }
+{
+    match kind {
+        Kind::Line => write_record(out, r),
+        Kind::Ladder => write_record_ladder(out, r),
+        Kind::Plan => write_record_plan(out, r),
+    }
+}
+
+// Writes what stands for the record at a place of a sheet, a text of some kind: refused by 8, which
+// leaves the buffer as it is.
+pub(crate) fn next_text(sheet: &[u8], at: usize, out: &mut [u8], kind: Kind) -> LineAnswer
+    ensures { λ r. ⌜ r ≡ answered (hasRoom (now (out .entry))) (textAt kind (length (now (out .entry))) (now (sheet .entry)) at) ⌝ }
+    ensures { λ _. ⌜ now (out .exit) ≡ left (hasRoom (now (out .entry))) (textAt kind (length (now (out .entry))) (now (sheet .entry)) at) (now (out .entry)) ⌝ }
+{
+    if out.len() < LEAST_ROOM {
+        return LineAnswer::Refused(SMALL_BUFFER);
+    }
+    if at >= sheet.len() {
+        return LineAnswer::End;
+    }
+    if sheet.len() > MOST_BYTES {
+        return LineAnswer::Written(write_refusal(out, LONG_SHEET), sheet.len());
+    }
+    match read(sheet, at, is_flat(kind)) {
+        RecordAnswer::Record(r, next) => LineAnswer::Written(write_text(out, r, kind), next),
+        RecordAnswer::Skipped(number, next) => LineAnswer::Written(
+            write_refusal(out, number),
+            next,
+        ),
+        RecordAnswer::Refused(number) => LineAnswer::Written(
+            write_refusal(out, number),
+            sheet.len(),
+        ),
+    }
+}

@@ -1,0 +1,215 @@
+-- Before any rebalancing each factor is 1.0. Then the row sums grow toward the ends, but an end row has one neighbour, so the end row or the one next to it has the largest. Assumes nothing.
+use mathlib.Core.Path.{_≡_, refl, ap, _∙_}
+use Prim.Native.Nat.{ℕ, zero, suc, _+_, _-_, _*_, _≤_, _<_}
+use native.Mathlib.Omega.{arith}
+use mathlib.Core.Logic.{_⊎_, inl, inr}
+use mathlib.Core.Bool.{Bool, true, false, not, _&&_}
+use mathlib.Core.List.{List}
+use borrow.Author.Tests.{lt-ltb, le-ltb, ltb-true, ltb-false}
+use lib.IntN.{pos}
+use lib.Dec.{T, ltb}
+use lib.ListN.{getD-replicate}
+use lib.Ieee.{Float, nan, binary64, lt, le, isNan, fits, round, add, sub, mul, div, ofInt, ofBits, toSigned}
+use lib.Ieee.Fits.{add-fits}
+use Rattle.elementary.specs.Float.{_⊕_, _⊖_, _⊗_, whole, 0ᶠ, 1ᶠ, 2ᶠ, finite, positive, count}
+use Rattle.elementary.specs.Reply.{given}
+use Rattle.elementary.specs.Elementary.{horner, factorials, expSum, expN, expRest, expBy, expOf, EXP, orNan}
+use Rattle.elementary.proofs.Signs.{nonneg}
+use Rattle.elementary.proofs.Order.{ofInt-mono, le-refl-f, finite-below, add-nonneg, add-mono, mul-nonneg, mul-number, mul-twice-number, mul-mono, positive-nonneg}
+use Rattle.vector.specs.Vectors.{tab, at, fill, every, larger}
+use Rattle.vector.specs.Series.{diagonalAt, leftAt, rightAt}
+use Rattle.vector.specs.Run.{rows, norm, fixed}
+use Rattle.vector.specs.Count.{rowSum, TwoRows}
+use Rattle.vector.proofs.Lists.{at-tab, every-ext, every-true}
+use Rattle.vector.proofs.Loops.{fold-at}
+use Rattle.vector.proofs.Extremes.{not-above, first-two}
+use Rattle.vector.proofs.Lots.{lots, lots-are, diagonal-is}
+use Rattle.vector.proofs.Plans.{whole-nonneg}
+use Rattle.vector.proofs.Bounds.{bound-range}
+
+-- ---- the factors
+exp-zero : orNan (EXP (0ᶠ ⊖ 0ᶠ)) ≡ 1ᶠ
+unfolding orNan EXP given finite lt horner factorials expSum expN expRest expBy expOf count ofBits ofInt toSigned round add sub mul div
+exp-zero = refl
+
+module _ (n : ℕ) where
+  abbrev none : List Float
+  none = fill n 0ᶠ
+
+  pub left-one : (i : ℕ) → suc i < n → leftAt none (suc i) ≡ 1ᶠ
+  unfolding leftAt
+  left-one i h = rw (getD-replicate n i 0ᶠ nan (omega arith), getD-replicate n (suc i) 0ᶠ nan h) exp-zero
+
+  pub right-one : (i : ℕ) → suc i < n → rightAt n none i ≡ 1ᶠ
+  unfolding rightAt
+  right-one i h = rw (lt-ltb (suc i) n h, getD-replicate n i 0ᶠ nan (omega arith), getD-replicate n (suc i) 0ᶠ nan h) exp-zero
+
+  right-end : (i : ℕ) → suc i ≡ n → rightAt n none i ≡ 0ᶠ
+  unfolding rightAt
+  right-end i h = rw (le-ltb (suc i) n (omega arith))
+
+  -- each is finite, so of the first plan's tests the norm's alone is left
+  left-fine : (i : ℕ) → i < n → finite (leftAt none i) ≡ true
+  unfolding leftAt finite ofBits
+  left-fine zero h = refl
+  left-fine (suc i) h = rw (left-one i h) refl
+
+  right-fine : (i : ℕ) → i < n → finite (rightAt n none i) ≡ true
+  unfolding finite ofBits
+  right-fine i h = go (ltb (suc i) n) refl
+    where
+      go : (t : Bool) → ltb (suc i) n ≡ t → finite (rightAt n none i) ≡ true
+      go true e = rw (right-one i (ltb-true (suc i) n e)) refl
+      go false e = rw (right-end i (omega (arith, ltb-false (suc i) n e))) refl
+
+  pub factors-fine : every n (λ i. finite (at (tab n (leftAt none)) i) && finite (at (tab n (rightAt n none)) i)) ≡ true
+  factors-fine = every-ext n _ (λ i. true) (λ i h. rw (at-tab n (leftAt none) i h, at-tab n (rightAt n none) i h, left-fine i h, right-fine i h)) ∙ every-true n
+
+-- ---- the sum of each row
+module _ (b : ℕ) (alpha eta : Float) where
+  row : ℕ → Float
+  row i = at (tab (rows b) (diagonalAt b alpha eta)) i ⊕ eta ⊗ (at (tab (rows b) (leftAt (none (rows b)))) i ⊕ at (tab (rows b) (rightAt (rows b) (none (rows b)))) i)
+
+  row-is : (i : ℕ) (l r f : Float) → i < rows b → leftAt (none (rows b)) i ≡ l → rightAt (rows b) (none (rows b)) i ≡ r → l ⊕ r ≡ f → row i ≡ rowSum alpha eta (lots b i) f
+  unfolding row rowSum
+  row-is i l r f h el er ef =
+      rw (at-tab (rows b) (diagonalAt b alpha eta) i h, at-tab (rows b) (leftAt (none (rows b))) i h, at-tab (rows b) (rightAt (rows b) (none (rows b))) i h, diagonal-is b alpha eta i, el, er, ef)
+
+  -- the end rows, and those between them
+  row-first : 1 ≤ b → row 0 ≡ rowSum alpha eta b 1ᶠ
+  unfolding leftAt add ofBits
+  row-first h = row-is 0 0ᶠ 1ᶠ 1ᶠ (omega arith) refl (right-one (rows b) 0 (omega arith)) refl ∙ ap (λ (m : ℕ). rowSum alpha eta m 1ᶠ) (lots-are b 0 ∙ omega arith)
+
+  row-last : (i : ℕ) → suc (suc i) ≡ rows b → row (suc i) ≡ rowSum alpha eta b 1ᶠ
+  unfolding add ofBits
+  row-last i h = row-is (suc i) 1ᶠ 0ᶠ 1ᶠ (omega arith) (left-one (rows b) i (omega arith)) (right-end (rows b) (suc i) h) refl ∙ ap (λ (m : ℕ). rowSum alpha eta m 1ᶠ) (lots-are b (suc i) ∙ omega arith)
+
+  row-inner : (i : ℕ) → suc (suc i) < rows b → row (suc i) ≡ rowSum alpha eta (lots b (suc i)) 2ᶠ
+  unfolding add ofBits
+  row-inner i h = row-is (suc i) 1ᶠ 1ᶠ 2ᶠ (omega arith) (left-one (rows b) i (omega arith)) (right-one (rows b) (suc i) h) refl
+
+-- ---- the sums of rows with as many neighbours grow with the lots
+whole-finite : (m : ℕ) → m ≤ 200 → T (finite (whole (pos m)))
+unfolding finite ofInt round
+whole-finite m h = finite-below (whole (pos m)) (whole (pos 200)) (whole-nonneg m) (ofInt-mono binary64 m 200 h) large
+  where
+    large : T (finite (whole (pos 200)))
+    large = tt
+
+module _ (alpha eta : Float) (a : T (positive alpha)) (e : T (positive eta)) where
+  a+ : T (nonneg alpha) × T (finite alpha)
+  a+ = positive-nonneg alpha a
+
+  e+ : T (nonneg eta) × T (finite eta)
+  e+ = positive-nonneg eta e
+
+  -- alpha × q, its square and the row sum are numbers, at or above zero
+  module _ (m : ℕ) (h : m ≤ 200) where
+    once : Float
+    once = alpha ⊗ whole (pos m)
+
+    once-number : T (not (isNan once))
+    unfolding once
+    once-number = mul-number binary64 alpha (whole (pos m)) (a+ .1) (whole-finite m h)
+
+    once-nonneg : T (nonneg once)
+    unfolding once
+    once-nonneg = mul-nonneg binary64 alpha (whole (pos m)) (a+ .0) (whole-nonneg m) once-number
+
+    twice-number : T (not (isNan (once ⊗ whole (pos m))))
+    unfolding once
+    twice-number = mul-twice-number binary64 alpha (whole (pos m)) (a+ .0) (a+ .1) (whole-nonneg m) (whole-finite m h)
+
+    twice-nonneg : T (nonneg (once ⊗ whole (pos m)))
+    twice-nonneg = mul-nonneg binary64 once (whole (pos m)) once-nonneg (whole-nonneg m) twice-number
+
+  -- eta times 1.0 or 2.0
+  eta-times : (f : Float) → T (nonneg f) → T (finite f) → T (nonneg (eta ⊗ f))
+  eta-times f p t = mul-nonneg binary64 eta f (e+ .0) p (mul-number binary64 eta f (e+ .1) t)
+
+  two-etas : T (nonneg (2ᶠ ⊗ eta))
+  unfolding finite ofBits
+  two-etas = mul-nonneg binary64 2ᶠ eta tt (e+ .0) (mul-number binary64 2ᶠ eta tt (e+ .1))
+
+  -- a row's diagonal, and its sum with factors that add up to f
+  diag-nonneg : (m : ℕ) → m ≤ 200 → T (nonneg (alpha ⊗ whole (pos m) ⊗ whole (pos m) ⊕ 2ᶠ ⊗ eta))
+  unfolding once
+  diag-nonneg m h = add-nonneg binary64 _ _ (twice-nonneg m h) two-etas
+
+  module _ (f : Float) (p : T (nonneg f)) (t : T (finite f)) where
+    sum-nonneg : (m : ℕ) → m ≤ 200 → T (nonneg (rowSum alpha eta m f))
+    unfolding rowSum
+    sum-nonneg m h = add-nonneg binary64 _ _ (diag-nonneg m h) (eta-times f p t)
+
+    sum-grows : (m n : ℕ) → m ≤ n → n ≤ 200 → T (le (rowSum alpha eta m f) (rowSum alpha eta n f))
+    unfolding rowSum once
+    sum-grows m n h k =
+        let l : m ≤ 200 = omega arith in
+        let q = ofInt-mono binary64 m n h in
+        let first = mul-mono binary64 alpha alpha (whole (pos m)) (whole (pos n)) (a+ .0) (a+ .0) (whole-nonneg m) (whole-nonneg n) (once-number m l) (once-number n k) (le-refl-f alpha (a+ .0)) q in
+        let square = mul-mono binary64 (once m l) (once n k) (whole (pos m)) (whole (pos n)) (once-nonneg m l) (once-nonneg n k) (whole-nonneg m) (whole-nonneg n) (twice-number m l) (twice-number n k) first q in
+        let diag = add-mono binary64 _ _ _ _ (twice-nonneg m l) (twice-nonneg n k) two-etas two-etas square (le-refl-f _ two-etas) in
+        add-mono binary64 _ _ _ _ (diag-nonneg m l) (diag-nonneg n k) (eta-times f p t) (eta-times f p t) diag (le-refl-f _ (eta-times f p t))
+
+-- ---- the largest of them
+pub two-rows : TwoRows
+unfolding norm fixed row rowSum finite ofBits
+two-rows b alpha eta ok pa pe =
+    fold-at larger 0ᶠ (rows b) (suc (suc (2 * b - 1))) f (omega (arith, low))
+    ∙ first-two (2 * b - 1) f (rw first (x+, held)) below
+    ∙ rw (first, second)
+  where
+    range : (1 ≤ b) × (b ≤ 200)
+    range = bound-range b ok
+
+    low : 1 ≤ b
+    low = range .0
+
+    high : b ≤ 200
+    high = range .1
+
+    a : T (positive alpha)
+    a = rw pa tt
+
+    e : T (positive eta)
+    e = rw pe tt
+
+    f : ℕ → Float
+    f = row b alpha eta
+
+    x : Float
+    x = rowSum alpha eta b 1ᶠ
+
+    y : Float
+    y = rowSum alpha eta (b - 1) 2ᶠ
+
+    first : f 0 ≡ x
+    first = row-first b alpha eta low
+
+    second : f 1 ≡ y
+    second = row-inner b alpha eta 0 (omega (arith, low)) ∙ ap (λ (m : ℕ). rowSum alpha eta m 2ᶠ) (lots-are b 1 ∙ omega (arith, low))
+
+    x+ : T (nonneg x)
+    x+ = sum-nonneg alpha eta a e 1ᶠ tt tt b high
+
+    held : T (fits binary64 x)
+    held = add-fits binary64 _ _
+
+    y+ : T (nonneg y)
+    y+ = sum-nonneg alpha eta a e 2ᶠ tt tt (b - 1) (omega (arith, high))
+
+    -- another row: the other end, or one with no more lots than the second
+    other : (i : ℕ) → 1 ≤ i → suc i < rows b → T (nonneg (f (suc i))) × (T (le (f (suc i)) x) ⊎ T (le (f (suc i)) y))
+    other i h k = go (ltb (suc (suc i)) (rows b)) refl
+      where
+        go : (t : Bool) → ltb (suc (suc i)) (rows b) ≡ t → T (nonneg (f (suc i))) × (T (le (f (suc i)) x) ⊎ T (le (f (suc i)) y))
+        go false l = rw (row-last b alpha eta i (omega (arith, ltb-false (suc (suc i)) (rows b) l))) (x+, inl (le-refl-f x x+))
+        go true l =
+            let inner : suc (suc i) < rows b = ltb-true (suc (suc i)) (rows b) l in
+            let few : lots b (suc i) ≤ b - 1 = rw (lots-are b (suc i)) (omega (arith, low)) in
+            rw (row-inner b alpha eta i inner)
+            (sum-nonneg alpha eta a e 2ᶠ tt tt (lots b (suc i)) (omega (arith, high)), inr (sum-grows alpha eta a e 2ᶠ tt tt (lots b (suc i)) (b - 1) few (omega (arith, high))))
+
+    below : (j : ℕ) → 2 ≤ j → j < 2 + (2 * b - 1) → lt (larger (f 0) (f 1)) (f j) ≡ false
+    below zero h k = absurd (omega arith)
+    below (suc i) h k = let (p, q) = other i (omega arith) (omega (arith, low)) in rw (first, second) (not-above x y (f (suc i)) x+ y+ p q)
