@@ -2,6 +2,8 @@
 //! as `value_vector` does, and goes no further.
 use super::{Expm, Factors, MAX_DIM, MAX_EXPM_STEPS, Model, set_factors};
 
+include!("model.rs");
+
 /// What the first plan gave.
 pub enum Reply {
     Steps(u32),
@@ -10,18 +12,8 @@ pub enum Reply {
 }
 
 pub fn ask(alpha: f64, eta: f64, bound: u32, tau: f64) -> Reply {
-    // a plan reads no other float
-    let unread = f64::NAN;
-    let model = Model {
-        k: unread,
-        gamma: unread,
-        a: unread,
-        sigma2: unread,
-        alpha,
-        eta,
-        base: unread,
-        q_max: bound,
-    };
+    // a plan reads neither k nor base
+    let model = model_of(f64::NAN, alpha, eta, f64::NAN, bound);
     match first_plan(&model, tau) {
         Ok(steps) => Reply::Steps(steps),
         Err(Expm::OverCap { steps_needed, budget }) => Reply::OverCap { steps_needed, budget },

@@ -2,6 +2,8 @@
 use super::{Expm, Model, ValueVector, to_decimal, to_f64};
 use crate::Decimal;
 
+include!("model.rs");
+
 /// The float that a `Decimal` becomes.
 pub fn float_of(value: Decimal) -> f64 {
     to_f64("amount", value).unwrap()
@@ -14,18 +16,8 @@ pub fn decimal_of(distance: f64) -> Decimal {
 
 /// How a value vector ends: filled, over the cap, or with an error.
 pub fn vector(alpha: f64, eta: f64, bound: u32, tau: f64) -> String {
-    // value_vector reads no other float
-    let unread = f64::NAN;
-    let model = Model {
-        k: unread,
-        gamma: unread,
-        a: unread,
-        sigma2: unread,
-        alpha,
-        eta,
-        base: unread,
-        q_max: bound,
-    };
+    // value_vector reads neither k nor base
+    let model = model_of(f64::NAN, alpha, eta, f64::NAN, bound);
     match model.value_vector(tau, &mut ValueVector::new()) {
         Ok(()) => "V".to_string(),
         Err(Expm::OverCap { steps_needed, budget }) => format!("C {steps_needed} {budget}"),

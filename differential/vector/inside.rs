@@ -1,6 +1,8 @@
 //! Asks glft.rs from inside: a child module of it, which may name its private items.
 use super::{Expm, Model, ValueVector};
 
+include!("model.rs");
+
 /// What `value_vector` and then `exact_distances` gave.
 pub enum Reply {
     Vector { bid: Option<f64>, ask: Option<f64>, weights: Vec<f64>, offsets: Vec<f64> },
@@ -9,10 +11,7 @@ pub enum Reply {
 }
 
 pub fn ask(k: f64, alpha: f64, eta: f64, base: f64, bound: u32, tau: f64, q: i64) -> Reply {
-    // neither function reads gamma, a or sigma2
-    let unread = f64::NAN;
-    let model =
-        Model { k, gamma: unread, a: unread, sigma2: unread, alpha, eta, base, q_max: bound };
+    let model = model_of(k, alpha, eta, base, bound);
     let mut vv = ValueVector::new();
     match model.value_vector(tau, &mut vv) {
         Ok(()) => {}

@@ -4,10 +4,10 @@
 // left; or `R` and a refusal's number. A float is 16 upper-case hex digits. A record that ends inside
 // itself is the last: `R 6`.
 use distances::step_count;
+use harness::ENTRY;
 use harness::MANY;
-use harness::bound_of;
+use harness::entry_at;
 use harness::first;
-use harness::float_at;
 use harness::make_room;
 use harness::put;
 use harness::put_cap;
@@ -15,12 +15,7 @@ use harness::put_cut;
 use harness::put_number;
 use harness::put_refusal;
 use harness::read_block;
-use harness::signed_of;
-use harness::word_at;
 use vector::FirstPlan;
-
-// The bytes of a record.
-const RECORD: usize = 56;
 
 // The bytes read at once: 1,170 records.
 const BLOCK: usize = 65520;
@@ -44,14 +39,8 @@ fn put_plan(out: &mut [u8], at: usize, plan: FirstPlan) -> usize {
 
 // The count of the record at a place.
 fn count_at(s: &[u8], at: usize) -> FirstPlan {
-    let k = float_at(s, at, 0);
-    let alpha = float_at(s, at, 8);
-    let eta = float_at(s, at, 16);
-    let base = float_at(s, at, 24);
-    let bound = bound_of(word_at(s, at, 32));
-    let tau = float_at(s, at, 40);
-    let q = signed_of(word_at(s, at, 48));
-    step_count(k, alpha, eta, base, bound, tau, q)
+    let e = entry_at(s, at);
+    step_count(e.k, e.alpha, e.eta, e.base, e.bound, e.tau, e.q)
 }
 
 // The line of the record at a place.
@@ -64,9 +53,9 @@ fn put_line(out: &mut [u8], start: usize, s: &[u8], at: usize) -> usize {
 // it is full. Answers how many bytes are left in it.
 fn put_lines(out: &mut [u8], s: &[u8], n: usize) -> usize {
     let mut used: usize = 0;
-    for i in 0..n / RECORD {
+    for i in 0..n / ENTRY {
         used = make_room(out, used, LINE);
-        used = put_line(out, used, s, i * RECORD);
+        used = put_line(out, used, s, i * ENTRY);
     }
     used
 }
@@ -77,7 +66,7 @@ fn run_block() -> bool {
     let n = read_block(&mut block, BLOCK);
     let mut out = io::large_buffer();
     let lines = put_lines(&mut out, &block, n);
-    let used = put_cut(&mut out, lines, n % RECORD);
+    let used = put_cut(&mut out, lines, n % ENTRY);
     io::write_all(libc::STDOUT_FILENO, first(&out, used));
     n == BLOCK
 }

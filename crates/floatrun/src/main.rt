@@ -7,10 +7,10 @@ use distances::Answer;
 use distances::Distance;
 use distances::FloatAnswer;
 use distances::float_entry;
+use harness::ENTRY;
 use harness::MANY;
-use harness::bound_of;
+use harness::entry_at;
 use harness::first;
-use harness::float_at;
 use harness::make_room;
 use harness::put;
 use harness::put_cap;
@@ -19,13 +19,8 @@ use harness::put_float;
 use harness::put_number;
 use harness::put_refusal;
 use harness::read_block;
-use harness::signed_of;
-use harness::word_at;
 use vector::MAX_DIM;
 use vector::ValueVector;
-
-// The bytes of a record.
-const RECORD: usize = 56;
 
 // The bytes read at once: 1,170 records.
 const BLOCK: usize = 65520;
@@ -86,14 +81,8 @@ fn put_answer(out: &mut [u8], start: usize, answer: Answer, v: ValueVector) -> u
 
 // The answer to the record at a place.
 fn answer_at(s: &[u8], at: usize) -> FloatAnswer {
-    let k = float_at(s, at, 0);
-    let alpha = float_at(s, at, 8);
-    let eta = float_at(s, at, 16);
-    let base = float_at(s, at, 24);
-    let bound = bound_of(word_at(s, at, 32));
-    let tau = float_at(s, at, 40);
-    let q = signed_of(word_at(s, at, 48));
-    float_entry(k, alpha, eta, base, bound, tau, q)
+    let e = entry_at(s, at);
+    float_entry(e.k, e.alpha, e.eta, e.base, e.bound, e.tau, e.q)
 }
 
 // The line of the record at a place.
@@ -109,9 +98,9 @@ fn put_line(out: &mut [u8], start: usize, s: &[u8], at: usize) -> usize {
 // it is full. Answers how many bytes are left in it.
 fn put_lines(out: &mut [u8], s: &[u8], n: usize) -> usize {
     let mut used: usize = 0;
-    for i in 0..n / RECORD {
+    for i in 0..n / ENTRY {
         used = make_room(out, used, LINE);
-        used = put_line(out, used, s, i * RECORD);
+        used = put_line(out, used, s, i * ENTRY);
     }
     used
 }
@@ -122,7 +111,7 @@ fn run_block() -> bool {
     let n = read_block(&mut block, BLOCK);
     let mut out = io::large_buffer();
     let lines = put_lines(&mut out, &block, n);
-    let used = put_cut(&mut out, lines, n % RECORD);
+    let used = put_cut(&mut out, lines, n % ENTRY);
     io::write_all(libc::STDOUT_FILENO, first(&out, used));
     n == BLOCK
 }

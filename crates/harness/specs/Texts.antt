@@ -46,6 +46,13 @@ lettered c l at t = spaced (placed l at c) (after l at c) t
 unfoldable pub afterLettered : List ℕ → List ℕ → ℕ → List ℕ → ℕ
 afterLettered c l at t = afterSpaced (placed l at c) (after l at c) t
 
+-- `C`, and after it two texts with a space before each
+unfoldable pub capped : List ℕ → ℕ → List ℕ → List ℕ → List ℕ
+capped l at t u = spaced (lettered letterC l at t) (afterLettered letterC l at t) u
+
+unfoldable pub afterCapped : List ℕ → ℕ → List ℕ → List ℕ → ℕ
+afterCapped l at t u = afterSpaced (lettered letterC l at t) (afterLettered letterC l at t) u
+
 -- a minus sign, where it is to be, and after it a text
 abbrev pub minus : List ℕ
 minus = 45 ∷ []

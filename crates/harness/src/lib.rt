@@ -1,9 +1,13 @@
 // What the test programs share: words read from bytes, texts placed into a buffer, standard input
 // and output.
+mod entry;
 mod standard;
 mod text;
 mod word;
 
+pub use entry::ENTRY;
+pub use entry::Entry;
+pub use entry::entry_at;
 pub use feed::first;
 pub use standard::MANY;
 pub use standard::make_room;
@@ -19,7 +23,6 @@ pub use text::put_refusal;
 pub use text::put_signed;
 pub use word::LARGEST_BOUND;
 pub use word::bound_of;
-pub use word::float_at;
 pub use word::float_of;
 pub use word::pattern_of;
 pub use word::signed_of;

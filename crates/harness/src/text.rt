@@ -5,7 +5,7 @@ ghost use lib.IntN.{pos, natAbs};
 ghost use lib.Signed.{ltZ};
 ghost use lib.ListN.{length};
 ghost use lib.Ieee.{binary64, toBits};
-ghost use Rattle.harness.specs.Texts.{fits, placed, after, spaced, afterSpaced, letterR, letterC, lettered, afterLettered, signedBy, afterSigned, glyph, hex, count};
+ghost use Rattle.harness.specs.Texts.{fits, placed, after, spaced, afterSpaced, letterR, lettered, afterLettered, capped, afterCapped, signedBy, afterSigned, glyph, hex, count};
 use crate::word::pattern_of;
 use crate::word::size_of;
 
@@ -113,8 +113,8 @@ pub fn put_float(out: &mut [u8], at: usize, x: f64) -> usize
 
 // `C`, the steps needed and the budget left, with a space before each.
 pub fn put_cap(out: &mut [u8], at: usize, needed: f64, budget: u32) -> usize
-    ensures { λ _. ⌜ now (out .exit) ≡ spaced (lettered letterC (now (out .entry)) at (hex 16 (toBits binary64 needed))) (afterLettered letterC (now (out .entry)) at (hex 16 (toBits binary64 needed))) (count budget) ⌝ }
-    ensures { λ r. ⌜ r ≡ afterSpaced (lettered letterC (now (out .entry)) at (hex 16 (toBits binary64 needed))) (afterLettered letterC (now (out .entry)) at (hex 16 (toBits binary64 needed))) (count budget) ⌝ }
+    ensures { λ _. ⌜ now (out .exit) ≡ capped (now (out .entry)) at (hex 16 (toBits binary64 needed)) (count budget) ⌝ }
+    ensures { λ r. ⌜ r ≡ afterCapped (now (out .entry)) at (hex 16 (toBits binary64 needed)) (count budget) ⌝ }
 {
     let mut next = put(out, at, b"C");
     next = put_float(out, next, needed);

@@ -96,13 +96,6 @@ pub fn float_of(bits: u64) -> f64
     f64::from_bits(bits)
 }
 
-// The float whose bits are the word i places after a place.
-pub fn float_at(s: &[u8], at: usize, i: usize) -> f64
-    ensures { λ r. ⌜ r ≡ ofBits binary64 (word (now (s .entry)) (at + i)) ⌝ }
-{
-    float_of(word_at(s, at, i))
-}
-
 // The pattern of a float. The language reads no NaN's; one of them stands for all.
 pub fn pattern_of(x: f64) -> u64
     ensures { λ r. ⌜ r ≡ toBits binary64 x ⌝ }

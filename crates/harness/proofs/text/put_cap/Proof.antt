@@ -1,6 +1,6 @@
 -- The letter's place, the float's and the number's, one after the other. Assumes nothing.
 use borrow.Author.Needs.{needs}
-use Rattle.harness.specs.Texts.{lettered, afterLettered}
+use Rattle.harness.specs.Texts.{lettered, afterLettered, capped, afterCapped}
 use Rattle.harness.proofs.text.put_cap.Statement.{statement}
 use Rattle.harness.proofs.text.put_cap.Tie as tie
 
@@ -20,7 +20,7 @@ same-length : tie.Need-same-length
 same-length c = search needs
 
 returns : tie.Need-returns
-unfolding lettered afterLettered
+unfolding capped afterCapped lettered afterLettered
 returns c =
     let n = c .before .before in
     let f = n .before .before .before .before in

@@ -1,7 +1,7 @@
 -- The float of the word's bits. Assumes nothing.
 use borrow.Author.Needs.{needs}
-use Rattle.harness.proofs.word.float_at.Statement.{statement}
-use Rattle.harness.proofs.word.float_at.Tie as tie
+use Rattle.harness.proofs.entry.float_at.Statement.{statement}
+use Rattle.harness.proofs.entry.float_at.Tie as tie
 
 word-at-requires : tie.Need-word-at-requires
 word-at-requires c κs = search needs
