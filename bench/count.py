@@ -1,27 +1,24 @@
-"""Nanoseconds of a count at bound 200, beside a full first plan.
+"""Nanoseconds of a count at bound 200, without a drift and with one, beside a full first plan.
 
     python3 count.py COUNTRUN ORACLE FLOATRUN FOLDER
 
 ORACLE is that of differential/count, whose `platform` makes glft.rs's own plan over all rows, as published. The desk is
 that of measure.py. A count, and glft.rs's plan, is a record with some time less one with none, whose lines are as long,
-so that reading and writing drop out. floatrun's plan is a record over the cap, whose run ends at its first plan, less
-one with a holding beyond the bound. A time is processor time, the least of several rounds in which the programs take
-turns. Every line has to be the one expected.
+so that reading and writing drop out. With a drift, of which glft.rs has none, a count reads all rows. floatrun's plan is
+a record over the cap, whose run ends at its first plan, less one with a holding beyond the bound. A time is processor
+time, the least of several rounds in which the programs take turns. Every line has to be the one expected.
 """
-import struct
 import sys
 
-from measure import ALPHA, BASE, ETA, K, seconds, written
+from measure import record, seconds, written
 
 ROUNDS = 11
 BOUND = 200
-# tau and q of a plan and of none, each with how its lines begin
-SOME, NONE = (1.0, 0, b"N 4\n"), (0.0, 0, b"N 0\n")
-OVER, REFUSED = (1e6, 0, b"C "), (1e6, BOUND + 1, b"R 4\n")
-
-
-def sheet(path, tau, q, count):
-    return written(path, struct.pack("<4dQdq", K, ALPHA, ETA, BASE, BOUND, tau, q) * count)
+DRIFT = 1e-4
+# tau, q and beta of a plan and of none, each with how its lines begin
+SOME, NONE = (1.0, 0, 0.0, b"N 4\n"), (0.0, 0, 0.0, b"N 0\n")
+DRIFTING, DRIFTING_NONE = (1.0, 0, DRIFT, b"N 4\n"), (0.0, 0, DRIFT, b"N 0\n")
+OVER, REFUSED = (1e6, 0, 0.0, b"C "), (1e6, BOUND + 1, 0.0, b"R 4\n")
 
 
 def expected(wrote, line, count):
@@ -35,9 +32,9 @@ def timed(programs, folder):
     least = {}
     for turn in range(ROUNDS):
         for name, (command, count, *kinds) in programs.items():
-            for place, (tau, q, line) in enumerate(kinds):
+            for place, (tau, q, beta, line) in enumerate(kinds):
                 path = "%s/%s.%d" % (folder, name, place)
-                took, wrote = seconds(command, path if turn else sheet(path, tau, q, count))
+                took, wrote = seconds(command, path if turn else written(path, record(BOUND, tau, q, beta) * count))
                 if not expected(wrote, line, count):
                     sys.exit("count.py: %s did not answer every record by %s" % (name, line.decode().strip()))
                 least[name, place] = min(took, least.get((name, place), took))
@@ -47,10 +44,11 @@ def timed(programs, folder):
 def main():
     countrun, oracle, floatrun, folder = sys.argv[1:]
     took = timed({"countrun": ([countrun], 1000000, SOME, NONE),
+                  "drifting": ([countrun], 200000, DRIFTING, DRIFTING_NONE),
                   "glft.rs": ([oracle, "platform"], 50000, SOME, NONE),
                   "floatrun": ([floatrun], 50000, OVER, REFUSED)}, folder)
-    print("a count at bound %d: %.0f ns; a full first plan: glft.rs %.0f ns, floatrun's cap report %.0f ns"
-          % (BOUND, took["countrun"], took["glft.rs"], took["floatrun"]))
+    print("a count at bound %d: %.0f ns, with a drift %.0f ns; a full first plan: glft.rs %.0f ns, floatrun's cap report "
+          "%.0f ns" % (BOUND, took["countrun"], took["drifting"], took["glft.rs"], took["floatrun"]))
 
 
 if __name__ == "__main__":

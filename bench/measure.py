@@ -3,7 +3,7 @@
     python3 measure.py ORACLE FLOATRUN FOLDER
 
 The records have the parameters of glft.rs's own example: gamma 0.01, k 0.3, A 0.9 and a volatility
-of 0.3 a second's root, so alpha is k gamma 0.09 / 2 and eta about 0.3257. A run's time is that of
+of 0.3 a second's root, so alpha is k gamma 0.09 / 2 and eta about 0.3257; there is no drift. A run's time is that of
 records with many steps less that of as many with tau 0, whose vectors are written too, so that
 reading, writing and starting the program drop out. It is processor time, the least of several
 rounds, in which the programs take turns. The steps are floatrun's own, from its lines; the
@@ -24,8 +24,8 @@ MOST_STEPS = 11000
 LONGEST = (200, 3308.7, 1)
 
 
-def records(bound, tau, count):
-    return struct.pack("<4dQdq", K, ALPHA, ETA, BASE, bound, tau, 0) * count
+def record(bound, tau, q=0, beta=0.0):
+    return struct.pack("<4dQdqd", K, ALPHA, ETA, BASE, bound, tau, q, beta)
 
 
 def seconds(command, path):
@@ -53,8 +53,8 @@ def written(path, content):
 
 def timed(programs, folder, bound, tau, count):
     """The seconds of each program's steps, and the number of steps."""
-    many = written(folder + "/many", records(bound, tau, count))
-    none = written(folder + "/none", records(bound, 0.0, count))
+    many = written(folder + "/many", record(bound, tau) * count)
+    none = written(folder + "/none", record(bound, 0.0) * count)
     least = {}
     for _ in range(ROUNDS):
         for name, command in programs.items():

@@ -9,7 +9,8 @@ import os
 import sys
 
 sys.path.insert(0, os.path.join(os.path.dirname(os.path.abspath(__file__)), "..", "vector"))
-from cases import CAP, LARGEST, SHARES, SMALLEST, Cases, bits_of, float_of, pack, two_to, write  # noqa: E402
+from cases import (  # noqa: E402
+    CAP, DRIFTING, LARGEST, SHARES, SMALLEST, Cases, bits_of, float_of, pack, two_to, write)
 
 
 class Counts(Cases):
@@ -20,14 +21,14 @@ class Counts(Cases):
         """A float at most n places from a positive one, and finite."""
         return float_of(min(bits_of(LARGEST), max(1, bits_of(x) + self.whole(-n, n))))
 
-    def shifted(self, alpha, eta, bound, tau):
+    def shifted(self, alpha, eta, bound, tau, beta=0.0):
         """The record, perhaps in another unit of time."""
-        s = self.shift(alpha, eta, tau) if self.chance(0.3) else 1.0
-        return self.record(alpha * s, eta * s, bound, tau / s)
+        s = self.shift(tau, alpha, eta, beta) if self.chance(0.3) else 1.0
+        return self.record(alpha * s, eta * s, bound, tau / s, beta * s)
 
-    def aimed(self, alpha, eta, bound, steps):
+    def aimed(self, alpha, eta, bound, steps, beta=0.0):
         """A plan of so many steps, or next to it."""
-        return self.shifted(alpha, eta, bound, self.within(self.time(alpha, eta, bound, steps), 3))
+        return self.shifted(alpha, eta, bound, self.within(self.time(alpha, eta, bound, steps, beta), 3), beta)
 
     def steps(self):
         return self.rng.choice((self.whole(1, 9), self.whole(1, 99), self.whole(1, CAP)))
@@ -111,6 +112,28 @@ class Counts(Cases):
         return pack(*floats[:4], bound, floats[4], self.holding(bound))
 
 
+    # ---- the drift
+    def leant_rows(self):
+        """The largest row at one end, or next to it, by a drift of any size: eta may outweigh it."""
+        bound = self.any_bound()
+        alpha, eta = self.balanced(bound, *self.rng.choice(((-1, 1), (-8, 8), (-40, 40))))
+        beta = self.turned(self.rng.choice((eta, alpha * bound)) * self.about(*self.rng.choice(((-2, 2), (-60, 8)))))
+        return self.aimed(alpha, eta, bound, self.steps(), beta)
+
+    def tied_rows(self):
+        """alpha × (2 × bound - 1) + the drift is eta, or some floats beside it: one end's rows are equal."""
+        bound = self.any_bound()
+        alpha, eta = self.balanced(bound, 0, 4)
+        beta = self.turned(self.within(eta - alpha * (2.0 * bound - 1.0), 3)) if eta > alpha * 2.0 * bound else alpha
+        return self.aimed(alpha, eta, bound, self.whole(1, 40), beta)
+
+    def at_cap_drift(self):
+        bound = self.any_bound()
+        alpha, eta = self.balanced(bound, -3, 3)
+        steps = CAP + self.rng.choice((0, 0, 0, -1, 1, -0.5, 0.5))
+        return self.aimed(alpha, eta, bound, steps, self.beta(alpha, eta, bound))
+
+
 # of a thousand records, so many of each kind, beside half of what the others have
 OWN = {
     Counts.tie: 120,
@@ -123,12 +146,17 @@ OWN = {
     Counts.no_plan: 20,
     Counts.any_bits: 20,
 }
+OWN_DRIFTING = {
+    Counts.leant_rows: 80,
+    Counts.tied_rows: 40,
+    Counts.at_cap_drift: 40,
+}
 
 
 def main():
     seed, count, *most = map(int, sys.argv[1:])
-    shares = {kind: share / 2 for kind, share in SHARES.items()}
-    write(Counts(seed, *most), {**shares, **OWN}, count)
+    shares, drifting = ({kind: share / 2 for kind, share in kinds.items()} for kinds in (SHARES, DRIFTING))
+    write(Counts(seed, *most), {**shares, **OWN}, {**drifting, **OWN_DRIFTING}, count)
 
 
 if __name__ == "__main__":

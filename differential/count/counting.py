@@ -1,4 +1,4 @@
-"""The first plan's count of steps, by document 01 and change request 6, reckoned apart from the library.
+"""The first plan's count of steps, by document 01 and change requests 6 and 7, reckoned apart from the library.
 
     python3 counting.py < RECORDS > LINES
 
@@ -10,18 +10,23 @@ import math
 import struct
 import sys
 
-RECORD = struct.Struct("<4dQdq")
+RECORD = struct.Struct("<4dQdqd")
 MOST_LOTS = 200
 CAP = 11000
 
 
-def row_sums(alpha, eta, bound):
-    """Each row's diagonal + eta × (left + right), from minus the bound to the bound."""
+def entry(alpha, beta, eta, lots):
+    """The diagonal at so many lots."""
+    q = float(lots)
+    return ((alpha * q) * q - beta * q) + 2.0 * eta
+
+
+def row_sums(alpha, beta, eta, bound):
+    """Each row's size of the diagonal + eta × (left + right), from minus the bound to the bound."""
     for lots in range(-bound, bound + 1):
-        q = float(lots)
         left = 1.0 if lots > -bound else 0.0
         right = 1.0 if lots < bound else 0.0
-        yield ((alpha * q) * q + 2.0 * eta) + eta * (left + right)
+        yield abs(entry(alpha, beta, eta, lots)) + eta * (left + right)
 
 
 def plan(size):
@@ -34,9 +39,11 @@ def plan(size):
     return "N %d" % needed
 
 
-def answer(k, alpha, eta, base, bound, tau, q):
+def answer(k, alpha, eta, base, bound, tau, q, beta):
     """The line of a record's numbers."""
-    if not all(math.isfinite(x) and x > 0.0 for x in (k, alpha, eta, base)) or not math.isfinite(tau):
+    if not all(math.isfinite(x) and x > 0.0 for x in (k, alpha, eta, base)):
+        return "R 5"
+    if not (math.isfinite(tau) and math.isfinite(beta)):
         return "R 5"
     if not 1 <= bound <= MOST_LOTS:
         return "R 1"
@@ -44,7 +51,9 @@ def answer(k, alpha, eta, base, bound, tau, q):
         return "R 4"
     if tau <= 0.0:
         return "N 0"
-    return plan(tau * max(0.0, *row_sums(alpha, eta, bound)))
+    if not all(math.isfinite(entry(alpha, beta, eta, lots)) for lots in range(-bound, bound + 1)):
+        return "R 11"
+    return plan(tau * max(0.0, *row_sums(alpha, beta, eta, bound)))
 
 
 def line(record):

@@ -2,8 +2,8 @@
 
     python3 first.py RECORDS COUNTED RAN NOTES
 
-COUNTED is what countrun wrote, RAN what floatrun did, and NOTES what `oracle routed NOTES` of differential/vector did,
-whose first number is the rebalancings of a run. A cap report and a refusal of the first plan are the run's own line; a
+COUNTED is what countrun wrote, RAN what floatrun did, and NOTES what drifts.py of differential/vector did, whose first
+number is the rebalancings of a run. A cap report and a refusal of the first plan are the run's own line; a
 count is the steps of a run that ends without rebalancing, and where it rebalances only a later plan may report the
 cap. A distance may still be refused, by 11. The first line that is not so is printed, and the status is then 1.
 """

@@ -3,9 +3,11 @@
     python3 listed.py > RECORDS
 
 A line is told by document 01 or worked by hand; cases that were searched for, with counting.py, are marked.
-A case changes some of: k, alpha, eta, base and tau 1.0, bound 1, q 0. The end row's sum is alpha × bound² + 3 × eta,
-and that of the row next to it alpha × (bound - 1)² + 4 × eta; the steps are half of tau times the larger one, rounded
-up. counting.py is held to every line. The stored lines are the routed glft.rs's.
+A case changes some of: k, alpha, eta, base and tau 1.0, bound 1, q 0, beta 0.0. The end row's sum is alpha × bound² +
+3 × eta, and that of the row next to it alpha × (bound - 1)² + 4 × eta; the steps are half of tau times the larger one,
+rounded up. With a drift the end of the other sign than beta's has beta's size × bound more, and the row next to it beta's
+size × (bound - 1). counting.py is held to every line. The stored lines are counting.py's; where there is no drift
+the routed glft.rs has the same.
 """
 import math
 import os
@@ -115,7 +117,7 @@ def no_time():
 
 def rows():
     for bound, alpha, eta, tau, told, smaller in ROWS:
-        end, beside, *_ = counting.row_sums(alpha, eta, bound)
+        end, beside, *_ = counting.row_sums(alpha, 0.0, eta, bound)
         if counting.plan(tau * min(end, beside)) != smaller:
             sys.exit("listed.py: the smaller row of %s does not give %s" % ((bound, alpha, eta, tau), smaller))
         yield {"bound": bound, "alpha": alpha, "eta": eta, "tau": tau}, told
@@ -213,7 +215,74 @@ def refusals():
         yield dict(wrong, base=math.nan), "R 5"
 
 
-GROUPS = (paper, no_time, rows, orders, wholes, caps, overflows, products, unread, refusals)
+# ---- change request 7: bound, alpha, eta, beta's size, tau, and the line
+DRIFTS = [
+    # a norm of 1 + 1 + 3: the end row; of 0 + 40: the centre, which 1 + 2 + 30 is below
+    (1, 1.0, 1.0, 1.0, 1.0, "N 3"),
+    (1, 1.0, 1.0, 1.0, 0.4, "N 1"),
+    (1, 1.0, 1.0, 1.0, near(0.4, 1), "N 2"),
+    (1, 1.0, 10.0, 2.0, 1.0, "N 20"),
+    # 4 + 4 + 3, where the other end has 4 - 4 + 3; 4 + 80 + 3, where that has an entry of 4 - 80 + 2; 1 + 5 + 40 next to
+    # the end, where 4 + 10 + 30 is below
+    (2, 1.0, 1.0, 2.0, 1.0, "N 6"),
+    (2, 1.0, 1.0, 40.0, 1.0, "N 44"),
+    (2, 1.0, 10.0, 5.0, 1.0, "N 23"),
+    (2, 1.0, 10.0, 7.0, 1.0, "N 24"),  # both 48
+    (2, 1.0, 10.0, 9.0, 1.0, "N 26"),
+    # 40,000 + 200 + 3 and, next to the end, 39,601 + 199 + 4,000
+    (200, 1.0, 1.0, 1.0, 0.25, "N 5026"),
+    (200, 1.0, 1000.0, 1.0, 0.25, "N 5475"),
+    # most of it beta's: 1/64 × 40,000 + 64 × 200 + 3/16
+    (200, 1 / 64, 1 / 16, 64.0, 0.5, "N 3357"),
+    (1, 1.0, 1.0, 21996.0, 1.0, "N 11000"),
+    (1, 1.0, 1.0, near(21996.0, 1), 1.0, ONE_OVER),
+    (200, 1.0, 1.0, two_to(996), two_to(-996), "N 100"),
+    (200, 1.0, 1.0, 1e9, 1.0, "C 4237487736220000 11000"),  # 10^11 + 20,001.5, and so 100,000,020,002
+    # a drift that is lost beside the rest
+    (1, 1.0, 1.0, SMALLEST, 1.0, "N 2"),
+    (1, 1.0, 1.0, 1e-17, 1.0, "N 2"),
+]
+
+
+def drifts():
+    """With either sign, at any holding: all rows are read, and the largest is at one end or the other."""
+    for bound, alpha, eta, beta, tau, told in DRIFTS:
+        for sign in (1.0, -1.0):
+            case = {"bound": bound, "alpha": alpha, "eta": eta, "tau": tau, "beta": sign * beta}
+            yield case, told
+            yield dict(case, q=bound), told
+
+
+def no_diagonals():
+    """An entry that is infinite or no number is 11 for a tau above zero; rows next to it are not."""
+    for sign in (1.0, -1.0):
+        for alpha in (1.0, 1e308):
+            for tau, told in ((SMALLEST, "R 11"), (1.0, "R 11"), (0.0, "N 0"), (-1.0, "N 0")):
+                yield {"bound": 2, "alpha": alpha, "beta": sign * 1e308, "tau": tau}, told
+        yield {"bound": 2, "beta": sign * near(two_to(1023), -1), "tau": two_to(-1022)}, "N 2"
+        yield {"bound": 2, "beta": sign * two_to(1023), "tau": two_to(-1022)}, "R 11"
+        yield {"beta": sign * LARGEST, "tau": two_to(-1022)}, "N 2"
+        yield {"beta": sign * LARGEST, "alpha": two_to(970), "tau": two_to(-1022)}, "R 11"
+        yield {"beta": sign * LARGEST, "alpha": near(two_to(970), -1), "tau": two_to(-1022)}, "N 2"
+        yield {"beta": sign * LARGEST, "eta": two_to(1022), "tau": SMALLEST}, "R 11"
+        yield {"beta": sign * 1e308, "tau": 1e300}, "R 11"
+        yield {"beta": sign * two_to(1023)}, "C 7FD0000000000000 11000"
+
+
+def drift_refusals():
+    """5 by beta, before 1 and 4, with no time too; minus zero is no drift."""
+    for beta in (math.inf, -math.inf, math.nan):
+        yield {"beta": beta}, "R 5"
+        yield {"beta": beta, "bound": 0, "q": 2}, "R 5"
+        yield {"beta": beta, "tau": 0.0}, "R 5"
+    yield {"beta": 1e308, "bound": 0}, "R 1"
+    yield {"beta": 1e308, "bound": 2, "q": 3}, "R 4"
+    yield {"beta": -0.0}, "N 2"
+    yield {"beta": -0.0, "bound": 200, "eta": 399.0, "tau": 2 / 41197}, "N 1"
+
+
+GROUPS = (paper, no_time, rows, orders, wholes, caps, overflows, products, unread, refusals, drifts, no_diagonals,
+          drift_refusals)
 
 
 def main():

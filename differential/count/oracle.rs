@@ -5,7 +5,7 @@
 //!
 //! `routed` and `platform` are those of differential/vector. NOTES gets a line a record: the words of glft.rs where
 //! its plan fails. What comes before any plan is made here and in entry.rs: 6, 5, 1 and 4, and 0 steps where tau is
-//! at or below zero, for which `value_vector` makes none.
+//! at or below zero, for which `value_vector` makes none. A record with a drift gets the line `-`.
 #![allow(dead_code, unexpected_cfgs)]
 
 use std::cell::Cell;
@@ -34,6 +34,9 @@ macro_rules! plan {
 }
 
 fn answer(routed: bool, record: &[u8]) -> (String, String) {
+    if drifting(record) {
+        return (UNASKED.0.to_string(), UNASKED.1.to_string());
+    }
     match entry_of(record) {
         Ok(e) if e.tau <= 0.0 => ("N 0".to_string(), String::new()),
         Ok(e) if routed => plan!(routed, e),

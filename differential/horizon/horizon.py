@@ -25,7 +25,7 @@ def line(desk):
     except Refused as refusal:
         return "R %d\n" % refusal.number
     tau = quoting.time_left(desk)
-    return counting.answer(model.k, model.alpha, model.eta, model.base, model.bound, tau, q) + "\n"
+    return counting.answer(model.k, model.alpha, model.eta, model.base, model.bound, tau, q, model.beta) + "\n"
 
 
 def answers(s):

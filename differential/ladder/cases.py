@@ -5,9 +5,10 @@
 
 A case is a desk, the length of its buffer, and what the rule tells: the number of a refusal, or a line
 for each lot, worked by hand; None stands for a line that is not. ladder.py is held to them, and every
-ladder to its count of bytes, its number of lines and the mirror rule. The stored outputs are
-ladder.py's. Nothing of the library takes part. 5 and 11 are not among the cases: no desk within the
-limits is known that meets either (docs/DECISIONS.md says why).
+ladder to its count of bytes, its number of lines and the mirror rule, which pairs a ladder with that of
+the opposite drift, and so with itself where there is none. The stored outputs are ladder.py's. Nothing of
+the library takes part. 5 and 11 are not among the cases: no desk within the limits is known that meets
+either (docs/DECISIONS.md says why).
 """
 import io
 import itertools
@@ -188,6 +189,26 @@ def no_call():
             yield USUAL._replace(bound=bound), length, 2
 
 
+def drifts():
+    """A drift moves nothing where no time is left; it is refused beyond the limit alone, and a ladder has no 22."""
+    for drift in (1, -1, ONE, MOST_AMOUNT, -MOST_AMOUNT):
+        yield USUAL._replace(drift=drift), ROOM, DEFAULT
+    yield USUAL._replace(drift=ONE, bound=0), ROOM, 1
+    yield USUAL._replace(drift=ONE, mid=0), ROOM, 3
+    yield USUAL._replace(drift=-ONE), 191, 21
+    # the ladder of each drift and of its opposite: all rows lean to one side, and prices face each other
+    for sign in (1, -1):
+        yield USUAL._replace(terminal=1000, current=0, bound=5, drift=sign * MOST_AMOUNT), ROOM, untold(5)
+        yield USUAL._replace(terminal=3000, current=0, bound=3, k=10 * ONE, drift=sign * MOST_AMOUNT), ROOM, untold(3)
+        yield OPERATORS._replace(bound=8, current=500000, drift=sign * 123456789012345), ROOM, untold(8)
+        yield STEEP._replace(drift=sign * 40000 * ONE), ROOM, untold(8)
+        yield STEEP._replace(terminal=30000, drift=sign * 40000 * ONE), ROOM, untold(8)
+        # the norm is 1.0354: 22,000 seconds are 11,390 steps, hex 40C63F00
+        longest = USUAL._replace(terminal=22000000, current=0, drift=sign * MOST_AMOUNT)
+        yield longest, ROOM, ["C 40C63F0000000000 11000\n"] * 3
+        yield longest._replace(lot_size=MOST_AMOUNT, bound=2, terminal=MOST_TIME), ROOM, within(2, 1, None)
+
+
 def limits():
     """Numbers at their limits are taken."""
     for name in ("volatility", "a", "current"):
@@ -197,7 +218,7 @@ def limits():
     yield USUAL._replace(terminal=MOST_TIME, current=MOST_TIME), ROOM, DEFAULT
 
 
-KINDS = (bounds, lengths, holdings, lots, prices, runs, caps, whole, pairs, no_call, limits)
+KINDS = (bounds, lengths, holdings, lots, prices, runs, caps, whole, pairs, no_call, limits, drifts)
 
 
 # ---- ladder.py held to them
@@ -215,9 +236,9 @@ def counts(line):
     return [None if x == "-" else int(x.replace(".", "")) for x in line.split()[1:3]]
 
 
-def hold_mirror(mid, lines):
-    """A bid and the ask of the opposite lot add up to twice the mid; 2, reports and steps agree."""
-    for line, opposite in zip(lines, reversed(lines)):
+def hold_mirror(mid, lines, others):
+    """A bid and the ask of the opposite lot in the other ladder add up to twice the mid; 2, reports and steps agree."""
+    for line, opposite in zip(lines, reversed(others)):
         if line[0] == opposite[0] == "Q":
             bid, ask = counts(line)[0], counts(opposite)[1]
             hold("steps", line.split()[3], opposite.split()[3])
@@ -236,7 +257,7 @@ def hold_ladder(desk, lines, told):
     ends = {line for line in lines if line[0] == "C"} or {line.split()[3] for line in lines if line[0] == "Q"}
     if len(ends) > 1:
         stop("one run", ends, "one report, or one count of steps")
-    hold_mirror(desk.mid, lines)
+    hold_mirror(desk.mid, lines, ladder.ladder(desk._replace(drift=-desk.drift)) if desk.drift else lines)
 
 
 def hold_answer(desk, ours, told):
@@ -253,7 +274,7 @@ def listed():
     """The records; the last is cut short."""
     cases = [case for kind in KINDS for case in kind()]
     packs = [quoting.pack(desk, length) for desk, length, _ in cases]
-    out = b"".join(packs) + packs[0][:95]
+    out = b"".join(packs) + packs[0][:103]
     answers = ladder.lines(io.BytesIO(out))
     hold("answers", len(answers), len(cases) + 1)
     for (desk, _, told), ours in zip(cases, answers):

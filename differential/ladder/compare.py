@@ -4,8 +4,9 @@
 
 COUNT is about the number of lines for each of the two, not of ladders: most have few lines, some have
 401. STEPS is the library that is made of differential/sheet/steps.c. ladderrun gets the records of
-records.py, up to 40 at once, and at the end runs of brief ones around 682, which 64 kB hold; half of
-the runs end in a record that is cut short. ladder gets sheets of up to 8 such desks, two of five
+records.py, up to 40 at once, and at the end runs of brief ones around 630, which 64 kB hold; half of
+the runs end in a record that is cut short. The same records with the opposite drift are its as well: each
+ladder has to face the other's, read upward. ladder gets sheets of up to 8 such desks, two of five
 damaged as in differential/sheet/compare.py, and at the end sheets around the longest. Some input
 reaches the programs a few bytes at a time. Prints what was met; the status is 1 where a byte differs,
 or where fast.py meets steps that are not quoting.py's.
@@ -20,6 +21,7 @@ import ladder  # first: it says where sheet and quoting are
 import fast
 import quoting
 import sheet
+from facing import answers, faces, turned
 from pieces import PIECES, SIZES, written
 from quoting import MOST_AMOUNT, RECORD, Desk, unpack
 from records import Ladders
@@ -27,7 +29,7 @@ from records import Ladders
 sys.path.insert(0, os.path.dirname(os.path.abspath(sheet.__file__)))  # for its compare.py, not the quotes'
 import compare  # noqa: E402
 
-BLOCK = 682
+BLOCK = 630
 BRIEF_RUNS = (0, 1, BLOCK - 1, BLOCK, BLOCK + 1, 2 * BLOCK)
 MOST_RUN, MOST_SHEET = 40, 8
 MOST_HOLDING = 2**55 - 1  # twice that is eight groups
@@ -102,6 +104,9 @@ def met_record(record, lines, plans):
         yield "ladders, buffer just long enough"
     if length > ladder.MOST_ROOM:
         yield "ladders, buffer above 32,768"
+    if desk.drift:
+        yield "ladders, a drift"
+        yield from ["lines %s, a drift" % kind(line) for line in lines[1:-1]]
 
 
 def met_sheet(desk, lines, plans):
@@ -144,7 +149,20 @@ class Comparison:
             told += lines
         self.counts["runs"] += 1
         what = "a run of %d records" % len(records)
+        self.mirror(program, records)
         return self.hold(what, program, b"".join(records), made.rng.choice(SIZES), told)
+
+    def mirror(self, program, records):
+        """Holds the program's ladders to those of the opposite drifts."""
+        ours, others = (answers(written(program, b"".join(s), PIECES)) for s in (records, map(turned, records)))
+        if len(ours) != len(records) or len(others) != len(records):
+            self.differing += 1
+            return
+        for record, answer, other in zip(records, ours, others):
+            self.counts["mirrored"] += 1
+            if not faces(record, answer, other):
+                self.differing += 1
+                print("not mirrored: %s\n  %s\n  %s" % (unpack(record), answer, other))
 
     def sheet(self, program, made, s):
         """One sheet for ladder."""

@@ -1,4 +1,4 @@
-"""Ladders: change request 4's rule, reckoned apart from the library.
+"""Ladders: change request 4's rule, with change request 7's drift, reckoned apart from the library.
 
     python3 ladder.py < RECORDS > LINES
     python3 ladder.py SHEET > LINES

@@ -2,8 +2,8 @@
 
     python3 records.py SEED COUNT > RECORDS
 
-A record is ladderrun's: the eleven numbers and the buffer's length, words of eight bytes, lowest first.
-Most desks are those of differential/quote/desks.py, with small bounds, some those of
+A record is ladderrun's: the eleven numbers, the buffer's length and the drift, words of eight bytes, lowest
+first; a third has a drift. Most desks are those of differential/quote/desks.py, with small bounds, some those of
 differential/sheet/wide.py. A seed gives the same records on every machine.
 """
 import sys
@@ -86,6 +86,8 @@ class Ladders(wide.Wide):
 
     def record(self):
         desk = self.desk()
+        if self.chance(1 / 3):
+            desk = self.drifted(desk)
         return quoting.pack(desk, self.length(desk.bound))
 
     def brief_record(self):

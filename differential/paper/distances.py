@@ -4,12 +4,12 @@
 
 For each case of exact.py and each q from -Q to Q:
 
-- FLOATRUN, the float entry, gets k, alpha, eta and the base distance as the floats nearest to the
+- FLOATRUN, the float entry, gets k, alpha, beta, eta and the base distance as the floats nearest to the
   paper's, and its two distances are held to Theorem 1's;
 - DESKRUN, the quotes, gets amounts. Sigma goes from root seconds to root years of 365 days, to the
-  nearest billionth. Mid less bid and ask less mid are held to Theorem 1's distances (`exact_quotes`)
-  and to the closed form's (`closed_form_quotes`): a price lies outside the paper's, by less than a
-  billionth.
+  nearest billionth, and the drift from seconds to such years. Mid less bid and ask less mid are held to
+  Theorem 1's distances (`exact_quotes`) and to the closed form's (`closed_form_quotes`): a price lies
+  outside the paper's, by less than a billionth. With a drift the closed form has to refuse, by 22.
 
 A distance or price that is not within the bounds below, a side that only one of both has, and a line that
 is no answer are faults. The first of them are told, and the status is 1 where there is one.
@@ -32,9 +32,9 @@ YEAR = 31536000
 DIGITS = 80
 SIDES = ("bid", "ask")
 TOLD = 10
-# errors of a float distance: the largest that were measured are 4.04e-14 units and, relatively, 1.89e-13, both in the
-# case "Q 100, two minutes", the latter of a distance of -0.023
-ABSOLUTE_BOUND = 4.1e-14
+# errors of a float distance: the largest that were measured are 5.00e-14 units, in the case "mu 0.2, sigma 5, Q 100"
+# (4.04e-14 without a drift), and, relatively, 1.89e-13, in the case "Q 100, two minutes", of a distance of -0.023
+ABSOLUTE_BOUND = 5.1e-14
 RELATIVE_BOUND = 1.9e-13
 # how far a price lies outside the paper's, in billionths: from 0 to 1 by rounding, and to either side what the float
 # distance before it was measured to be off, with sigma as it is typed: up to 0.0006 in exact quotes, and 0.0017 in the
@@ -75,9 +75,11 @@ def from_floats(program, case, faults):
     """The float entry's distances for each q, and its steps."""
     with mp.workdps(exact.DIGITS):
         s = exact.scales(case)
-        # per unit of price: k and base go back from a lot to a unit; alpha and eta, per second, have no price in them
+        # per unit of price: k and base go back from a lot to a unit; alpha, beta and eta, per second, have no price in
+        # them
         floats = [float(x) for x in (s.k * s.lot, s.alpha, s.eta, s.base / s.lot)]
-    records = [struct.pack("<4dQdq", *floats, case.bound, float(case.seconds), q) for q in lots(case)]
+        beta = float(s.beta)
+    records = [struct.pack("<4dQdqd", *floats, case.bound, float(case.seconds), q, beta) for q in lots(case)]
     distances, steps = {}, 0
     for q, fields in answers(program, "V", case, records, faults).items():
         steps = int(fields[1])
@@ -89,8 +91,9 @@ def desk(case, q):
     with mp.workdps(exact.DIGITS):
         amount = {name: int(mpf(getattr(case, name)) * BILLION) for name in ("a", "k", "gamma", "lot")}
         volatility = int(mp.nint(mpf(case.sigma) * mp.sqrt(YEAR) * BILLION))
+        drift = int(mp.nint(mpf(case.mu) * YEAR * BILLION))
     return quoting.Desk(MID, q * amount["lot"], volatility, amount["gamma"], amount["k"], amount["a"], case.bound,
-                        amount["lot"], 1000 * int(case.seconds), 0, 0)
+                        amount["lot"], 1000 * int(case.seconds), 0, 0, drift)
 
 
 def from_quotes(program, case, entry, faults):
@@ -100,6 +103,14 @@ def from_quotes(program, case, entry, faults):
     for q, (_, bid, ask, *_) in answers(program, "Q", case, records, faults).items():
         distances[q] = [None if bid == "-" else MID - int(bid), None if ask == "-" else int(ask) - MID]
     return distances
+
+
+def refused(program, case, faults):
+    """Holds the closed form to its refusal of a drift."""
+    records = [quoting.pack(desk(case, q), quoting.CLOSED_FORM) for q in lots(case)]
+    for q, fields in answers(program, "R", case, records, faults).items():
+        if fields != ["R", "22"]:
+            faults.tell(case.name, "q %d" % q, "closed form: refused by " + fields[1])
 
 
 def pairs(what, case, ours, papers, faults):
@@ -137,18 +148,24 @@ def prices_off(what, case, ours, papers, faults):
     return min(out, default=mpf(0)), max(out, default=mpf(0))
 
 
+def forms_off(case, deskrun, faults):
+    """The least and the most that the closed form's prices lie outside; nothing where there is a drift."""
+    if mpf(case.mu) != 0:
+        refused(deskrun, case, faults)
+        return ()
+    with mp.workdps(exact.DIGITS):
+        form = exact.closed_form(exact.scales(case), case.bound)
+    return prices_off("closed form", case, from_quotes(deskrun, case, quoting.CLOSED_FORM, faults), form, faults)
+
+
 def measured(case, floatrun, deskrun, faults):
     """The steps of a case, the two largest errors of its floats, and the least and most of its prices, twice."""
     theorem = exact.exact(case)
-    with mp.workdps(exact.DIGITS):
-        form = exact.closed_form(exact.scales(case), case.bound)
     floats, steps = from_floats(floatrun, case, faults)
     quotes = from_quotes(deskrun, case, quoting.EXACT, faults)
-    forms = from_quotes(deskrun, case, quoting.CLOSED_FORM, faults)
     with mp.workdps(DIGITS):
         return (steps, *floats_off(case, floats, theorem, faults),
-                *prices_off("exact quotes", case, quotes, theorem, faults),
-                *prices_off("closed form", case, forms, form, faults))
+                *prices_off("exact quotes", case, quotes, theorem, faults), *forms_off(case, deskrun, faults))
 
 
 def main():
@@ -161,7 +178,8 @@ def main():
         steps, *errors = measured(case, floatrun, deskrun, faults)
         absolute, relative, out = max(absolute, errors[0]), max(relative, errors[1]), out + errors[2:]
         shown = [mp.nstr(e, 3) for e in errors[:2]]
-        print("%-28s %6d  %-11s %-11s %.4f to %-10.4f %.4f to %.4f" % (case.name, steps, *shown, *errors[2:]))
+        forms = "%.4f to %.4f" % tuple(errors[4:]) if errors[4:] else "refused"
+        print("%-28s %6d  %-11s %-11s %.4f to %-10.4f %s" % (case.name, steps, *shown, *errors[2:4], forms))
     print("%d cases, %d faults; largest relative error %s (bound %s), absolute error %s units (bound %s), "
           "prices outside by %.4f to %.4f billionths (bounds %s and %s)"
           % (len(exact.CASES), faults.count, mp.nstr(relative, 3), RELATIVE_BOUND, mp.nstr(absolute, 3), ABSOLUTE_BOUND,

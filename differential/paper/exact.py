@@ -2,20 +2,20 @@
 
     python3 exact.py
 
-For a desk of the paper (sigma per root second, A, k, gamma, T - t in seconds and Q), every step is over
-mpmath's numbers of DIGITS digits:
+For a desk of the paper (sigma per root second, A, k, gamma, T - t in seconds, Q, and the drift mu of the price per
+second), every step is over mpmath's numbers of DIGITS digits:
 
-    alpha = k gamma sigma^2 / 2,  eta = A (1 + gamma/k)^-(1 + k/gamma)
-    M tridiagonal over q = -Q .. Q: alpha q^2 on the diagonal, -eta beside it
+    alpha = k gamma sigma^2 / 2,  beta = k mu,  eta = A (1 + gamma/k)^-(1 + k/gamma)
+    M tridiagonal over q = -Q .. Q: alpha q^2 - beta q on the diagonal, -eta beside it
     v = exp(-M (T - t)) 1
     bid's distance = ln(v_q / v_(q+1)) / k + ln(1 + gamma/k) / gamma, ask's with q - 1
 
 The paper's orders are of one unit. A desk of lots is the paper's with one lot as the unit: the price of a
-lot is the lot size times that of a unit, so sigma is multiplied by the lot size and k, per unit of price,
-is divided by it; gamma, per unit of money, stays, as A and the time do. The distances are then prices of
+lot is the lot size times that of a unit, so sigma and mu are multiplied by the lot size and k, per unit of
+price, is divided by it; gamma, per unit of money, stays, as A and the time do. The distances are then prices of
 a lot, and the lot size divides them in the end.
 
-The exponential is its power series. With s = alpha Q^2, sI - M has no negative entry, and exp(-M t) is
+The exponential is its power series. With s = alpha Q^2 + |beta| Q, sI - M has no negative entry, and exp(-M t) is
 exp(-s t) exp((sI - M) t): the factor drops out of every ratio, and what is left is a sum of positive
 terms, in which nothing cancels. Run as a program, this file holds the distances to those of longer
 numbers and of mpmath's own exponential of a matrix.
@@ -27,7 +27,7 @@ from mpmath import mp, mpf
 DIGITS = 50
 KEPT = 40
 
-Case = collections.namedtuple("Case", "name sigma a k gamma seconds bound lot")
+Case = collections.namedtuple("Case", "name sigma a k gamma seconds bound lot mu", defaults=["0"])
 CASES = [
     Case("the paper", "0.3", "0.9", "0.3", "0.01", "600", 30, "1"),
     Case("its last minute", "0.3", "0.9", "0.3", "0.01", "60", 30, "1"),
@@ -44,9 +44,17 @@ CASES = [
     Case("Q 100, two minutes", "0.3", "0.9", "0.3", "0.01", "120", 100, "1"),
     Case("lots of 0.25, five minutes", "0.8", "2.5", "0.7", "0.04", "300", 12, "0.25"),
     Case("sigma 5, Q 100, rebalanced", "5", "0.9", "0.3", "0.01", "10", 100, "1"),
+    Case("mu 0.001", "0.3", "0.9", "0.3", "0.01", "600", 30, "1", "0.001"),
+    Case("mu -0.001", "0.3", "0.9", "0.3", "0.01", "600", 30, "1", "-0.001"),
+    Case("mu 0.02", "0.3", "0.9", "0.3", "0.01", "600", 30, "1", "0.02"),
+    Case("mu 0.02, its last second", "0.3", "0.9", "0.3", "0.01", "1", 30, "1", "0.02"),
+    Case("mu 0.2, k 3, below zero", "0.05", "0.9", "3", "0.01", "60", 30, "1", "0.2"),
+    Case("mu -0.2, k 3, below zero", "0.05", "0.9", "3", "0.01", "60", 30, "1", "-0.2"),
+    Case("mu 0.1, lots of 0.25", "0.8", "2.5", "0.7", "0.04", "300", 12, "0.25", "0.1"),
+    Case("mu 0.2, sigma 5, Q 100", "5", "0.9", "0.3", "0.01", "10", 100, "1", "0.2"),
 ]
 
-Scales = collections.namedtuple("Scales", "lot k gamma a sigma2 alpha eta base tau")
+Scales = collections.namedtuple("Scales", "lot k gamma a sigma2 alpha beta eta base tau")
 
 
 def scales(case):
@@ -54,14 +62,15 @@ def scales(case):
     lot, a, gamma, seconds = map(mpf, (case.lot, case.a, case.gamma, case.seconds))
     k = mpf(case.k) / lot
     sigma2 = (mpf(case.sigma) * lot) ** 2
+    beta = k * (mpf(case.mu) * lot)
     eta = a * (1 + gamma / k) ** -(1 + k / gamma)
-    return Scales(lot, k, gamma, a, sigma2, k * gamma * sigma2 / 2, eta, mp.log(1 + gamma / k) / gamma, seconds)
+    return Scales(lot, k, gamma, a, sigma2, k * gamma * sigma2 / 2, beta, eta, mp.log(1 + gamma / k) / gamma, seconds)
 
 
 def vector(s, bound):
     """v, up to a factor that every entry has."""
-    shift = s.alpha * bound * bound
-    diagonal = [(shift - s.alpha * q * q) * s.tau for q in range(-bound, bound + 1)]
+    shift = s.alpha * bound * bound + abs(s.beta) * bound
+    diagonal = [(shift - s.alpha * q * q + s.beta * q) * s.tau for q in range(-bound, bound + 1)]
     beside = s.eta * s.tau
     term = [mpf(1)] * len(diagonal)
     total = list(term)
@@ -109,7 +118,8 @@ def by_matrix(case):
         n = 2 * case.bound + 1
         m = mp.matrix(n, n)
         for i in range(n):
-            m[i, i] = s.alpha * (i - case.bound) ** 2
+            q = i - case.bound
+            m[i, i] = s.alpha * q**2 - s.beta * q
             if i + 1 < n:
                 m[i, i + 1] = m[i + 1, i] = -s.eta
         v = mp.expm(m * -s.tau) * mp.ones(n, 1)
@@ -128,7 +138,7 @@ def main():
         far = apart(exact(case), exact(case, 2 * DIGITS))
         assert far < mpf(10) ** -KEPT, case
         print("%-28s against twice as many digits: %s" % (case.name, mp.nstr(far, 3)))
-        if case.bound <= 12 or case.name == "the paper":
+        if case.bound <= 12 or case.name in ("the paper", "mu 0.02"):
             far = apart(exact(case), by_matrix(case))
             assert far < mpf(10) ** -KEPT, case
             print("%-28s against the exponential of the matrix: %s" % ("", mp.nstr(far, 3)))

@@ -1,6 +1,6 @@
 """Compares deskrun's lines with the oracle's and with quoting.py's, and counts what the desks met.
 
-    python3 compare.py DESKS OURS ROUTED NOTES PLATFORM [MOST]
+    python3 compare.py DESKS OURS ROUTED NOTES PLATFORM STEPS [MOST]
 
 OURS is what deskrun wrote, ROUTED and NOTES what `oracle routed NOTES` did, and PLATFORM what `oracle
 platform` did. The status is 1 where a desk is not as document 01 expects:
@@ -22,18 +22,24 @@ may have other floats. Such desks are counted apart; a cap report's steps needed
 prices may, but floats that differ by more than a conversion makes are a fault.
 
 Beside that, each line of OURS has to be quoting.py's, byte for byte, but for runs of more than MOST
-(4,000 if it is not given) rows and steps, multiplied. PLATFORM is glft.rs as published: it is
-measured, not held to.
+(4,000 if it is not given) rows and steps, multiplied. Where there is a drift, which the Rust has not,
+that is the comparison, with runs of any length. STEPS is the library that is made of
+differential/sheet/steps.c. PLATFORM is glft.rs as published: it is measured, not held to.
 """
 import collections
 import fractions
+import os
 import struct
 import sys
 
 import quoting
 from quoting import BILLION, MOST_AMOUNT, MOST_TIME
 
-ENTRIES = ("exact", "wrapper", "closed form")
+sys.path.append(os.path.join(os.path.dirname(os.path.abspath(__file__)), "..", "sheet"))
+import fast  # noqa: E402
+
+ENTRIES = ("exact", "wrapper", "closed form", "configuration", "model")
+HELD = 20  # one of so many plans is taken by Python as well
 PLANS = {0: "no run", 1: "1 step", quoting.STEPS: "11,000 steps"}
 NEAR = 1000.0
 WITHIN = 3
@@ -134,14 +140,14 @@ class Prices:
 
 
 class Comparison:
-    def __init__(self, most):
-        self.most = most
+    def __init__(self, most, advance):
+        self.most, self.advance = most, advance
         self.counts = collections.Counter()
         self.design = collections.Counter()
         self.otherwise = collections.Counter()
         self.others = collections.Counter()
         self.routed, self.published = Prices(), Prices()
-        self.reckoned = self.exactly = 0
+        self.reckoned = self.exactly = self.drifts = 0
 
     def other_floats(self, desk, entry, ours, note):
         """Whether the Rust's floats are others than document 01's, and what is wrong with them, or None."""
@@ -196,8 +202,16 @@ class Comparison:
         self.reckoned += 1
         return None if ours == line else "quoting.py has " + line
 
-    def count(self, entry, ours, rebalancings):
-        name = ENTRIES[min(entry, 2)]
+    def drifting(self, desk, entry, ours, others):
+        """The faults of a line with a drift."""
+        before = self.advance.plans
+        line = quoting.line(desk, entry)
+        self.drifts += 1
+        self.count(entry, line, max(0, self.advance.plans - before - (line[0] != "C")), "drift, ")
+        return ["quoting.py has " + line] * (ours != line) + ["the Rust has a line"] * (set(others) != {"-"})
+
+    def count(self, entry, ours, rebalancings, kinds=""):
+        name = kinds + ENTRIES[entry]
         fields = ours.split()
         self.counts["%s: %s" % (name, kind(ours))] += 1
         if fields[0] == "Q":
@@ -226,6 +240,8 @@ class Comparison:
         if len(record) < quoting.RECORD.size:
             return [] if ours == routed == "R 6" else ["a record that is cut short"]
         desk, entry = quoting.unpack(record)
+        if desk.drift:
+            return self.drifting(desk, entry, ours, (routed, platform))
         note = note_of(note)
         self.count(entry, ours, note.rebalancings)
         self.measure(ours, routed, note, platform)
@@ -245,12 +261,15 @@ class Comparison:
         self.published.show("glft.rs as published")
         print("  calls of it that end otherwise than the routed one's: %d %s"
               % (sum(self.otherwise.values()), dict(self.otherwise) or ""))
-        print("lines that quoting.py reckoned again: %d" % self.reckoned)
+        print("lines that quoting.py reckoned again: %d, and %d with a drift" % (self.reckoned, self.drifts))
+        print("steps.c against quoting.py: one of %d of %d plans: %d differ"
+              % (HELD, self.advance.plans, self.advance.differing))
 
 
 def main():
-    paths, most = sys.argv[1:6], int(sys.argv[6]) if len(sys.argv) > 6 else 4000
-    comparison = Comparison(most)
+    paths, library, most = sys.argv[1:6], sys.argv[6], int(sys.argv[7]) if len(sys.argv) > 7 else 4000
+    advance = quoting.advance = fast.Advance(library, HELD)
+    comparison = Comparison(most, advance)
     differing = total = 0
     files = [open(p) for p in paths[1:]]
     with open(paths[0], "rb") as desks:
@@ -269,7 +288,7 @@ def main():
             differing += 1
     comparison.show()
     print("%d desks, %d differ" % (total, differing))
-    sys.exit(1 if differing else 0)
+    sys.exit(1 if differing or advance.differing else 0)
 
 
 if __name__ == "__main__":

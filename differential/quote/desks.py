@@ -2,24 +2,25 @@
 
     python3 desks.py SEED COUNT [MOST] > DESKS
 
-A record is deskrun's: twelve words of eight bytes, lowest first. After COUNT of them comes one that
+A record is deskrun's: thirteen words of eight bytes, lowest first. After COUNT of them comes one that
 is cut short. MOST, if it is given, is the largest bound of a desk that is not refused for it, and
 then no run has many steps. A seed gives the same desks on every machine: no function of the
 platform's C library takes part but the square root, which IEEE 754 fixes. Each kind below aims at
-one way a call can go; most desks take few steps.
+one way a call can go; most desks take few steps. A third of the desks gets a drift.
 """
 import math
 import random
 import sys
 
 import quoting
-from quoting import BILLION, CLOSED_FORM, EXACT, MOST_AMOUNT, MOST_TIME, WRAPPER, Desk
+from quoting import (
+    BILLION, CLOSED_FORM, CONFIGURATION, EXACT, MODEL, MOST_AMOUNT, MOST_TIME, STORED, WRAPPER, Desk)
 
 ONE = BILLION
 YEAR = 31536000.0
 CAP = 11000
 WORD = 2**64
-AMOUNTS = quoting.SIGNED
+AMOUNTS = [name for name in quoting.SIGNED if name in quoting.STORED]
 POSITIVE = ("risk_aversion", "k", "a", "lot_size")
 
 
@@ -60,7 +61,10 @@ class Desks:
         """A number of steps, few where few are wanted."""
         return min(high, 40) * self.unit() if self.brief else self.whole(low, high) - self.unit()
 
-    def entry(self):
+    def entry(self, desk):
+        """One that quotes; with a drift, of which the closed form has no quotes, one that does not as well."""
+        if desk.drift:
+            return self.pick(*[EXACT] * 6, WRAPPER, WRAPPER, CLOSED_FORM, self.pick(CONFIGURATION, MODEL))
         return self.pick(EXACT, EXACT, EXACT, EXACT, WRAPPER, WRAPPER, CLOSED_FORM, CLOSED_FORM, CLOSED_FORM)
 
     # ---- desks
@@ -90,12 +94,17 @@ class Desks:
         q = max(-(MOST_AMOUNT // desk.lot_size), min(MOST_AMOUNT // desk.lot_size, q))
         return desk._replace(holding=q * desk.lot_size)
 
+    def norm(self, desk):
+        model, _ = quoting.model_of(desk)
+
+        def row(q, factors):
+            return (model.alpha * q + abs(model.beta)) * q + (2.0 + factors) * model.eta
+
+        return max(row(model.bound, 1.0), row(model.bound - 1, 2.0))
+
     def timed(self, desk, steps):
         """With the time that so many steps take."""
-        model, _ = quoting.model_of(desk)
-        q = float(model.bound)
-        norm = max(model.alpha * q * q + 3.0 * model.eta, model.alpha * (q - 1.0) * (q - 1.0) + 4.0 * model.eta)
-        tau = min(float(MOST_TIME // 2), 2000.0 * steps / norm)
+        tau = min(float(MOST_TIME // 2), 2000.0 * steps / self.norm(desk))
         current = self.time()
         return desk._replace(terminal=current + max(1, int(tau)), current=current)
 
@@ -291,7 +300,7 @@ class Desks:
 
     def wild(self):
         """Any amounts."""
-        desk = Desk(*(self.amount(-9, 6) for _ in Desk._fields))
+        desk = Desk(*(self.amount(-9, 6) for _ in STORED))
         desk = desk._replace(bound=self.bound(), holding=0, terminal=1, current=0, min_spread=self.pick(0, desk.min_spread))
         return self.held(self.timed(desk, self.steps(1, 60)))
 
@@ -308,6 +317,35 @@ class Desks:
         numbers = {name: self.any_amount() for name in AMOUNTS if self.chance(0.3)}
         times = {name: self.any_time() for name in ("terminal", "current") if self.chance(0.3)}
         return self.held(self.plain())._replace(**numbers, **times)
+
+
+    # ---- the drift
+    def drift(self, desk):
+        """A drift of any size, or about as large as the diagonal, as alpha's part of it or as eta's."""
+        sign = self.pick(1, -1)
+        try:
+            model, _ = quoting.model_of(desk._replace(drift=0))
+        except quoting.Refused:
+            model = None
+        if model is None or self.chance(0.4):
+            return sign * self.pick(1, self.amount(-9, 6), self.amount(-9, 6), self.amount(0, 6), MOST_AMOUNT)
+        size = self.pick(model.alpha * model.bound, model.eta / model.bound, model.eta)
+        beta = size * (1.0 + self.unit()) * 2.0 ** self.pick(self.whole(-1, 1), self.whole(-20, 6))
+        return sign * max(1, int(min(MOST_AMOUNT, beta / model.k * YEAR * BILLION)))
+
+    def drifted(self, desk):
+        """The desk with a drift, most often in a time of about as many steps; a few drifts are beyond the limit."""
+        if self.chance(0.04):
+            return desk._replace(drift=self.pick(MOST_AMOUNT + 1, -MOST_AMOUNT - 1, 2**63 - 1, -(2**63)))
+        leant = desk._replace(drift=self.drift(desk))
+        left = desk.terminal - desk.current
+        if not 0 < left < MOST_TIME or self.chance(0.3):
+            return leant
+        try:
+            left = max(1, int(left * (self.norm(desk) / self.norm(leant))))
+        except quoting.Refused:
+            return leant
+        return leant._replace(terminal=leant.current + left)
 
 
 # of a thousand desks, so many of each kind
@@ -349,8 +387,10 @@ def main():
     desks = Desks(seed, *most)
     for _ in range(count):
         desk = drawn(desks)
-        sys.stdout.buffer.write(quoting.pack(desk, desks.entry()))
-    sys.stdout.buffer.write(quoting.pack(desks.plain(), EXACT)[: desks.whole(1, 95)])
+        if desks.chance(1 / 3):
+            desk = desks.drifted(desk)
+        sys.stdout.buffer.write(quoting.pack(desk, desks.entry(desk)))
+    sys.stdout.buffer.write(quoting.pack(desks.plain(), EXACT)[: desks.whole(1, quoting.RECORD.size - 1)])
 
 
 if __name__ == "__main__":

@@ -1,4 +1,4 @@
-"""Writes the listed desks of the gate: document 01's cases, and a sweep of the refusals.
+"""Writes the listed desks of the gate: document 01's cases, a sweep of the refusals, and desks with a drift.
 
     python3 listed.py > DESKS
     python3 listed.py names
@@ -6,7 +6,8 @@
 A case is a name, what it changes of the usual desk, and, where document 01's text tells the answer
 of `exact_quotes`, that: a refusal's number, or bid and ask in billionths, and the steps where there
 are some. A fourth part, where there is one, is the answer of `closed_form_quotes`. quoting.py is held
-to both. Distances go up to the next billionth, as change request 5 has it. Each desk is written five
+to both. Distances go up to the next billionth, as change request 5 has it, and the drift is change request
+7's. Each desk is written five
 times, once for each entry; with `names`, a line shows a case's name and the five answers by
 quoting.py. Nothing of the library takes part.
 """
@@ -311,6 +312,63 @@ def form_limits():
     yield "a form's ask at the next float below", dict(late, volatility=7147609941041308), 13, 13
 
 
+# ---- change request 7
+def drift_limits():
+    # with no time left a drift moves nothing; the closed form has no quotes with one
+    for size in (1, ONE, LIMIT):
+        yield "drift %d" % size, {"drift": size}, around(BASE), 22
+        yield "drift minus %d" % size, {"drift": -size}, around(BASE), 22
+    for size in (LIMIT + 1, -LIMIT - 1, LARGEST, LEAST):
+        yield "drift %d" % size, {"drift": size}, 2, 2
+
+
+def drift_refusals():
+    drift = {"drift": -ONE}
+    yield "drift and mid one above the limit", dict(drift, mid=LIMIT + 1), 2, 2
+    yield "drift and current one above the limit", dict(drift, current=LAST + 1), 2, 22
+    yield "drift one above the limit, and bound 0", {"drift": LIMIT + 1, "bound": 0}, 2, 2
+    yield "drift one above the limit, and mid 0", {"drift": LIMIT + 1, "mid": 0}, 2, 2
+    yield "drift and bound 0", dict(drift, bound=0), 1, 1
+    yield "drift and min spread below 0", dict(drift, min_spread=-1), 1, 1
+    yield "drift, bound 0 and mid 0", dict(drift, bound=0, mid=0), 1, 1
+    yield "drift and mid 0", dict(drift, mid=0), 3, 22
+    yield "drift and volatility 0", dict(drift, volatility=0), 3, 22
+    yield "drift and half a lot", dict(drift, holding=ONE // 2), 4, 22
+    yield "drift and 2 lots at bound 1", dict(drift, holding=2 * ONE), 4, 22
+    yield "drift and 13", dict(drift, **both(1)), 13, 22
+    yield "drift and 14", dict(drift, mid=ONE // 2), 14, 22
+    yield "drift and the cap", dict(drift, terminal=10**9, current=0), CAP, 22
+
+
+def drift_caps():
+    # A quarter of a fill a second and a drift of 3,942,000: beta is 1/8, and the end row, 3/4 + 1/8, is below the
+    # centre's 1. With 9,000,000 it is 0.285, and the end row's sum 1.035
+    yield "drift 3,942,000, 11,000 steps", {"drift": 3942 * 1000 * ONE, "terminal": 22000000, "current": 0}, None
+    yield "one millisecond more", {"drift": 3942 * 1000 * ONE, "terminal": 22000001, "current": 0}, CAP
+    yield "drift minus 9,000,000 there", {"drift": -LIMIT, "terminal": 22000000, "current": 0}, CAP
+    yield "drift and a rebalancing", STEEP._replace(drift=40000 * ONE), None
+    yield "drift and a rebalancing, the other way", STEEP._replace(drift=-40000 * ONE), None
+    yield "drift and over the cap after a rebalancing", STEEP._replace(drift=40000 * ONE, terminal=30000), CAP
+
+
+def drift_runs():
+    # the largest beta is 0.285 a second, and 2.85 with k 10, where one side's entries are below zero
+    for size in (LIMIT, -LIMIT, ONE, -1):
+        for lots in (-2, 0, 1):
+            desk = {"bound": 2, "holding": lots * ONE, "current": 0, "drift": size}
+            yield "drift %d, %d lots" % (size, lots), desk, None
+    leant = {"k": 10 * ONE, "bound": 3, "current": 0, "terminal": 3000}
+    for size in (LIMIT, -LIMIT):
+        for lots in (-1, 3):
+            yield "k 10, drift %d, %d lots" % (size, lots), dict(leant, drift=size, holding=lots * ONE), None
+    odd = {"k": 314159265, "drift": 271828182845904, "volatility": 5000 * ONE, "bound": 4, "current": 0, "terminal": 9000}
+    yield "odd numbers", dict(odd, holding=ONE), None
+    yield "odd numbers, mirrored", dict(odd, holding=-ONE, drift=-odd["drift"]), None
+    yield "the example with a drift", EXAMPLE._replace(current=590000, drift=100000 * ONE, bound=8), None
+    yield "the example with a drift, mirrored", EXAMPLE._replace(current=590000, drift=-100000 * ONE, bound=8), None
+    yield "a min spread and a drift", dict(odd, min_spread=9 * ONE), None
+
+
 def runs():
     yield "one millisecond left", {"current": 999}, None
     yield "one second left", {"current": 0}, None
@@ -323,7 +381,8 @@ def runs():
 
 TABLES = (document, at_the_limit, beyond_the_limit, configurations, markets, fractions, bounds, caps, too_far,
           widened_too_far, one_side_too_far, crossed, few_billionths, same_price, two_faults, prices, halfway, outward,
-          negative, negative_forms, distance_limits, form_limits, runs)
+          negative, negative_forms, distance_limits, form_limits, runs, drift_limits, drift_refusals, drift_caps,
+          drift_runs)
 
 
 def hold(name, line, told, steps=()):

@@ -8,7 +8,7 @@
 //! error's kind; where one kind has several, the place that it came from decides. NOTES gets a line a
 //! record: the rebalancings, the bits of the two distances (`-` if absent, `.` if there are none), of the
 //! model's seven floats (`.` if there is no model) and of the time left (`.` in the closed form too), and
-//! the words of glft.rs where it fails.
+//! the words of glft.rs where it fails. glft.rs has no drift: a record with one gets the line `-`.
 #![allow(dead_code, unexpected_cfgs)]
 
 use std::cell::Cell;
@@ -23,7 +23,7 @@ mod elementary;
 
 include!("around.rs");
 
-const RECORD: usize = 96;
+const RECORD: usize = 104;
 
 /// The note of a record that glft.rs is not asked about, but for its words.
 const NOTHING: &str = "0 . . . . . . . . . .";
@@ -85,7 +85,7 @@ macro_rules! ask {
 
 /// A record's words.
 struct Desk {
-    words: [u64; 12],
+    words: [u64; 13],
     bound: u32,
 }
 
@@ -176,6 +176,9 @@ fn note_of(answer: &Answer, rebalancings: u32, inside: &Inside) -> String {
 fn answer(routed: bool, record: &[u8]) -> (String, String) {
     if record.len() < RECORD {
         return ("R 6".to_string(), format!("{NOTHING} the record ends inside itself"));
+    }
+    if record[RECORD - 8..] != [0; 8] {
+        return ("-".to_string(), format!("{NOTHING} a drift"));
     }
     let Some(desk) = Desk::new(record) else {
         return ("R 2".to_string(), format!("{NOTHING} the bound has no u32"));

@@ -1,4 +1,4 @@
-"""The quotes of document 01, modules 2 to 5, reckoned apart from the library.
+"""The quotes of document 01, modules 2 to 5, with change request 7's drift, reckoned apart from the library.
 
     python3 quoting.py < DESKS > LINES
 
@@ -24,11 +24,12 @@ BILLION = 10**9
 STEPS = 11000
 TERMS = 100
 
-FIELDS = "mid holding volatility risk_aversion k a bound lot_size terminal current min_spread"
-SIGNED = "mid holding volatility risk_aversion k a lot_size min_spread".split()
-Desk = collections.namedtuple("Desk", FIELDS)
-Model = collections.namedtuple("Model", "k gamma a sigma2 alpha eta base bound")
-RECORD = struct.Struct("<12Q")
+# the numbers that a sheet stores; a stored desk has no drift
+STORED = "mid holding volatility risk_aversion k a bound lot_size terminal current min_spread".split()
+SIGNED = "mid holding volatility risk_aversion k a lot_size min_spread drift".split()
+Desk = collections.namedtuple("Desk", STORED + ["drift"], defaults=[0])
+Model = collections.namedtuple("Model", "k gamma a sigma2 alpha eta base beta bound")
+RECORD = struct.Struct("<13Q")
 EXACT, WRAPPER, CLOSED_FORM, CONFIGURATION, MODEL = range(5)
 
 
@@ -97,7 +98,7 @@ def series(weights, diagonal, eta_dt, left, right):
 
 # ---- module 3: plan and value vector
 def plan(tau, diagonal, eta, left, right, budget):
-    norm = max(d + eta * (lf + rf) for d, lf, rf in zip(diagonal, left, right))
+    norm = max(abs(d) + eta * (lf + rf) for d, lf, rf in zip(diagonal, left, right))
     need(positive(tau * norm), 11)
     steps = max(elementary.ceil(tau * norm / 2.0), 1.0)
     if steps > budget:
@@ -117,13 +118,14 @@ def advance(weights, scaled, eta_dt, left, right, steps):
     return weights, steps
 
 
-def value_vector(alpha, eta, bound, tau, most=math.inf):
+def value_vector(alpha, beta, eta, bound, tau, most=math.inf):
     """Weights, offsets and steps spent."""
     lots = [float(q) for q in range(-bound, bound + 1)]
     weights, offsets = [1.0] * len(lots), [0.0] * len(lots)
     if tau <= 0.0:
         return weights, offsets, 0
-    diagonal = [(alpha * q) * q + 2.0 * eta for q in lots]
+    diagonal = [((alpha * q) * q - beta * q) + 2.0 * eta for q in lots]
+    need(all(map(math.isfinite, diagonal)), 11)
     left, right = factors(offsets)
     budget = STEPS
     steps, dt = plan(tau, diagonal, eta, left, right, budget)
@@ -160,10 +162,11 @@ def check_configuration(desk):
     need(1 <= desk.bound <= MOST_LOTS and desk.terminal != 0 and desk.min_spread >= 0, 1)
 
 
-def model_of(desk, current=0):
-    """The model and the holding in lots. The closed form has no current time."""
+def model_of(desk, current=0, closed_form=False):
+    """The model and the holding in lots. The closed form has no current time, and no drift."""
     check_limits(desk, current)
     check_configuration(desk)
+    need(desk.drift == 0 or not closed_form, 22)
     need(desk.mid > 0 and desk.volatility > 0, 3)
     need(desk.holding % desk.lot_size == 0, 4)
     q = desk.holding // desk.lot_size
@@ -175,8 +178,9 @@ def model_of(desk, current=0):
     need(log is not None, 5)
     decay = elementary.exp(-(1.0 + k / gamma) * log)
     need(decay is not None, 5)
-    model = Model(k, gamma, a, sigma2, k * gamma * sigma2 / 2.0, a * decay, log / gamma, desk.bound)
-    need(all(map(positive, model[:7])), 5)
+    beta = k * (amount(desk.drift) / 31536000.0)
+    model = Model(k, gamma, a, sigma2, k * gamma * sigma2 / 2.0, a * decay, log / gamma, beta, desk.bound)
+    need(all(map(positive, model[:7])) and math.isfinite(beta), 5)
     return model, q
 
 
@@ -216,13 +220,13 @@ def closed_form_distances(model, q):
                  lambda: model.base - (2.0 * q - 1.0) / 2.0 * c)
 
 
-def float_entry(k, alpha, eta, base, bound, tau, q):
-    """The distances and the steps."""
-    need(all(map(positive, (k, alpha, eta, base))) and math.isfinite(tau), 5)
+def float_entry(k, alpha, beta, eta, base, bound, tau, q):
+    """The distances, and the vector with its steps."""
+    need(all(map(positive, (k, alpha, eta, base))) and math.isfinite(beta) and math.isfinite(tau), 5)
     need(1 <= bound <= MOST_LOTS, 1)
     need(abs(q) <= bound, 4)
-    weights, offsets, steps = value_vector(alpha, eta, bound, tau)
-    return exact_distances(weights, offsets, k, base, q), steps
+    weights, offsets, steps = value_vector(alpha, beta, eta, bound, tau)
+    return exact_distances(weights, offsets, k, base, q), (weights, offsets, steps)
 
 
 # ---- module 5: quotes
@@ -249,24 +253,26 @@ def build_quotes(desk, distances):
 def exact_quotes(desk, most=math.inf):
     """The two prices and the steps."""
     model, q = model_of(desk, desk.current)
-    weights, offsets, steps = value_vector(model.alpha, model.eta, model.bound, time_left(desk), most)
+    weights, offsets, steps = value_vector(model.alpha, model.beta, model.eta, model.bound, time_left(desk), most)
     return build_quotes(desk, exact_distances(weights, offsets, model.k, model.base, q)), steps
 
 
 def closed_form_quotes(desk):
-    model, q = model_of(desk)
+    model, q = model_of(desk, closed_form=True)
     return build_quotes(desk, closed_form_distances(model, q))
 
 
 # ---- deskrun's records and lines
 def pack(desk, entry):
-    return RECORD.pack(*(x % 2**64 for x in desk), entry)
+    """A record: the stored numbers, the entry, and the drift."""
+    *stored, drift = (x % 2**64 for x in desk)
+    return RECORD.pack(*stored, entry, drift)
 
 
 def unpack(record):
-    words = RECORD.unpack(record)
-    numbers = [w - (w >> 63 << 64) if name in SIGNED else w for name, w in zip(Desk._fields, words)]
-    return Desk(*numbers), words[11]
+    *stored, entry, drift = RECORD.unpack(record)
+    words = zip(Desk._fields, [*stored, drift])
+    return Desk(*(w - (w >> 63 << 64) if name in SIGNED else w for name, w in words)), entry
 
 
 def prices(bid, ask):
@@ -287,7 +293,7 @@ def line(desk, entry, most=math.inf):
             return "P"
         if entry == MODEL:
             model, q = model_of(desk)
-            return "M %s %d %d" % (" ".join("%016x" % elementary.bits_of(x) for x in model[:7]), model.bound, q)
+            return "M %s %d %d" % (" ".join("%016x" % elementary.bits_of(x) for x in model[:8]), model.bound, q)
         if entry == CLOSED_FORM:
             return prices(*closed_form_quotes(desk))
         (bid, ask), steps = exact_quotes(desk, most)
@@ -300,8 +306,8 @@ def line(desk, entry, most=math.inf):
         return "R %d" % refusal.number
 
 
-def records(file):
-    while record := file.read(RECORD.size):
+def records(file, size=RECORD.size):
+    while record := file.read(size):
         yield record
 
 

@@ -51,13 +51,13 @@ def grouped(text):
 
 
 def words(desk):
-    return [plain(x) if name in quoting.SIGNED else str(x) for name, x in zip(Desk._fields, desk)]
+    return [plain(x) if name in quoting.SIGNED else str(x) for name, x in zip(quoting.STORED, desk)]
 
 
 def described(desk, entry=EXACT):
     """In what a desk is not the usual one."""
     changed = {}
-    for name, text in zip(Desk._fields, words(desk)):
+    for name, text in zip(quoting.STORED, words(desk)):
         if getattr(desk, name) != getattr(USUAL, name):
             value = grouped(text) + " ms" * (name in ("terminal", "current"))
             changed.setdefault(value, []).append(SPOKEN.get(name, name))
@@ -97,7 +97,8 @@ class Asked:
         return self.lines("desk", quoting.pack(desk, entry))[0].split()
 
     def float_entry(self, *record):
-        return self.lines("float", struct.pack("<4dQdq", *record))[0].split()
+        """The answer to a record with no drift."""
+        return self.lines("float", struct.pack("<4dQdqd", *record, 0.0))[0].split()
 
     def billionths(self, distance):
         """The count that a distance becomes."""

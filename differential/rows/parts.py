@@ -58,7 +58,8 @@ def before():
     found = {}
     with in_one_part():
         model, _ = quoting.model_of(LONG, LONG.current)
-        weights, offsets, _ = quoting.value_vector(model.alpha, model.eta, LONG.bound, quoting.time_left(LONG))
+        tau = quoting.time_left(LONG)
+        weights, offsets, _ = quoting.value_vector(model.alpha, model.beta, model.eta, LONG.bound, tau)
         for q in range(-LONG.bound, LONG.bound + 1):
             sides = quoting.exact_distances(weights, offsets, model.k, model.base, q)
             found[q] = [None if d is None else quoting.billionths(d) for d in sides]

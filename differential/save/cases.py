@@ -15,12 +15,12 @@ import saving  # first: it says where sheet and quoting are
 
 import quoting
 from quoting import BILLION as ONE
-from quoting import MOST_AMOUNT, MOST_TIME, Desk
+from quoting import MOST_AMOUNT, MOST_TIME, STORED, Desk
 from sheet import MOST_BOUND, packed
 
 # a record of one byte for each number: a holding of 1 is stored as 2
 PLAIN = Desk(1, 1, 3, 4, 5, 6, 7, 8, 9, 10, 11)
-BYTES = dict(zip(Desk._fields, "01 02 03 04 05 06 07 08 09 0A 0B".split()))
+BYTES = dict(zip(STORED, "01 02 03 04 05 06 07 08 09 0A 0B".split()))
 # 128^k is k groups of 0 and a 1, and 128^k - 1 is k groups of 127
 EDGES = [(0, "00"), (1, "01"), (2, "02"), (129, "8101"), (1000, "E807"), (16385, "818001"), (ONE, "8094EBDC03")]
 EDGES += [(128**k - 1, "FF" * (k - 1) + "7F") for k in range(1, 8)]
@@ -29,7 +29,7 @@ EDGES += [(128**k, "80" * k + "01") for k in range(1, 8)]
 LIMIT, BELOW_LIMIT = "8080EAD7BCAEFE0F", "FFFFE9D7BCAEFE0F"
 HOLDING, BELOW_ZERO = "8080D4AFF9DCFC1F", "FFFFD3AFF9DCFC1F"
 BOUND = "FFFFFFFF0F"
-AMOUNTS = [name for name in quoting.SIGNED if name != "holding"]
+AMOUNTS = [name for name in quoting.SIGNED if name in STORED and name != "holding"]
 TIMES = ["terminal", "current"]
 LARGEST, LEAST, WORD = 2**63 - 1, -(2**63), 2**64 - 1
 LENGTHS = (0, 1, 8, 87, 88, 89, 127, 128, 129, 255, 256, 2**32, 2**32 + 8, 2**63, WORD)
@@ -67,7 +67,7 @@ def worked():
 
 def groups():
     """Each number at the edges of the counts of groups. A holding of -(n + 1) / 2 is stored as n, if that is odd."""
-    for name in Desk._fields:
+    for name in STORED:
         for number, told in EDGES:
             if name == "bound" and number > MOST_BOUND:
                 continue
@@ -150,7 +150,7 @@ def listed():
     kinds = (worked, groups, limits, beyond, no_call, whole, lengths, both)
     cases = [case for kind in kinds for case in kind()]
     told = [line for _, _, line in cases]
-    records = [quoting.pack(desk, length) for desk, length, _ in cases]
+    records = [saving.pack(desk, length) for desk, length, _ in cases]
     return b"".join(records) + records[0][:95], told + ["R 6\n"]
 
 

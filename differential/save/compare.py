@@ -19,8 +19,9 @@ import saving  # first: it says where sheet and quoting are
 
 import sheet
 from pieces import PIECES, SIZES, written
-from quoting import RECORD, Desk, unpack
+from quoting import Desk
 from records import Records
+from saving import RECORD, unpack
 
 sys.path.insert(0, os.path.dirname(os.path.abspath(sheet.__file__)))  # for its compare.py, not the quotes'
 import compare  # noqa: E402
@@ -65,7 +66,7 @@ def met(record, line):
     """The names under which a record of saverun is counted."""
     fields = line.split()
     yield "W" if fields[0] == "W" else " ".join(fields[:2])
-    if len(record) < RECORD.size:
+    if len(record) < RECORD:
         return
     desk, length = unpack(record)
     if fields[0] == "W":
@@ -107,7 +108,7 @@ class Comparison:
         while done < self.count:
             records = [made.record() for _ in range(next(runs))]
             if made.rng.random() < 0.5:
-                records.append(made.record()[: made.between(1, RECORD.size - 1)])
+                records.append(made.record()[: made.between(1, RECORD - 1)])
             told = saving.lines(io.BytesIO(b"".join(records)))
             ours = written(program, b"".join(records), made.rng.choice(SIZES))
             if ours != "".join(told).encode():

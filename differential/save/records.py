@@ -11,7 +11,7 @@ import sys
 import saving  # first: it says where sheet and quoting are
 
 import quoting
-from quoting import MOST_AMOUNT, MOST_TIME, Desk
+from quoting import MOST_AMOUNT, MOST_TIME, STORED, Desk
 from sheet import MOST_BOUND, groups
 
 LIMITS = Desk(*[MOST_AMOUNT] * 11)._replace(bound=MOST_BOUND, terminal=MOST_TIME, current=MOST_TIME)
@@ -61,22 +61,22 @@ class Records:
     def good(self):
         """Any numbers within their limits, or all of one count of groups."""
         count = self.rng.choice((None, None, None, self.rng.randint(1, 8)))
-        return Desk(*(self.stored(limit, count) for limit in LIMITS))._replace(holding=self.holding(count))
+        return Desk(*(self.stored(limit, count) for limit in LIMITS[:len(STORED)]))._replace(holding=self.holding(count))
 
     def bad(self):
         """One, two or three numbers that are refused."""
-        names = self.rng.sample(Desk._fields, self.rng.choice((1, 1, 1, 2, 3)))
+        names = self.rng.sample(STORED, self.rng.choice((1, 1, 1, 2, 3)))
         return self.good()._replace(**{name: self.refused(name) for name in names})
 
     def words(self):
         """Any words."""
-        return Desk(*(self.rng.getrandbits(self.rng.randint(1, 64)) for _ in Desk._fields))
+        return Desk(*(self.rng.getrandbits(self.rng.randint(1, 64)) for _ in STORED))
 
     def desk(self):
         return self.rng.choices((Records.good, Records.bad, Records.words), (70, 25, 5))[0](self)
 
     def record(self):
-        return quoting.pack(self.desk(), self.length())
+        return saving.pack(self.desk(), self.length())
 
 
 def main():

@@ -4,21 +4,25 @@
     python3 saving.py SHEET > BYTES
     python3 saving.py --sheets < SHEETS > LINES
 
-RECORDS and LINES are what saverun reads and writes. SHEET is a file with one sheet, and BYTES are what
-resave writes for it. SHEETS is what sheetrun reads; each of its sheets gives a line, what resave
-writes for it in upper-case hex. Groups and the reading of a sheet are those of differential/sheet/sheet.py.
+RECORDS and LINES are what saverun reads and writes: deskrun's records without a drift. SHEET is a file
+with one sheet, and BYTES are what resave writes for it. SHEETS is what sheetrun reads; each of its sheets
+gives a line, what resave writes for it in upper-case hex. Groups and the reading of a sheet are those of
+differential/sheet/sheet.py.
 """
 import os
 import sys
 
 sys.path.insert(0, os.path.join(os.path.dirname(os.path.abspath(__file__)), "..", "sheet"))
 import sheet  # noqa: E402
-from quoting import MOST_AMOUNT, MOST_TIME, RECORD, SIGNED, Refused, need, records, unpack  # noqa: E402
+import quoting  # noqa: E402
+from quoting import MOST_AMOUNT, MOST_TIME, SIGNED, Refused, need  # noqa: E402
 from sheet import MOST_BOUND, MOST_BYTES, packed  # noqa: E402
 
 LEAST_ROOM = 88  # eleven numbers of eight groups
 MOST_ROOM = 128
 BEFORE = b"\xa5"  # every byte of saverun's buffers before a call
+NO_DRIFT = bytes(8)
+RECORD = quoting.RECORD.size - len(NO_DRIFT)
 
 
 def within(desk):
@@ -38,6 +42,15 @@ def saved(desk, buffer):
 
 
 # ---- saverun
+def pack(desk, length):
+    """A record: the stored numbers and the buffer's length."""
+    return quoting.pack(desk, length)[:RECORD]
+
+
+def unpack(record):
+    return quoting.unpack(record + NO_DRIFT)
+
+
 def line(desk, length):
     if desk.bound > MOST_BOUND:
         return "R 2\n"
@@ -51,7 +64,7 @@ def line(desk, length):
 
 
 def lines(file):
-    return ["R 6\n" if len(record) < RECORD.size else line(*unpack(record)) for record in records(file)]
+    return ["R 6\n" if len(record) < RECORD else line(*unpack(record)) for record in quoting.records(file, RECORD)]
 
 
 # ---- resave

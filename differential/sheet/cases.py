@@ -10,7 +10,7 @@ import sys
 
 import sheet
 from quoting import BILLION as ONE
-from quoting import MOST_AMOUNT, MOST_TIME, Desk
+from quoting import MOST_AMOUNT, MOST_TIME, STORED, Desk
 from sheet import MOST_BYTES, groups, packed
 
 USUAL = Desk(100 * ONE, 0, ONE, ONE, ONE, ONE, 1, ONE, 1000, 1000, 0)
@@ -30,7 +30,7 @@ def changed(**changes):
 
 def numbers(changes):
     """The usual record, with other bytes for the numbers at some places."""
-    fields = [groups(2 * x if name == "holding" else x) for name, x in zip(Desk._fields, USUAL)]
+    fields = [groups(2 * x if name == "holding" else x) for name, x in zip(STORED, USUAL)]
     for place, number in changes.items():
         fields[place] = number
     return b"".join(fields)

@@ -1,9 +1,9 @@
 """A plan's steps by steps.c, in place of quoting.advance, and held to it.
 
 `quoting.advance = Advance(LIBRARY)` makes long runs quick. Of every plan that it takes, the first steps
-are taken by quoting.advance as well, and the weights have to agree bit for bit; `hold_all` asks the
-same of seeded plans, most of which no desk leads to. `plans` counts the plans that were taken, and
-`differing` those of both sorts that do not agree.
+are taken by quoting.advance as well, and the weights have to agree bit for bit, or those of one of so
+many plans, where a number is given; `hold_all` asks the same of seeded plans, most of which no desk
+leads to. `plans` counts the plans that were taken, and `differing` those of both sorts that do not agree.
 """
 import array
 import ctypes
@@ -30,8 +30,9 @@ def end(advance, plan):
 
 
 class Advance:
-    def __init__(self, library):
+    def __init__(self, library, every=1):
         self.steps = ctypes.CDLL(library).advance
+        self.every = every
         self.python = quoting.advance
         self.plans = self.differing = 0
 
@@ -63,7 +64,8 @@ class Advance:
     def __call__(self, *plan):
         self.plans += 1
         *state, steps = plan
-        self.hold((*state, min(steps, max(1, HELD // len(state[0])))))
+        if self.plans % self.every == 0:
+            self.hold((*state, min(steps, max(1, HELD // len(state[0])))))
         return self.fast(*plan)
 
 
@@ -95,8 +97,9 @@ class Plans:
             offsets.append(offsets[-1] + widest * (2.0 * self.rng.random() - 1.0))
         left, right = quoting.factors(offsets)
         alpha, eta = self.size(-20, 10), self.size(-20, 10)
-        diagonal = [alpha * float(q * q) + 2.0 * eta for q in range(-(rows // 2), rows // 2 + 1)]
-        norm = max(d + eta * (lf + rf) for d, lf, rf in zip(diagonal, left, right))
+        beta = self.rng.choice((0.0, alpha, -alpha)) * rows * self.size(-4, 4)
+        diagonal = [alpha * q * q - beta * q + 2.0 * eta for q in range(-(rows // 2), rows // 2 + 1)]
+        norm = max(abs(d) + eta * (lf + rf) for d, lf, rf in zip(diagonal, left, right))
         dt = 2.0 / norm * self.rng.choice((1.0, self.rng.random()))
         weights = self.sizes(rows, *self.rng.choice(((-1, 0), (-30, 0), (-664, 0))))
         steps = self.rng.randint(1, self.rng.choice((1, 4, 4 + 2000 // rows)))

@@ -12,7 +12,7 @@ import sys
 
 sys.path.insert(0, os.path.join(os.path.dirname(os.path.abspath(__file__)), "..", "quote"))
 import quoting  # noqa: E402
-from quoting import BILLION, Desk, OverCap, Refused, elementary, need  # noqa: E402
+from quoting import BILLION, STORED, Desk, OverCap, Refused, elementary, need  # noqa: E402
 
 MOST_BYTES = 65536
 MOST_GROUPS = 8
@@ -36,7 +36,7 @@ def number(sheet, at):
 def record(sheet, at):
     """A desk and the next place."""
     numbers = []
-    for _ in Desk._fields:
+    for _ in STORED:
         value, at = number(sheet, at)
         numbers.append(value)
     desk = Desk(*numbers)
@@ -55,9 +55,9 @@ def groups(value):
 
 
 def packed(desk):
-    """A record's bytes."""
+    """A record's bytes. There is no drift in it."""
     h = desk.holding
-    return b"".join(map(groups, desk._replace(holding=2 * h if h >= 0 else -2 * h - 1)))
+    return b"".join(map(groups, desk._replace(holding=2 * h if h >= 0 else -2 * h - 1)[:len(STORED)]))
 
 
 # ---- lines

@@ -2,11 +2,12 @@
 
     python3 cases.py SEED COUNT [MOST] > RECORDS
 
-A record is 56 bytes: the bits of k, alpha, eta and base, the bound, the bits of tau, and q, each a
-word of eight bytes, lowest first. After COUNT of them comes one that is cut short. MOST, 200 if it
-is not given, is the largest bound of a record that is not refused for it. A seed gives the same
-records on every machine: no function of the platform's C library takes part. Each kind below aims
-at one way a call can go.
+A record is 64 bytes: the bits of k, alpha, eta and base, the bound, the bits of tau, q, and the bits of
+beta, each a word of eight bytes, lowest first. After COUNT of them comes one that is cut short. MOST,
+200 if it is not given, is the largest bound of a record that is not refused for it. A seed gives the
+same records on every machine: no function of the platform's C library takes part. Each kind below aims
+at one way a call can go. The kinds of the drift have a beta of their own; of the others one of four
+gets one, and a quarter of the rest has a beta of minus zero.
 """
 import random
 import struct
@@ -18,6 +19,7 @@ CAP = 11000
 MANTISSA = (1 << 52) - 1
 INFINITY = 0x7FF << 52
 SIGN = 1 << 63
+WORDS = struct.Struct("<8Q")
 
 
 def float_of(bits):
@@ -38,10 +40,14 @@ def exponent(x):
     return (bits_of(x) >> 52) - 1023
 
 
-def pack(k, alpha, eta, base, bound, tau, q):
-    words = [x if isinstance(x, int) else bits_of(x) for x in (k, alpha, eta, base)]
-    words += [bound, tau if isinstance(tau, int) else bits_of(tau), q % (1 << 64)]
-    return struct.pack("<7Q", *words)
+def pack(k, alpha, eta, base, bound, tau, q, beta=0.0):
+    k, alpha, eta, base, tau, beta = (x if isinstance(x, int) else bits_of(x) for x in (k, alpha, eta, base, tau, beta))
+    return WORDS.pack(k, alpha, eta, base, bound, tau, q % (1 << 64), beta)
+
+
+def with_beta(record, beta):
+    """The record with another drift."""
+    return pack(*WORDS.unpack(record)[:7], beta)
 
 
 class Cases:
@@ -96,27 +102,31 @@ class Cases:
         alpha, tau = self.rng.choice(((1.0, 1.0), (1.0, 5500.0), (1.0, 5500.5), (1.0, 0.0), (1e300, 1e300)))
         return pack(1.0, alpha, 1.0, 1.0, 1, tau, self.whole(-2, 2))
 
-    def record(self, alpha, eta, bound, tau):
+    def record(self, alpha, eta, bound, tau, beta=0.0):
         k, base = self.scale()
-        return pack(k, alpha, eta, base, bound, tau, self.holding(bound))
+        return pack(k, alpha, eta, base, bound, tau, self.holding(bound), beta)
 
-    def norm(self, alpha, eta, bound):
-        return max(alpha * bound * bound + 3.0 * eta, alpha * (bound - 1) * (bound - 1) + 4.0 * eta)
+    def norm(self, alpha, eta, bound, beta=0.0):
+        def row(q, factors):
+            return alpha * q * q + abs(beta) * q + (2.0 + factors) * eta
 
-    def time(self, alpha, eta, bound, steps):
+        return max(row(bound, 1.0), row(bound - 1, 2.0))
+
+    def time(self, alpha, eta, bound, steps, beta=0.0):
         """The time that so many steps take, steps being any number."""
-        return 2.0 * steps / self.norm(alpha, eta, bound)
+        return 2.0 * steps / self.norm(alpha, eta, bound, beta)
 
-    def shift(self, alpha, eta, tau):
+    def shift(self, tau, *rates):
         """A power of two that scales a run to another unit of time, where one fits."""
-        low = max(-1022 - min(exponent(alpha), exponent(eta)), exponent(tau) - 1000)
-        high = min(1000 - max(exponent(alpha), exponent(eta)), exponent(tau) + 1000)
+        sizes = [exponent(abs(x)) for x in rates if x]
+        low = max(-1022 - min(sizes), exponent(tau) - 1000)
+        high = min(1000 - max(sizes), exponent(tau) + 1000)
         return two_to(self.whole(low, high)) if low < high else 1.0
 
-    def timed(self, alpha, eta, bound, steps):
-        tau = self.time(alpha, eta, bound, steps)
-        s = self.shift(alpha, eta, tau) if self.chance(0.2) else 1.0
-        return self.record(alpha * s, eta * s, bound, tau / s)
+    def timed(self, alpha, eta, bound, steps, beta=0.0):
+        tau = self.time(alpha, eta, bound, steps, beta)
+        s = self.shift(tau, alpha, eta, beta) if self.chance(0.2) else 1.0
+        return self.record(alpha * s, eta * s, bound, tau / s, beta * s)
 
     def apart_by(self, low, high):
         """alpha, and eta from 2^low to 2^high times it."""
@@ -290,6 +300,75 @@ class Cases:
         return pack(self.pattern(), alpha, eta, self.pattern(), bound, tau, self.holding(bound))
 
 
+    # ---- the drift: beta × q leans the diagonal to one side
+    def turned(self, x):
+        return x * self.rng.choice((1.0, -1.0))
+
+    def any_beta(self):
+        """Of any size; one of twelve is no number."""
+        nan = INFINITY | self.whole(1, MANTISSA)
+        return self.rng.choice((
+            self.pattern(), -self.pattern(), self.turned(SMALLEST), self.turned(LARGEST), self.turned(1e308),
+            self.turned(self.about(-1074, -900)), self.turned(self.about(900, 1023)), self.turned(self.about(-60, 60)),
+            self.turned(self.about(-8, 8)), self.turned(self.about(1000, 1023)), self.turned(1.0),
+            self.rng.choice((nan, nan | SIGN, INFINITY, INFINITY | SIGN)),
+        ))
+
+    def beta(self, alpha, eta, bound):
+        """A beta beside these: about as large as the diagonal, as alpha's part of it or as eta's."""
+        size = self.rng.choice((self.norm(alpha, eta, bound), alpha * bound * bound, eta))
+        return self.turned(size / bound * self.about(*self.rng.choice(((-1, 1), (-4, 4), (-30, 0)))))
+
+    def drifted(self, record):
+        """The record with a drift, of which most fit its other floats."""
+        _, alpha, eta, _, bound, *_ = WORDS.unpack(record)
+        alpha, eta = float_of(alpha), float_of(eta)
+        usual = 0.0 < alpha <= LARGEST and 0.0 < eta <= LARGEST and 1 <= bound <= 200
+        beta = self.beta(alpha, eta, bound) if usual and self.chance(0.8) else self.any_beta()
+        return with_beta(record, beta)
+
+    def leant(self):
+        """A drift beside which alpha is small: one side's entries are below zero."""
+        eta = self.about(-12, 2)
+        bound = self.bound()
+        beta = self.turned(eta * self.about(-2, 8))
+        alpha = abs(beta) / bound * self.about(-30, 1)
+        return self.timed(alpha, eta, bound, self.unit() * self.whole(1, max(4, 9000 // (2 * bound + 1))), beta)
+
+    def falling(self):
+        """The weights fall to one side, so far that the run is rebalanced."""
+        bound = self.rows(4, 60)
+        beta = self.turned(self.about(-8, 4))
+        alpha = abs(beta) / bound * self.about(-40, 1)
+        eta = abs(beta) * self.about(-700 // bound - 30, -300 // bound)
+        return self.timed(alpha, eta, bound, self.whole(235, 1500), beta)
+
+    def whole_drift(self):
+        """Time × norm / 2 is a whole number of steps, or next to one, or about the cap."""
+        alpha, eta = self.ordinary()
+        bound = self.small_bound()
+        beta = self.beta(alpha, eta, bound)
+        steps = self.rng.choice((self.whole(1, 40), self.whole(1, 40), CAP + self.rng.choice((-1, -0.5, 0, 0.5, 1))))
+        return self.record(alpha, eta, bound, self.near(self.time(alpha, eta, bound, steps, beta)), beta)
+
+    def no_diagonal(self):
+        """An entry that is infinite or no number, or next to it; half of the times are tiny."""
+        bound = self.bound()
+        end, slope = LARGEST / bound / bound, LARGEST / bound
+        alpha = self.rng.choice((self.near(end), end * self.about(0, 8), end * self.about(-4, 0), self.about(-4, 4)))
+        beta = self.turned(self.rng.choice((self.near(slope), slope * self.about(-2, 0), slope * self.about(0, 8),
+                                            self.about(960, 1000))))
+        alpha, beta = min(alpha, LARGEST), max(-LARGEST, min(LARGEST, beta))
+        eta = self.rng.choice((1.0, self.about(960, 1000), two_to(1022), LARGEST))
+        tau = self.about(-1074, -1000) if self.chance(0.5) else self.about(-1074, 1023)
+        return self.record(alpha, eta, bound, tau, beta)
+
+    def no_time_drift(self):
+        """No time, with a diagonal of any size: there is no refusal."""
+        tau = self.rng.choice((0.0, -0.0, -SMALLEST, -self.pattern()))
+        return self.record(self.pattern(), self.pattern(), self.small_bound(), tau, self.turned(self.pattern()))
+
+
 # of a thousand records, so many of each kind
 SHARES = {
     Cases.paper: 10,
@@ -315,20 +394,38 @@ SHARES = {
     Cases.bad_holding: 25,
     Cases.wild: 30,
 }
+# and beside each thousand so many of the kinds with a drift of their own
+DRIFTING = {
+    Cases.leant: 60,
+    Cases.falling: 30,
+    Cases.whole_drift: 40,
+    Cases.no_diagonal: 40,
+    Cases.no_time_drift: 10,
+}
 
 
-def write(cases, shares, count):
-    """Writes so many records, their kinds by the shares, and one that is cut short."""
-    kinds, weights = list(shares), list(shares.values())
+def drawn(cases, shares, drifting):
+    """A record of some kind, by the shares."""
+    kinds = {**shares, **drifting}
+    kind = cases.rng.choices(list(kinds), list(kinds.values()))[0]
+    record = kind(cases)
+    if kind in drifting:
+        return record
+    if cases.chance(0.25):
+        return cases.drifted(record)
+    return with_beta(record, cases.rng.choice((0.0, 0.0, 0.0, -0.0)))
+
+
+def write(cases, shares, drifting, count):
+    """Writes so many records, and one that is cut short."""
     for _ in range(count):
-        kind = cases.rng.choices(kinds, weights)[0]
-        sys.stdout.buffer.write(kind(cases))
-    sys.stdout.buffer.write(cases.plain()[: cases.whole(1, 55)])
+        sys.stdout.buffer.write(drawn(cases, shares, drifting))
+    sys.stdout.buffer.write(cases.plain()[: cases.whole(1, WORDS.size - 1)])
 
 
 def main():
     seed, count, *most = map(int, sys.argv[1:])
-    write(Cases(seed, *most), SHARES, count)
+    write(Cases(seed, *most), SHARES, DRIFTING, count)
 
 
 if __name__ == "__main__":

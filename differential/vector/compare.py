@@ -1,17 +1,19 @@
 """Compares floatrun's lines with the oracle's, and counts what the records met.
 
-    python3 compare.py RECORDS OURS ROUTED NOTES PLATFORM
+    python3 compare.py RECORDS OURS TOLD NOTES PLATFORM
 
-OURS is what floatrun wrote, ROUTED and NOTES what `oracle routed NOTES` did, and PLATFORM what
-`oracle platform` did. Every byte of OURS and ROUTED has to agree; the first line that does not is
-printed, and the status is then 1. PLATFORM is glft.rs as published: it is measured, not held to.
+OURS is what floatrun wrote, TOLD and NOTES what `oracle routed NOTES` did, and drifts.py for records with
+a drift, and PLATFORM what `oracle platform` did. Every byte of OURS and TOLD has to agree; the first line
+that does not is printed, and the status is then 1. PLATFORM is glft.rs as published: it is measured, not
+held to.
 """
 import collections
+import math
 import re
 import struct
 import sys
 
-RECORD = 56
+RECORD = struct.Struct("<4dQdqd")
 PLANS = {0: "no run", 1: "a plan of 1 step", 11000: "a plan of 11,000 steps"}
 
 
@@ -21,15 +23,15 @@ def float_of(digits):
 
 def records(path):
     with open(path, "rb") as file:
-        while record := file.read(RECORD):
+        while record := file.read(RECORD.size):
             yield record
 
 
 def shown(record):
-    if len(record) < RECORD:
+    if len(record) < RECORD.size:
         return "a record of %d bytes" % len(record)
-    words = struct.unpack("<7Q", record)
-    names = ("k", "alpha", "eta", "base", "bound", "tau", "q")
+    words = struct.unpack("<8Q", record)
+    names = ("k", "alpha", "eta", "base", "bound", "tau", "q", "beta")
     q = words[6] - (words[6] >> 63 << 64)
     return ", ".join(
         "%s %s" % (name, word if name == "bound" else q if name == "q" else "%016X" % word)
@@ -72,6 +74,27 @@ def kinds(line, note):
             yield "R 11, %s (%s)" % (cause(words[0].strip()), times(rebalancings))
 
 
+def drifting(record):
+    """Whether a record has a drift."""
+    return len(record) == RECORD.size and RECORD.unpack(record)[7] != 0.0
+
+
+def drift_kinds(record, line):
+    """The names under which a record with a drift is counted besides."""
+    _, alpha, eta, _, bound, tau, _, beta = RECORD.unpack(record)
+    yield "drift, " + (line[0] if line[0] in "VC" else line.strip())
+    if line[:4] in ("R 5\n", "R 1\n", "R 4\n") or tau <= 0.0:
+        return
+    lots = [float(q) for q in range(-bound, bound + 1)]
+    entries = [((alpha * q) * q - beta * q) + 2.0 * eta for q in lots]
+    if any(map(math.isnan, entries)):
+        yield "drift, an entry that is no number"
+    elif not all(map(math.isfinite, entries)):
+        yield "drift, an infinite entry"
+    elif min(entries) < 0.0:
+        yield "drift, an entry below zero: " + (line[0] if line[0] in "VC" else line.strip())
+
+
 class Distances:
     """How far the platform's distances lie from the routed ones."""
 
@@ -82,6 +105,8 @@ class Distances:
 
     def take(self, line, other):
         ours, theirs = line.split(), other.split()
+        if theirs == ["-"]:
+            return
         if ours[0] != "V" or theirs[0] != "V":
             if ours != theirs:
                 self.otherwise["%s for %s" % (theirs[0], ours[0])] += 1
@@ -115,19 +140,20 @@ def main():
     files = [open(p) for p in paths[1:]]
     total = 0
     for number, record in enumerate(records(paths[0]), 1):
-        ours, routed, note, platform = (f.readline() for f in files)
+        ours, told, note, platform = (f.readline() for f in files)
         total = number
-        if ours != routed or not routed.endswith("\n"):
+        if ours != told or not told.endswith("\n"):
             differing += 1
             if differing == 1:
                 print("line %d differs: %s" % (number, shown(record)))
                 print("  floatrun: " + ours[:400].rstrip())
-                print("  glft.rs:  " + routed[:400].rstrip())
-        for kind in kinds(routed, note.rstrip("\n")):
-            counts[kind] += 1
-        if routed[0] == "V":
-            bounds[struct.unpack("<7Q", record)[4]] += 1
-        distances.take(routed, platform)
+                print("  %s: %s" % ("quoting.py" if drifting(record) else "glft.rs", told[:400].rstrip()))
+        counts.update(kinds(told, note.rstrip("\n")))
+        if drifting(record):
+            counts.update(drift_kinds(record, told))
+        if told[0] == "V":
+            bounds[RECORD.unpack(record)[4]] += 1
+        distances.take(told, platform)
     for f, path in zip(files, paths[1:]):
         if f.read(1):
             print("%s has more lines than there are records" % path)

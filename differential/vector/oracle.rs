@@ -6,6 +6,7 @@
 //! glft.rs as published, whose steps nothing counts (its lines have 0 for them). NOTES gets a line a
 //! record: the rebalancings, the finished steps, and the words of glft.rs where it fails.
 //! The float entry's own refusals, which glft.rs has in other places, are made in entry.rs: 5, 1 and 4.
+//! glft.rs has no drift: a record with one gets the line `-`.
 #![allow(dead_code, unexpected_cfgs)]
 
 use std::cell::Cell;
@@ -85,6 +86,9 @@ fn note_of(answer: &Answer) -> String {
 
 fn main() {
     answer_all(RECORD, |routed, record| {
+        if drifting(record) {
+            return (UNASKED.0.to_string(), UNASKED.1.to_string());
+        }
         let answer = answer(routed, record);
         (line_of(&answer), note_of(&answer))
     });

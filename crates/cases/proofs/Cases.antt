@@ -4,27 +4,27 @@ use lib.Ieee.{sub, mul, div, le, ofInt, ofBits, toSigned, toUnsigned}
 use Rattle.elementary.specs.Float.{finite, positive, count}
 use Rattle.elementary.specs.Reply.{given}
 use Rattle.elementary.specs.Elementary.{horner, mantissa, exponent, odds, lnSum, lnSeries, lnJoin, lnParts, lnHalved, lnOf, LN, ln1pOf, LN1P, factorials, expSum, expN, expRest, expBy, expOf, EXP, ceilOf, CEIL, orNan}
-use Rattle.vector.specs.Vectors.{from, everyFrom, fold, larger}
+use Rattle.vector.specs.Vectors.{from, everyFrom, fold, larger, abs}
 use Rattle.vector.specs.Series.{diagonalAt, leftAt, rightAt}
-use Rattle.vector.specs.Run.{norm, needed, start, begin, runOn, fixed, runFor, run}
+use Rattle.vector.specs.Run.{magnitudes, norm, needed, start, begin, runOn, fixed, firstIf, runFor, run}
 use Rattle.vector.specs.Values.{padded, vectorOf}
 use Rattle.distances.specs.Distances.{place, distance, bidAt, askAt, fine, sides, exactAt}
-use Rattle.distances.specs.FloatEntry.{withVector, answerBy, entryIf, floatsOk, floatEntry}
+use Rattle.distances.specs.FloatEntry.{refusedEntry, withVector, answerBy, entryIf, floatsOk, floatEntry}
 use Rattle.quote.specs.Configuration.{amountOk, timeOk, above0, toFloat, configLimits, configOk, configIf, newConfig}
-use Rattle.quote.specs.Model.{lots, holdingOk, marketOk, modelBy, modelFrom, modelOf, modelOk, tauOf, modelIf, modelLimits, newModel}
+use Rattle.quote.specs.Model.{lots, holdingOk, marketOk, modelBy, modelFrom, modelOf, modelOk, tauOf, driftless, modelIf, modelLimits, newModel, driftlessModel}
 use Rattle.quote.specs.Rounding.{billionths}
 use Rattle.quote.specs.Quotes.{side, halfUp, widening, bidPrice, askPrice, each, inOrder, judgeIf, judge, quotesBy, buildQuotes, exactFrom, exactIf, exactAnswer, closedFrom, closedAnswer, withSteps, exactBy, exactQuotes, wrapped, optimalQuotes, closedBy, closedFormQuotes}
-use Rattle.cases.specs.Cases.{ofConfig, ofModel, ofExact, ofOptimal, ofClosed, ofAnswer, ofFloats, reckonedFrom, ofTurn, reply, configurationCases, holdingCases, vectorCases, quoteCases, table, Cases}
+use Rattle.cases.specs.Cases.{ofConfig, ofModel, ofExact, ofOptimal, ofClosed, ofAnswer, ofFloats, reckonedFrom, ofTurn, reply, configurationCases, holdingCases, vectorCases, quoteCases, driftCases, table, Cases}
 
 -- the definitions that a row is reckoned with, crate by crate
 pub cases : Cases
 unfolding
     sub mul div le ofInt ofBits toSigned toUnsigned
     finite positive count given horner mantissa exponent odds lnSum lnSeries lnJoin lnParts lnHalved lnOf LN ln1pOf LN1P factorials expSum expN expRest expBy expOf EXP ceilOf CEIL
-    from everyFrom fold larger orNan diagonalAt leftAt rightAt norm needed start begin runOn fixed runFor run
-    padded vectorOf place distance bidAt askAt fine sides exactAt withVector answerBy entryIf floatsOk floatEntry
-    amountOk timeOk above0 toFloat configLimits configOk configIf newConfig lots holdingOk marketOk modelBy modelFrom modelOf modelOk tauOf modelIf modelLimits newModel
+    from everyFrom fold larger abs orNan diagonalAt leftAt rightAt magnitudes norm needed start begin runOn fixed firstIf runFor run
+    padded vectorOf place distance bidAt askAt fine sides exactAt refusedEntry withVector answerBy entryIf floatsOk floatEntry
+    amountOk timeOk above0 toFloat configLimits configOk configIf newConfig lots holdingOk marketOk modelBy modelFrom modelOf modelOk tauOf driftless modelIf modelLimits newModel driftlessModel
     billionths side halfUp widening bidPrice askPrice each inOrder judgeIf judge quotesBy buildQuotes
     exactFrom exactIf exactAnswer closedFrom closedAnswer withSteps exactBy exactQuotes wrapped optimalQuotes closedBy closedFormQuotes
-    ofConfig ofModel ofExact ofOptimal ofClosed ofAnswer ofFloats reckonedFrom ofTurn reply configurationCases holdingCases vectorCases quoteCases table
+    ofConfig ofModel ofExact ofOptimal ofClosed ofAnswer ofFloats reckonedFrom ofTurn reply configurationCases holdingCases vectorCases quoteCases driftCases table
 cases = refl

@@ -1,14 +1,14 @@
--- The M cases of document 01 as one table: a question and its reply a row. Definitions only.
+-- The M cases of document 01, and those of change request 7, as one table: a question and its reply a row. Definitions only.
 use mathlib.Core.Path.{_≡_}
 use Prim.Native.Nat.{ℕ, _-_, _*_}
 use mathlib.Core.List.{List, [], _∷_, _++_, map}
 use lib.IntN.{ℤ, pos, negℤ}
 use lib.Ieee.{Float}
-use Rattle.elementary.specs.Float.{_⊕_, whole, 0ᶠ, ½ᶠ, 1ᶠ, 2ᶠ}
+use Rattle.elementary.specs.Float.{_⊕_, _⊘_, hex, whole, 0ᶠ, ½ᶠ, 1ᶠ, 2ᶠ}
 use Rattle.elementary.specs.Elementary.{LN2}
 use Rattle.vector.specs.Refusals.{numerical}
 use Rattle.vector.specs.Vectors.{fill}
-use Rattle.vector.specs.Run.{Fixed, Turn, going, ended, vector, overCap, failed, cap, norm, begin, fixed}
+use Rattle.vector.specs.Run.{Fixed, Turn, going, ended, vector, overCap, failed, cap, norm, firstTurn, fixed}
 use Rattle.distances.specs.FloatEntry.{floatEntry}
 use Rattle.distances.specs.declared.Distance.{Distance}
 use Rattle.distances.specs.declared.Distance.the-variants as Distance
@@ -41,8 +41,8 @@ pub record Case : Type 0 where
   pub config : GLFTConfig
   pub current : ℕ
 
-abbrev pub case : (mid holding volatility risk k a : ℤ) (bound : ℕ) (lot : ℤ) (terminal current : ℕ) (spread : ℤ) → Case
-case mid holding volatility risk k a bound lot terminal current spread =
+abbrev pub case : (mid holding volatility risk k a : ℤ) (bound : ℕ) (lot : ℤ) (terminal current : ℕ) (spread drift : ℤ) → Case
+case mid holding volatility risk k a bound lot terminal current spread drift =
     record {
       mid = mid;
       holding = holding;
@@ -55,6 +55,7 @@ case mid holding volatility risk k a bound lot terminal current spread =
         «lot_size» = lot;
         «terminal_time» = terminal;
         «min_spread» = spread;
+        drift = drift;
       };
       current = current;
     }
@@ -63,43 +64,46 @@ case mid holding volatility risk k a bound lot terminal current spread =
 abbrev pub units : ℕ → ℤ
 units n = pos (n * billion)
 
--- mid 100, volatility, risk aversion, k, A and lot size 1, bound 1, holding 0, min spread 0, terminal and current time 1000 ms
+-- mid 100, volatility, risk aversion, k, A and lot size 1, bound 1, holding 0, min spread and drift 0, terminal and current time 1000 ms
 abbrev pub default : Case
-default = case (units 100) (units 0) (units 1) (units 1) (units 1) (units 1) 1 (units 1) 1000 1000 (units 0)
+default = case (units 100) (units 0) (units 1) (units 1) (units 1) (units 1) 1 (units 1) 1000 1000 (units 0) (units 0)
 
 -- the default but for one number
 abbrev pub with-mid : ℤ → Case
-with-mid x = case x (units 0) (units 1) (units 1) (units 1) (units 1) 1 (units 1) 1000 1000 (units 0)
+with-mid x = case x (units 0) (units 1) (units 1) (units 1) (units 1) 1 (units 1) 1000 1000 (units 0) (units 0)
 
 abbrev pub with-holding : ℤ → Case
-with-holding x = case (units 100) x (units 1) (units 1) (units 1) (units 1) 1 (units 1) 1000 1000 (units 0)
+with-holding x = case (units 100) x (units 1) (units 1) (units 1) (units 1) 1 (units 1) 1000 1000 (units 0) (units 0)
 
 abbrev pub with-volatility : ℤ → Case
-with-volatility x = case (units 100) (units 0) x (units 1) (units 1) (units 1) 1 (units 1) 1000 1000 (units 0)
+with-volatility x = case (units 100) (units 0) x (units 1) (units 1) (units 1) 1 (units 1) 1000 1000 (units 0) (units 0)
 
 abbrev pub with-risk : ℤ → Case
-with-risk x = case (units 100) (units 0) (units 1) x (units 1) (units 1) 1 (units 1) 1000 1000 (units 0)
+with-risk x = case (units 100) (units 0) (units 1) x (units 1) (units 1) 1 (units 1) 1000 1000 (units 0) (units 0)
 
 abbrev pub with-k : ℤ → Case
-with-k x = case (units 100) (units 0) (units 1) (units 1) x (units 1) 1 (units 1) 1000 1000 (units 0)
+with-k x = case (units 100) (units 0) (units 1) (units 1) x (units 1) 1 (units 1) 1000 1000 (units 0) (units 0)
 
 abbrev pub with-a : ℤ → Case
-with-a x = case (units 100) (units 0) (units 1) (units 1) (units 1) x 1 (units 1) 1000 1000 (units 0)
+with-a x = case (units 100) (units 0) (units 1) (units 1) (units 1) x 1 (units 1) 1000 1000 (units 0) (units 0)
 
 abbrev pub with-bound : ℕ → Case
-with-bound b = case (units 100) (units 0) (units 1) (units 1) (units 1) (units 1) b (units 1) 1000 1000 (units 0)
+with-bound b = case (units 100) (units 0) (units 1) (units 1) (units 1) (units 1) b (units 1) 1000 1000 (units 0) (units 0)
 
 abbrev pub with-lot : ℤ → Case
-with-lot x = case (units 100) (units 0) (units 1) (units 1) (units 1) (units 1) 1 x 1000 1000 (units 0)
+with-lot x = case (units 100) (units 0) (units 1) (units 1) (units 1) (units 1) 1 x 1000 1000 (units 0) (units 0)
 
 abbrev pub with-terminal : ℕ → Case
-with-terminal t = case (units 100) (units 0) (units 1) (units 1) (units 1) (units 1) 1 (units 1) t 1000 (units 0)
+with-terminal t = case (units 100) (units 0) (units 1) (units 1) (units 1) (units 1) 1 (units 1) t 1000 (units 0) (units 0)
 
 abbrev pub with-current : ℕ → Case
-with-current t = case (units 100) (units 0) (units 1) (units 1) (units 1) (units 1) 1 (units 1) 1000 t (units 0)
+with-current t = case (units 100) (units 0) (units 1) (units 1) (units 1) (units 1) 1 (units 1) 1000 t (units 0) (units 0)
 
 abbrev pub with-spread : ℤ → Case
-with-spread x = case (units 100) (units 0) (units 1) (units 1) (units 1) (units 1) 1 (units 1) 1000 1000 x
+with-spread x = case (units 100) (units 0) (units 1) (units 1) (units 1) (units 1) 1 (units 1) 1000 1000 x (units 0)
+
+abbrev pub with-drift : ℤ → Case
+with-drift x = case (units 100) (units 0) (units 1) (units 1) (units 1) (units 1) 1 (units 1) 1000 1000 (units 0) x
 
 -- ---- questions and replies
 pub data Question : Type 0 where
@@ -107,10 +111,10 @@ pub data Question : Type 0 where
   config model exact optimal closed : Case → Question
   -- the float entry, from a case: the value vector and the distances
   reckoning : Case → Question
-  -- and from k, alpha, eta, base, bound, tau and q
-  floats : Float → Float → Float → Float → ℕ → Float → ℤ → Question
-  -- the first plan, from alpha, eta, bound and tau
-  plan : Float → Float → ℕ → Float → Question
+  -- and from k, alpha, beta, eta, base, bound, tau and q
+  floats : Float → Float → Float → Float → Float → ℕ → Float → ℤ → Question
+  -- the first plan, from alpha, beta, eta, bound and tau
+  plan : Float → Float → Float → ℕ → Float → Question
 
 pub data Reply : Type 0 where
   passes : Reply
@@ -155,7 +159,7 @@ unfoldable pub ofFloats : Float → FloatAnswer → Reply
 ofFloats base f = ofAnswer base (f .vector) (f .answer)
 
 unfoldable pub reckonedFrom : ModelAnswer → Float → Reply
-reckonedFrom (ModelAnswer.Model m q) tau = ofFloats (m .base) (floatEntry (m .k) (m .alpha) (m .eta) (m .base) (m .«q_max») tau q)
+reckonedFrom (ModelAnswer.Model m q) tau = ofFloats (m .base) (floatEntry (m .k) (m .alpha) (m .beta) (m .eta) (m .base) (m .«q_max») tau q)
 reckonedFrom (ModelAnswer.Refused r) tau = refused r
 
 -- a plan ends no run with a vector: the second clause is never met
@@ -172,8 +176,8 @@ reply (exact c) = ofExact (exactQuotes (c .mid) (c .holding) (c .config) (c .vol
 reply (optimal c) = ofOptimal (optimalQuotes (c .mid) (c .holding) (c .config) (c .volatility) (c .current))
 reply (closed c) = ofClosed (closedFormQuotes (c .mid) (c .holding) (c .config) (c .volatility))
 reply (reckoning c) = reckonedFrom (newModel (c .mid) (c .holding) (c .config) (c .volatility)) (tauOf (c .config .«terminal_time») (c .current))
-reply (floats k alpha eta base bound tau q) = ofFloats base (floatEntry k alpha eta base bound tau q)
-reply (plan alpha eta bound tau) = let p = fixed bound alpha eta in ofTurn p (begin p cap (fill (p .n) 1ᶠ) (fill (p .n) 0ᶠ) tau)
+reply (floats k alpha beta eta base bound tau q) = ofFloats base (floatEntry k alpha beta eta base bound tau q)
+reply (plan alpha beta eta bound tau) = let p = fixed bound alpha beta eta in ofTurn p (firstTurn p tau)
 
 -- ---- the table
 infix 70 _⇒_
@@ -271,13 +275,13 @@ vectorCases =
     ∷ reckoning (with-holding (negℤ (units 1))) ⇒ at-end 3 LN2 (by LN2) no-side
     ∷ reckoning (with-bound 2) ⇒ at-end 5 LN2 (by LN2) (by LN2)
     ∷ reckoning (with-bound 200) ⇒ at-end 401 LN2 (by LN2) (by LN2)
-    ∷ floats 1ᶠ 1ᶠ 1ᶠ ½ᶠ 1 0ᶠ (pos 0) ⇒ at-end 3 ½ᶠ (by ½ᶠ) (by ½ᶠ)
-    ∷ floats 1ᶠ 1ᶠ 1ᶠ ½ᶠ 1 (whole (negℤ (pos 1))) (pos 1) ⇒ at-end 3 ½ᶠ no-side (by ½ᶠ)
-    ∷ floats 2ᶠ 1ᶠ 1ᶠ 1ᶠ 200 0ᶠ (negℤ (pos 200)) ⇒ at-end 401 1ᶠ (by 1ᶠ) no-side
-    ∷ plan 1ᶠ 1ᶠ 1 1ᶠ ⇒ planned (whole (pos 4)) 2 ½ᶠ
-    ∷ plan 1ᶠ 1ᶠ 1 (whole (pos 5500)) ⇒ planned (whole (pos 4)) 11_000 ½ᶠ
-    ∷ plan 1ᶠ 1ᶠ 1 (whole (pos 5500) ⊕ ½ᶠ) ⇒ over-cap (whole (pos 11_001)) 11_000 0
-    ∷ floats 1ᶠ 1ᶠ 1ᶠ 1ᶠ 1 (whole (pos 5500) ⊕ ½ᶠ) (pos 0) ⇒ over-cap (whole (pos 11_001)) 11_000 0
+    ∷ floats 1ᶠ 1ᶠ 0ᶠ 1ᶠ ½ᶠ 1 0ᶠ (pos 0) ⇒ at-end 3 ½ᶠ (by ½ᶠ) (by ½ᶠ)
+    ∷ floats 1ᶠ 1ᶠ 0ᶠ 1ᶠ ½ᶠ 1 (whole (negℤ (pos 1))) (pos 1) ⇒ at-end 3 ½ᶠ no-side (by ½ᶠ)
+    ∷ floats 2ᶠ 1ᶠ 0ᶠ 1ᶠ 1ᶠ 200 0ᶠ (negℤ (pos 200)) ⇒ at-end 401 1ᶠ (by 1ᶠ) no-side
+    ∷ plan 1ᶠ 0ᶠ 1ᶠ 1 1ᶠ ⇒ planned (whole (pos 4)) 2 ½ᶠ
+    ∷ plan 1ᶠ 0ᶠ 1ᶠ 1 (whole (pos 5500)) ⇒ planned (whole (pos 4)) 11_000 ½ᶠ
+    ∷ plan 1ᶠ 0ᶠ 1ᶠ 1 (whole (pos 5500) ⊕ ½ᶠ) ⇒ over-cap (whole (pos 11_001)) 11_000 0
+    ∷ floats 1ᶠ 1ᶠ 0ᶠ 1ᶠ 1ᶠ 1 (whole (pos 5500) ⊕ ½ᶠ) (pos 0) ⇒ over-cap (whole (pos 11_001)) 11_000 0
     ∷ []
 
 -- glft.rs, quotes
@@ -286,8 +290,28 @@ quoteCases =
     ask exacts default (quotes (price 99_306_852_819) (price 100_693_147_181) 0)
     ++ ask exacts (with-spread (units 2)) (quotes (price 99_000_000_000) (price 101_000_000_000) 0)
 
+-- change request 7. A drift passes, but in a closed-form call, and at the end it moves no quote. Beta not finite is 5; where time is left, so large that the diagonal is not finite, it is 11.
+abbrev pub largest : Float
+largest = hex 0x7FEFFFFFFFFFFFFF
+
+unfoldable pub driftCases : List Row
+driftCases =
+    ask checks (with-drift most) passes
+    ++ ask checks (with-drift (negℤ most)) passes
+    ++ ask entries (with-drift over) (refused 2)
+    ++ ask entries (with-drift (negℤ over)) (refused 2)
+    ++ ask exacts (with-drift (units 1)) (quotes (price 99_306_852_819) (price 100_693_147_181) 0)
+    ++ ask (closed ∷ []) (with-drift (pos 1)) (refused 22)
+    ++ ask (closed ∷ []) (with-drift (negℤ most)) (refused 22)
+    ++ (floats 1ᶠ 1ᶠ (hex 0x7FF0000000000000) 1ᶠ ½ᶠ 1 0ᶠ (pos 0) ⇒ refused 5
+    ∷ floats 1ᶠ 1ᶠ largest 1ᶠ ½ᶠ 2 0ᶠ (pos 0) ⇒ at-end 5 ½ᶠ (by ½ᶠ) (by ½ᶠ)
+    ∷ floats 1ᶠ 1ᶠ largest 1ᶠ ½ᶠ 2 1ᶠ (pos 0) ⇒ refused 11
+    ∷ plan 1ᶠ 2ᶠ 1ᶠ 1 2ᶠ ⇒ planned (whole (pos 6)) 6 (2ᶠ ⊘ whole (pos 6))
+    ∷ plan 1ᶠ (whole (negℤ (pos 2))) 1ᶠ 1 2ᶠ ⇒ planned (whole (pos 6)) 6 (2ᶠ ⊘ whole (pos 6))
+    ∷ [])
+
 unfoldable pub table : List Row
-table = configurationCases ++ holdingCases ++ vectorCases ++ quoteCases
+table = configurationCases ++ holdingCases ++ vectorCases ++ quoteCases ++ driftCases
 
 -- each reply is what the definitions give
 abbrev pub Cases : Type 0

@@ -1,8 +1,8 @@
-// Reads the records that floatrun reads, seven words of eight bytes each, lowest first: the bits of k,
-// alpha, eta and base, the bound, the bits of tau, and q as two's complement. Writes a line for each,
-// what `step_count` answers: `N` and the steps of the first plan; `C`, the steps needed and the budget
-// left; or `R` and a refusal's number. A float is 16 upper-case hex digits. A record that ends inside
-// itself is the last: `R 6`.
+// Reads the records that floatrun reads, eight words of eight bytes each, lowest first: the bits of k,
+// alpha, eta and base, the bound, the bits of tau, q as two's complement, and the bits of beta. Writes
+// a line for each, what `step_count` answers: `N` and the steps of the first plan; `C`, the steps
+// needed and the budget left; or `R` and a refusal's number. A float is 16 upper-case hex digits. A
+// record that ends inside itself is the last: `R 6`.
 use distances::step_count;
 use harness::ENTRY;
 use harness::MANY;
@@ -17,8 +17,8 @@ use harness::put_refusal;
 use harness::read_block;
 use vector::FirstPlan;
 
-// The bytes read at once: 1,170 records.
-const BLOCK: usize = 65520;
+// The bytes read at once: 1,024 records.
+const BLOCK: usize = 65536;
 
 // The most bytes of a line: a letter, a float, five digits, a space before each and the line's end.
 const LINE: usize = 25;
@@ -40,7 +40,7 @@ fn put_plan(out: &mut [u8], at: usize, plan: FirstPlan) -> usize {
 // The count of the record at a place.
 fn count_at(s: &[u8], at: usize) -> FirstPlan {
     let e = entry_at(s, at);
-    step_count(e.k, e.alpha, e.eta, e.base, e.bound, e.tau, e.q)
+    step_count(e.k, e.alpha, e.beta, e.eta, e.base, e.bound, e.tau, e.q)
 }
 
 // The line of the record at a place.

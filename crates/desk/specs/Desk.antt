@@ -1,4 +1,4 @@
--- The configuration of a record of twelve words: risk aversion, k, A, bound, lot size and terminal are words 3 to 8, min spread is word 10. Definitions only.
+-- The configuration of a record of thirteen words: risk aversion, k, A, bound, lot size and terminal are words 3 to 8, min spread is word 10, and the drift word 12. Definitions only.
 use Prim.Native.Nat.{ℕ, _+_, min}
 use mathlib.Core.List.{List}
 use Rattle.harness.specs.Words.{word, signed}
@@ -15,4 +15,5 @@ configAt s at =
       «lot_size» = signed (word s (at + 56));
       «terminal_time» = word s (at + 64);
       «min_spread» = signed (word s (at + 80));
+      drift = signed (word s (at + 96));
     }

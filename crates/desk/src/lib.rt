@@ -1,6 +1,6 @@
-// The desk of a record of twelve words of eight bytes, which several test programs read: mid, holding,
-// volatility, risk aversion, k, A, bound, lot size, terminal, current, min spread, and one more. An
-// amount is a count of billionths in two's complement.
+// The desk of a record of thirteen words of eight bytes, which several test programs read: mid,
+// holding, volatility, risk aversion, k, A, bound, lot size, terminal, current, min spread, one more,
+// and the drift. An amount is a count of billionths in two's complement.
 ghost use mathlib.Core.Path.{_≡_};
 ghost use Prim.Native.Nat.{_+_};
 ghost use Rattle.harness.specs.Words.{word, signed};
@@ -29,5 +29,6 @@ pub fn config_at(s: &[u8], at: usize) -> GLFTConfig
         lot_size: amount_at(s, at, 56),
         terminal_time: word_at(s, at, 64),
         min_spread: amount_at(s, at, 80),
+        drift: amount_at(s, at, 96),
     }
 }

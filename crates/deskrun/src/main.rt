@@ -1,12 +1,12 @@
-// Reads desks from standard input, twelve words of eight bytes each, lowest first: mid, holding,
-// volatility, risk aversion, k, A, bound, lot size, terminal, current, min spread, and the entry: 0
-// for `exact_quotes`, 1 for `calculate_optimal_quotes`, 2 for `closed_form_quotes`, 3 for
-// `GLFTConfig::new`, any other for `Model::new`. An amount is a count of billionths in two's
-// complement. Writes a line for each: `Q`, bid and ask in billionths (`-` if absent) and the steps,
-// which the closed form has none of; `C`, the steps needed as a float's 16 hex digits, the budget left
-// and the steps spent; `P` for a configuration that passes; `M`, a model's seven floats, its bound and
-// the holding in lots; or `R` and a refusal's number. A bound that 32 bits do not hold is refused by
-// 2, and a record that ends inside itself, the last, by 6.
+// Reads desks from standard input, thirteen words of eight bytes each, lowest first: mid, holding,
+// volatility, risk aversion, k, A, bound, lot size, terminal, current, min spread, the entry and the
+// drift. The entry is 0 for `exact_quotes`, 1 for `calculate_optimal_quotes`, 2 for
+// `closed_form_quotes`, 3 for `GLFTConfig::new`, any other for `Model::new`. An amount is a count of
+// billionths in two's complement. Writes a line for each: `Q`, bid and ask in billionths (`-` if
+// absent) and the steps, which the closed form has none of; `C`, the steps needed as a float's 16 hex
+// digits, the budget left and the steps spent; `P` for a configuration that passes; `M`, a model's
+// eight floats, beta the last, its bound and the holding in lots; or `R` and a refusal's number. A
+// bound that 32 bits do not hold is refused by 2, and a record that ends inside itself, the last, by 6.
 use desk::amount_at;
 use desk::config_at;
 use harness::LARGEST_BOUND;
@@ -34,14 +34,14 @@ use quote::Price;
 use quote::refusals::LIMITS;
 
 // The bytes of a record.
-const RECORD: usize = 96;
+const RECORD: usize = 104;
 
-// The bytes read at once: 682 records.
-const BLOCK: usize = 65472;
+// The bytes read at once: 630 records.
+const BLOCK: usize = 65520;
 
-// The most bytes of a line: a letter, seven floats, two numbers with their spaces and a sign, and the
+// The most bytes of a line: a letter, eight floats, two numbers with their spaces and a sign, and the
 // line's end.
-const LINE: usize = 164;
+const LINE: usize = 181;
 
 // A space and a float's 16 hex digits, in lower case.
 fn put_float(out: &mut [u8], at: usize, x: f64) -> usize {
@@ -125,11 +125,12 @@ fn put_given(out: &mut [u8], start: usize, m: Model) -> usize {
     put_float(out, at, m.sigma2)
 }
 
-// The three reckoned from them, and the bound.
+// The four reckoned, and the bound.
 fn put_reckoned(out: &mut [u8], start: usize, m: Model) -> usize {
     let mut at = put_float(out, start, m.alpha);
     at = put_float(out, at, m.eta);
     at = put_float(out, at, m.base);
+    at = put_float(out, at, m.beta);
     put_number(out, at, m.q_max as u64)
 }
 
@@ -158,6 +159,7 @@ fn renewed(c: GLFTConfig) -> ConfigAnswer {
         c.lot_size,
         c.terminal_time,
         c.min_spread,
+        c.drift,
     )
 }
 

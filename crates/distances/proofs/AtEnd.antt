@@ -87,9 +87,9 @@ module _ (n : ℕ) (k base : Float) (held : T (fits binary64 base)) (k-ok : T (p
 
 pub at-the-end : AtTheEnd
 unfolding floatEntry entryIf answerBy run runFor fixed withVector flat floatsOk
-at-the-end k alpha eta base bound tau q held floats ok within late =
-    let a = positive k && positive alpha && positive eta in
+at-the-end k alpha beta eta base bound tau q held floats ok within late =
+    let a = positive k && positive alpha && finite beta && positive eta in
     let b : T (a && positive base) = and-l (a && positive base) (finite tau) (rw floats tt) in
-    let k-ok : T (positive k) = and-l (positive k) (positive alpha) (and-l (positive k && positive alpha) (positive eta) (and-l a (positive base) b)) in
+    let k-ok : T (positive k) = and-l (positive k) (positive alpha) (and-l (positive k && positive alpha) (finite beta) (and-l (positive k && positive alpha && finite beta) (positive eta) (and-l a (positive base) b))) in
     rw (floats, ok, le-leb (natAbs q) bound within, late)
     (ap (withVector (flat (rows bound)) 0) (exact-is (rows bound) k base held k-ok (and-r a (positive base) b) (place bound q) (place-within bound q within)))

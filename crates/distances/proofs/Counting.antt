@@ -27,10 +27,10 @@ counted bound k base q (failed s) h = tt
 
 pub steps-counted : StepsCounted
 unfolding Counted floatEntry entryIf refusedEntry floatSteps stepsIf
-steps-counted k alpha eta base bound tau q = go (floatsOk k alpha eta base tau) (boundOk bound) (within bound q)
+steps-counted k alpha beta eta base bound tau q = go (floatsOk k alpha beta eta base tau) (boundOk bound) (within bound q)
   where
-    go : (f b h : Bool) → Counted (entryIf f b h k alpha eta base bound tau q .answer) (stepsIf f b h alpha eta bound tau) × (stepsIf f b h alpha eta bound tau ≤ cap)
+    go : (f b h : Bool) → Counted (entryIf f b h k alpha beta eta base bound tau q .answer) (stepsIf f b h alpha beta eta bound tau) × (stepsIf f b h alpha beta eta bound tau ≤ cap)
     go false b h = (tt, omega arith)
     go true false h = (tt, omega arith)
     go true true false = (tt, omega arith)
-    go true true true = (counted bound k base q (run bound alpha eta tau) (budget-within bound alpha eta tau), steps-within bound alpha eta tau)
+    go true true true = (counted bound k base q (run bound alpha beta eta tau) (budget-within bound alpha beta eta tau), steps-within bound alpha beta eta tau)

@@ -53,15 +53,15 @@ read-finite (Outcome.OverCap need l s) v k base q b a n e = let z : _≡_ {A = �
 read-finite (Outcome.Refused r) v k base q b a n e = let z : _≡_ {A = ℕ} 0 1 = cc in absurd (omega arith)
 
 -- ---- the entry's answer is read from its vector
-entry-finite : (k alpha eta base : Float) (bound : ℕ) (tau : Float) (q : ℤ) (b a : Distance) (s : ℕ) → floatEntry k alpha eta base bound tau q .answer ≡ Distances b a s → Finite b a
+entry-finite : (k alpha beta eta base : Float) (bound : ℕ) (tau : Float) (q : ℤ) (b a : Distance) (s : ℕ) → floatEntry k alpha beta eta base bound tau q .answer ≡ Distances b a s → Finite b a
 unfolding floatEntry entryIf refusedEntry answerFrom
-entry-finite k alpha eta base bound tau q b a s = go (floatsOk k alpha eta base tau) (boundOk bound) (within bound q) refl refl refl
+entry-finite k alpha beta eta base bound tau q b a s = go (floatsOk k alpha beta eta base tau) (boundOk bound) (within bound q) refl refl refl
   where
-    go : (f c h : Bool) → floatsOk k alpha eta base tau ≡ f → boundOk bound ≡ c → within bound q ≡ h → entryIf f c h k alpha eta base bound tau q .answer ≡ Distances b a s → Finite b a
+    go : (f c h : Bool) → floatsOk k alpha beta eta base tau ≡ f → boundOk bound ≡ c → within bound q ≡ h → entryIf f c h k alpha beta eta base bound tau q .answer ≡ Distances b a s → Finite b a
     go false c h x y z e = let z : _≡_ {A = ℕ} 0 1 = cc in absurd (omega arith)
     go true false h x y z e = let z : _≡_ {A = ℕ} 0 1 = cc in absurd (omega arith)
     go true true false x y z e = let z : _≡_ {A = ℕ} 0 1 = cc in absurd (omega arith)
-    go true true true x y z e = read-finite _ _ k base q b a s (sym (rw (x, y, z) at (entry-reads k alpha eta base bound tau q x y z)) ∙ e)
+    go true true true x y z e = read-finite _ _ k base q b a s (sym (rw (x, y, z) at (entry-reads k alpha beta eta base bound tau q x y z)) ∙ e)
 
 pub finite-distances : FiniteDistances
 unfolding answerFrom

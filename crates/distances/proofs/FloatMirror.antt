@@ -1,4 +1,4 @@
--- The float entry at minus q is that at q with the sides exchanged: its run is its own mirror image, and opposite holdings have opposite places. Assumes nothing.
+-- The float entry at minus q and minus beta is that at q and beta with the sides exchanged: the two runs are mirror images, and opposite holdings have opposite places. Assumes nothing.
 use mathlib.Core.Path.{_≡_, refl, sym, _∙_}
 use Prim.Native.Nat.{ℕ, zero, suc, _+_, _≤_}
 use native.Mathlib.Omega.{arith}
@@ -8,25 +8,27 @@ use borrow.Author.Tests.{leb-true, lt-ltb, le-ltb}
 use lib.IntN.{ℤ, pos, negsuc, negℤ, natAbs}
 use lib.Dec.{leb, ltb}
 use lib.ListN.{length, List·getD-append}
-use lib.Ieee.{Float, nan}
+use lib.Ieee.{Float, nan, neg}
+use Rattle.elementary.proofs.Signs.{finite-neg}
 use Rattle.vector.specs.Vectors.{at}
-use Rattle.vector.specs.Run.{Ended, vector, overCap, failed, boundOk, rows, run}
-use Rattle.vector.specs.Values.{padded, vectorOf}
+use Rattle.vector.specs.Run.{Ended, vector, overCap, failed, boundOk, rows, run, spent}
+use Rattle.vector.specs.Values.{padded, vectorOf, blankVector}
 use Rattle.vector.specs.Promises.{Mirror, MirrorEnd}
 use Rattle.vector.specs.declared.ValueVector.{ValueVector}
-use Rattle.vector.proofs.OwnMirror.{own-mirror, full-length}
+use Rattle.vector.proofs.Turned.{turned-mirror, full-length}
 use Rattle.distances.specs.Distances.{place, distance, bidAt, askAt, fine, sides, exactAt}
-use Rattle.distances.specs.FloatEntry.{refusedEntry, withVector, answerBy, entryIf, floatsOk, floatEntry, floatSteps}
-use Rattle.distances.specs.Promises.{exchangedSides, exchanged, FloatMirror}
+use Rattle.distances.specs.FloatEntry.{refusedEntry, withVector, answerBy, entryIf, floatsOk, floatEntry, stepsIf, floatSteps}
+use Rattle.distances.specs.Promises.{exchangedSides, exchanged, MirrorVector, FloatMirror}
 use Rattle.distances.specs.declared.Distance.{Distance}
 use Rattle.distances.specs.declared.Sides.{Sides}
 use Rattle.distances.specs.declared.Sides.the-variants as Sides
 use Rattle.distances.specs.declared.FloatAnswer.{FloatAnswer}
+use Rattle.distances.proofs.Reading.{rates-pass}
 
 -- ---- the distances
-padded-alike : (n : ℕ) (l : List Float) → length l ≡ n → Mirror n l l → (i j : ℕ) → suc (i + j) ≡ n → at (padded n l) i ≡ at (padded n l) j
+padded-alike : (n : ℕ) (l r : List Float) → length l ≡ n → length r ≡ n → Mirror n l r → (i j : ℕ) → suc (i + j) ≡ n → at (padded n l) i ≡ at (padded n r) j
 unfolding padded Mirror
-padded-alike n l k m i j e = List·getD-append l _ nan i (omega (arith, k)) ∙ m i j e ∙ sym (List·getD-append l _ nan j (omega (arith, k)))
+padded-alike n l r k k′ m i j e = List·getD-append l _ nan i (omega (arith, k)) ∙ m i j e ∙ sym (List·getD-append r _ nan j (omega (arith, k′)))
 
 pub sides-exchanged : (b a : Distance) → sides (fine a && fine b) a b ≡ exchangedSides (sides (fine b && fine a) b a)
 unfolding sides exchangedSides
@@ -36,21 +38,38 @@ sides-exchanged b a = rw (and-comm (fine a) (fine b)) (go (fine b && fine a))
     go true = refl
     go false = refl
 
-module _ (n : ℕ) (w o : List Float) (w-n : length w ≡ n) (o-n : length o ≡ n) (W : Mirror n w w) (O : Mirror n o o) (k base : Float) where
-  side-alike : (i j : ℕ) → suc (i + j) ≡ n → bidAt (ltb (suc i) n) (vectorOf n w o) k base i ≡ askAt (vectorOf n w o) k base j
-  unfolding bidAt askAt distance vectorOf
-  side-alike i zero e = rw (le-ltb (suc i) n (omega arith))
-  side-alike i (suc j) e = rw (
-    lt-ltb (suc i) n (omega arith),
-    padded-alike n w w-n W i (suc j) e,
-    padded-alike n w w-n W (suc i) j (omega arith),
-    padded-alike n o o-n O i (suc j) e,
-    padded-alike n o o-n O (suc i) j (omega arith),
-  )
+mirrored-back : (n : ℕ) (l r : List Float) → Mirror n l r → Mirror n r l
+unfolding Mirror
+mirrored-back n l r m i j e = sym (m j i (omega arith))
 
-  exact-exchanged : (i j : ℕ) → suc (i + j) ≡ n → exactAt (vectorOf n w o) k base j ≡ exchangedSides (exactAt (vectorOf n w o) k base i)
-  unfolding exactAt vectorOf
-  exact-exchanged i j e = rw (side-alike j i (omega arith), ← side-alike i j e) (sides-exchanged _ _)
+-- two vectors of n entries that mirror each other
+record Facing (n : ℕ) (w o w′ o′ : List Float) : Type 0 where
+  w-n : length w ≡ n
+  o-n : length o ≡ n
+  w′-n : length w′ ≡ n
+  o′-n : length o′ ≡ n
+  W : Mirror n w w′
+  O : Mirror n o o′
+
+faced : (n : ℕ) (w o w′ o′ : List Float) → Facing n w o w′ o′ → Facing n w′ o′ w o
+faced n w o w′ o′ f = record { w-n = f .w′-n; o-n = f .o′-n; w′-n = f .w-n; o′-n = f .o-n; W = mirrored-back n w w′ (f .W); O = mirrored-back n o o′ (f .O) }
+
+side-alike : (n : ℕ) (w o w′ o′ : List Float) → Facing n w o w′ o′ → (k base : Float) (i j : ℕ) → suc (i + j) ≡ n
+    → bidAt (ltb (suc i) n) (vectorOf n w o) k base i ≡ askAt (vectorOf n w′ o′) k base j
+unfolding bidAt askAt distance vectorOf
+side-alike n w o w′ o′ f k base i zero e = rw (le-ltb (suc i) n (omega arith))
+side-alike n w o w′ o′ f k base i (suc j) e = rw (
+  lt-ltb (suc i) n (omega arith),
+  padded-alike n w w′ (f .w-n) (f .w′-n) (f .W) i (suc j) e,
+  padded-alike n w w′ (f .w-n) (f .w′-n) (f .W) (suc i) j (omega arith),
+  padded-alike n o o′ (f .o-n) (f .o′-n) (f .O) i (suc j) e,
+  padded-alike n o o′ (f .o-n) (f .o′-n) (f .O) (suc i) j (omega arith),
+)
+
+exact-exchanged : (n : ℕ) (w o w′ o′ : List Float) → Facing n w o w′ o′ → (k base : Float) (i j : ℕ) → suc (i + j) ≡ n
+    → exactAt (vectorOf n w′ o′) k base j ≡ exchangedSides (exactAt (vectorOf n w o) k base i)
+unfolding exactAt vectorOf
+exact-exchanged n w o w′ o′ f k base i j e = rw (side-alike n w′ o′ w o (faced n w o w′ o′ f) k base j i (omega arith), ← side-alike n w o w′ o′ f k base i j e) (sides-exchanged _ _)
 
 -- ---- the entry
 places : (bound : ℕ) (q : ℤ) → natAbs q ≤ bound → suc (place bound q + place bound (negℤ q)) ≡ rows bound
@@ -64,40 +83,103 @@ natAbs-neg (pos zero) = refl
 natAbs-neg (pos (suc n)) = refl
 natAbs-neg (negsuc n) = refl
 
--- the answer with the sides exchanged, the vector the same
-record Exchanged (x y : FloatAnswer) : Type 0 where
+-- the answer with the sides exchanged, the vector mirrored, and the same where the two runs have the same end
+record Exchanged (T : Type 0) (x y : FloatAnswer) : Type 0 where
   answers : x .answer ≡ exchanged (y .answer)
-  vectors : x .vector ≡ y .vector
+  vectors : MirrorVector (x .vector) (y .vector)
+  same : T → x .vector ≡ y .vector
 
-with-exchanged : (v : ValueVector) (s : ℕ) (r : Sides) → Exchanged (withVector v s (exchangedSides r)) (withVector v s r)
+-- the blank vector has no entry
+blank-mirrored : MirrorVector blankVector blankVector
+unfolding Mirror blankVector
+blank-mirrored = (refl, (λ i j e. absurd (omega arith)), (λ i j e. absurd (omega arith)))
+
+alike : (T : Type 0) (x : FloatAnswer) → x .vector ≡ blankVector → exchanged (x .answer) ≡ x .answer → Exchanged T x x
+alike T x e h = record { answers = sym h; vectors = rw e blank-mirrored; same = λ _. refl }
+
+with-exchanged : (T : Type 0) (v v′ : ValueVector) (s : ℕ) (r : Sides) → MirrorVector v v′ → (T → v ≡ v′) → Exchanged T (withVector v s (exchangedSides r)) (withVector v′ s r)
 unfolding withVector refusedEntry exchanged exchangedSides
-with-exchanged v s (Sides.Distances b a) = record { answers = refl; vectors = refl }
-with-exchanged v s (Sides.Refused r) = record { answers = refl; vectors = refl }
+with-exchanged T v v′ s (Sides.Distances b a) m h = record { answers = refl; vectors = m; same = h }
+with-exchanged T v v′ s (Sides.Refused r) m h = record { answers = refl; vectors = blank-mirrored; same = λ _. refl }
 
--- a run's end whose vector has n entries, opposite ones alike
-abbrev Even : ℕ → Ended → Type 0
-Even n e = ((w o : List Float) (s : ℕ) → e ≡ vector w o s → (length w ≡ n) × (length o ≡ n)) × MirrorEnd n e e
+-- a run's end whose vector has n entries
+abbrev Long : ℕ → Ended → Type 0
+Long n e = (w o : List Float) (s : ℕ) → e ≡ vector w o s → (length w ≡ n) × (length o ≡ n)
 
-by-exchanged : (bound : ℕ) (k base : Float) (q : ℤ) → natAbs q ≤ bound → (e : Ended) → Even (rows bound) e
-    → Exchanged (answerBy bound k base (negℤ q) e) (answerBy bound k base q e)
+vector-mirrored : (n : ℕ) (w o w′ o′ : List Float) → Facing n w o w′ o′ → MirrorVector (vectorOf n w′ o′) (vectorOf n w o)
+unfolding vectorOf Mirror
+vector-mirrored n w o w′ o′ f = (
+  refl,
+  padded-alike n w′ w (f .w′-n) (f .w-n) (mirrored-back n w w′ (f .W)),
+  padded-alike n o′ o (f .o′-n) (f .o-n) (mirrored-back n o o′ (f .O)),
+)
+
+same-vector : (n : ℕ) (w o w′ o′ : List Float) (s s′ : ℕ) → vector w′ o′ s′ ≡ vector w o s → vectorOf n w′ o′ ≡ vectorOf n w o
+same-vector n w o w′ o′ s s′ e =
+    let ew : w′ ≡ w = cc in
+    let eo : o′ ≡ o = cc in
+    rw (ew, eo)
+
+by-exchanged : (bound : ℕ) (k base : Float) (q : ℤ) → natAbs q ≤ bound → (e e′ : Ended) → Long (rows bound) e → Long (rows bound) e′ → MirrorEnd (rows bound) e e′
+    → Exchanged (e′ ≡ e) (answerBy bound k base (negℤ q) e′) (answerBy bound k base q e)
 unfolding answerBy refusedEntry exchanged MirrorEnd
-by-exchanged bound k base q h (vector w o s) (long, (W, O, _)) =
-    let v = vectorOf (rows bound) w o in
+by-exchanged bound k base q h (vector w o s) (vector w′ o′ s′) long long′ (W, O, z) =
+    let n = rows bound in
     let (w-n, o-n) = long w o s refl in
-    rw (exact-exchanged (rows bound) w o w-n o-n W O k base (place bound q) (place bound (negℤ q)) (places bound q h)) (with-exchanged v s (exactAt v k base (place bound q)))
-by-exchanged bound k base q h (overCap need b) r = record { answers = refl; vectors = refl }
-by-exchanged bound k base q h (failed s) r = record { answers = refl; vectors = refl }
+    let (w′-n, o′-n) = long′ w′ o′ s′ refl in
+    let f : Facing n w o w′ o′ = record { w-n = w-n; o-n = o-n; w′-n = w′-n; o′-n = o′-n; W = W; O = O } in
+    rw (exact-exchanged n w o w′ o′ f k base (place bound q) (place bound (negℤ q)) (places bound q h), z)
+    (with-exchanged _ (vectorOf n w′ o′) (vectorOf n w o) s′ (exactAt (vectorOf n w o) k base (place bound q)) (vector-mirrored n w o w′ o′ f) (same-vector n w o w′ o′ s′ s′))
+by-exchanged bound k base q h (vector w o s) (overCap need b) long long′ m = absurd m
+by-exchanged bound k base q h (vector w o s) (failed s′) long long′ m = absurd m
+by-exchanged bound k base q h (overCap need b) (vector w o s) long long′ m = absurd m
+by-exchanged bound k base q h (overCap need b) (overCap need′ b′) long long′ (en, eb) = rw (en, eb) (alike _ _ refl refl)
+by-exchanged bound k base q h (overCap need b) (failed s) long long′ m = absurd m
+by-exchanged bound k base q h (failed s) (vector w o s′) long long′ m = absurd m
+by-exchanged bound k base q h (failed s) (overCap need b) long long′ m = absurd m
+by-exchanged bound k base q h (failed s) (failed s′) long long′ m = alike _ _ refl refl
 
-entry-exchanged : (a b c : Bool) (k alpha eta base : Float) (bound : ℕ) (tau : Float) (q : ℤ) → leb (natAbs q) bound ≡ c
-    → Exchanged (entryIf a b c k alpha eta base bound tau (negℤ q)) (entryIf a b c k alpha eta base bound tau q)
-unfolding entryIf refusedEntry exchanged
-entry-exchanged false b c k alpha eta base bound tau q h = record { answers = refl; vectors = refl }
-entry-exchanged true false c k alpha eta base bound tau q h = record { answers = refl; vectors = refl }
-entry-exchanged true true false k alpha eta base bound tau q h = record { answers = refl; vectors = refl }
-entry-exchanged true true true k alpha eta base bound tau q h = by-exchanged bound k base q (leb-true (natAbs q) bound h) (run bound alpha eta tau) (full-length bound alpha eta tau, own-mirror bound alpha eta tau)
+spent-alike : (n : ℕ) (e e′ : Ended) → MirrorEnd n e e′ → spent e′ ≡ spent e
+unfolding spent MirrorEnd
+spent-alike n (vector w o s) (vector w′ o′ s′) (W, O, z) = sym z
+spent-alike n (vector w o s) (overCap need b) m = absurd m
+spent-alike n (vector w o s) (failed s′) m = absurd m
+spent-alike n (overCap need b) (vector w o s) m = absurd m
+spent-alike n (overCap need b) (overCap need′ b′) (en, eb) = rw eb
+spent-alike n (overCap need b) (failed s) m = absurd m
+spent-alike n (failed s) (vector w o s′) m = absurd m
+spent-alike n (failed s) (overCap need b) m = absurd m
+spent-alike n (failed s) (failed s′) m = sym m
+
+module _ (k alpha beta eta base : Float) (bound : ℕ) (tau : Float) (q : ℤ) where
+  -- past the checks the two runs have the same end
+  abbrev pub SameRun : Type 0
+  SameRun = floatsOk k alpha beta eta base tau ≡ true → boundOk bound ≡ true → run bound alpha (neg beta) eta tau ≡ run bound alpha beta eta tau
+
+  entry-exchanged : (a b c : Bool) → floatsOk k alpha beta eta base tau ≡ a → boundOk bound ≡ b → leb (natAbs q) bound ≡ c
+      → Exchanged SameRun (entryIf a b c k alpha (neg beta) eta base bound tau (negℤ q)) (entryIf a b c k alpha beta eta base bound tau q)
+      × (stepsIf a b c alpha (neg beta) eta bound tau ≡ stepsIf a b c alpha beta eta bound tau)
+  unfolding entryIf stepsIf refusedEntry exchanged
+  entry-exchanged false b c ea eb ec = (alike _ _ refl refl, refl)
+  entry-exchanged true false c ea eb ec = (alike _ _ refl refl, refl)
+  entry-exchanged true true false ea eb ec = (alike _ _ refl refl, refl)
+  entry-exchanged true true true ea eb ec =
+      let m = turned-mirror bound alpha beta eta tau eb (rates-pass k alpha beta eta base tau ea) in
+      let x = by-exchanged bound k base q (leb-true (natAbs q) bound ec) _ _ (full-length bound alpha beta eta tau) (full-length bound alpha (neg beta) eta tau) m in
+      (record { answers = x .answers; vectors = x .vectors; same = λ t. x .same (t ea eb) }, spent-alike (rows bound) _ _ m)
+
+  floats-turned : floatsOk k alpha (neg beta) eta base tau ≡ floatsOk k alpha beta eta base tau
+  unfolding floatsOk
+  floats-turned = rw (finite-neg beta)
+
+  entries : Exchanged SameRun (floatEntry k alpha (neg beta) eta base bound tau (negℤ q)) (floatEntry k alpha beta eta base bound tau q)
+      × (floatSteps k alpha (neg beta) eta base bound tau (negℤ q) ≡ floatSteps k alpha beta eta base bound tau q)
+  unfolding floatEntry floatSteps
+  entries = rw (floats-turned, natAbs-neg q) (entry-exchanged (floatsOk k alpha beta eta base tau) (boundOk bound) (leb (natAbs q) bound) refl refl refl)
+
+  pub same-vectors : SameRun → floatEntry k alpha (neg beta) eta base bound tau (negℤ q) .vector ≡ floatEntry k alpha beta eta base bound tau q .vector
+  same-vectors t = entries .0 .same t
 
 pub float-mirror : FloatMirror
-unfolding floatEntry floatSteps
-float-mirror k alpha eta base bound tau q =
-    let x = entry-exchanged (floatsOk k alpha eta base tau) (boundOk bound) (leb (natAbs q) bound) k alpha eta base bound tau q refl in
-    rw (natAbs-neg q) (x .answers, x .vectors, refl)
+float-mirror k alpha beta eta base bound tau q =
+    let (x, s) = entries k alpha beta eta base bound tau q in (x .answers, x .vectors, s)

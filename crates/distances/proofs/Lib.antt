@@ -1,6 +1,7 @@
 pub mod Holdings
 pub mod AtEnd
 pub mod FloatMirror
+pub mod Drift
 pub mod Counting
 pub mod Presence
 pub mod Weights

@@ -69,10 +69,10 @@ run-withheld bound k base q h (failed n) b a s e = let z : _≡_ {A = ℕ} 0 1 =
 
 pub float-presence : FloatPresence
 unfolding floatEntry entryIf refusedEntry
-float-presence k alpha eta base bound tau q b a s = go (floatsOk k alpha eta base tau) (boundOk bound) (within bound q) refl
+float-presence k alpha beta eta base bound tau q b a s = go (floatsOk k alpha beta eta base tau) (boundOk bound) (within bound q) refl
   where
-    go : (f c h : Bool) → within bound q ≡ h → entryIf f c h k alpha eta base bound tau q .answer ≡ Distances b a s → Withheld bound q b a
+    go : (f c h : Bool) → within bound q ≡ h → entryIf f c h k alpha beta eta base bound tau q .answer ≡ Distances b a s → Withheld bound q b a
     go false c h t e = let z : _≡_ {A = ℕ} 0 1 = cc in absurd (omega arith)
     go true false h t e = let z : _≡_ {A = ℕ} 0 1 = cc in absurd (omega arith)
     go true true false t e = let z : _≡_ {A = ℕ} 0 1 = cc in absurd (omega arith)
-    go true true true t e = run-withheld bound k base q (leb-true (natAbs q) bound t) (run bound alpha eta tau) b a s e
+    go true true true t e = run-withheld bound k base q (leb-true (natAbs q) bound t) (run bound alpha beta eta tau) b a s e

@@ -22,32 +22,34 @@ use Rattle.distances.specs.declared.Sides.the-variants as Sides
 use Rattle.distances.specs.declared.Answer.the-variants as Answer
 
 -- ---- the value vector where the checks pass
-inner : (k a e b t : Bool) → (k && a && e && b && t) ≡ true → (a && e && t) ≡ true
-inner false a e b t h = cc
-inner true false e b t h = cc
-inner true true false b t h = cc
-inner true true true false t h = cc
-inner true true true true t h = h
+inner : (k a d e b t : Bool) → (k && a && d && e && b && t) ≡ true → (a && d && e && t) ≡ true
+inner false a d e b t h = cc
+inner true false d e b t h = cc
+inner true true false e b t h = cc
+inner true true true false b t h = cc
+inner true true true true false t h = cc
+inner true true true true true t h = h
 
-scale : (k a e b t : Bool) → (k && a && e && b && t) ≡ true → (k && b) ≡ true
-scale false a e b t h = cc
-scale true false e b t h = cc
-scale true true false b t h = cc
-scale true true true false t h = cc
-scale true true true true t h = refl
+scale : (k a d e b t : Bool) → (k && a && d && e && b && t) ≡ true → (k && b) ≡ true
+scale false a d e b t h = cc
+scale true false d e b t h = cc
+scale true true false e b t h = cc
+scale true true true false b t h = cc
+scale true true true true false t h = cc
+scale true true true true true t h = refl
 
-pub rates-pass : (k alpha eta base tau : Float) → floatsOk k alpha eta base tau ≡ true → ratesOk alpha eta tau ≡ true
+pub rates-pass : (k alpha beta eta base tau : Float) → floatsOk k alpha beta eta base tau ≡ true → ratesOk alpha beta eta tau ≡ true
 unfolding floatsOk ratesOk
-rates-pass k alpha eta base tau = inner (positive k) (positive alpha) (positive eta) (positive base) (finite tau)
+rates-pass k alpha beta eta base tau = inner (positive k) (positive alpha) (finite beta) (positive eta) (positive base) (finite tau)
 
-pub vector-is : (k alpha eta base : Float) (bound : ℕ) (tau : Float) → floatsOk k alpha eta base tau ≡ true → boundOk bound ≡ true
-    → valueVector alpha eta bound tau ≡ vectorBy (rows bound) (run bound alpha eta tau)
+pub vector-is : (k alpha beta eta base : Float) (bound : ℕ) (tau : Float) → floatsOk k alpha beta eta base tau ≡ true → boundOk bound ≡ true
+    → valueVector alpha beta eta bound tau ≡ vectorBy (rows bound) (run bound alpha beta eta tau)
 unfolding valueVector vectorIf
-vector-is k alpha eta base bound tau f b = rw (rates-pass k alpha eta base tau f, b)
+vector-is k alpha beta eta base bound tau f b = rw (rates-pass k alpha beta eta base tau f, b)
 
-scale-is : (k alpha eta base tau : Float) → floatsOk k alpha eta base tau ≡ true → (positive k && positive base) ≡ true
+scale-is : (k alpha beta eta base tau : Float) → floatsOk k alpha beta eta base tau ≡ true → (positive k && positive base) ≡ true
 unfolding floatsOk
-scale-is k alpha eta base tau f = scale (positive k) (positive alpha) (positive eta) (positive base) (finite tau) f
+scale-is k alpha beta eta base tau f = scale (positive k) (positive alpha) (finite beta) (positive eta) (positive base) (finite tau) f
 
 -- ---- the length of a bound's vector
 half-rows : (b : ℕ) → (2 * b + 1) / 2 ≡ b
@@ -76,8 +78,8 @@ module _ (b : ℕ) (k base : Float) (q : ℤ) (s : (positive k && positive base)
 
 pub entry-reads : EntryReads
 unfolding floatEntry entryIf
-entry-reads k alpha eta base bound tau q f b h =
-    rw (f, b, h, vector-is k alpha eta base bound tau f b) (read-is bound k base q (scale-is k alpha eta base tau f) b h (run bound alpha eta tau))
+entry-reads k alpha beta eta base bound tau q f b h =
+    rw (f, b, h, vector-is k alpha beta eta base bound tau f b) (read-is bound k base q (scale-is k alpha beta eta base tau f) b h (run bound alpha beta eta tau))
 
 -- ---- refusals
 sides-refused : (s : ℕ) (x : Sides) (n : ℕ) → sidesWith s x ≡ Answer.Refused n → x ≡ Sides.Refused n

@@ -92,37 +92,37 @@ unfolding withVector refusedEntry
 with-refused v s (Sides.Distances b a) n e = cc
 with-refused v s (Sides.Refused r) n e = cc
 
-module _ (k alpha eta base : Float) (bound : ℕ) (tau : Float) (q : ℤ) where
-  ended : (e : Ended) → run bound alpha eta tau ≡ e → (n : ℕ) → answerBy bound k base q e .answer ≡ Answer.Refused n → (n ≡ numerical) × EntryFails k alpha eta base bound tau q
+module _ (k alpha beta eta base : Float) (bound : ℕ) (tau : Float) (q : ℤ) where
+  ended : (e : Ended) → run bound alpha beta eta tau ≡ e → (n : ℕ) → answerBy bound k base q e .answer ≡ Answer.Refused n → (n ≡ numerical) × EntryFails k alpha beta eta base bound tau q
   unfolding answerBy refusedEntry
   ended (vector w o s) h n i =
       let v = vectorOf (rows bound) w o in
       let (z, r) = reads-fail v k base (place bound q) n .0 (with-refused v s _ n i) in
       (z, by-read h r)
   ended (overCap need b) h n i = let z : _≡_ {A = ℕ} 0 1 = cc in absurd (omega arith)
-  ended (failed s) h n i = let c = runs-fail bound alpha eta tau s .0 h in (cc, by-run (c .0) (c .1))
+  ended (failed s) h n i = let c = runs-fail bound alpha beta eta tau s .0 h in (cc, by-run (c .0) (c .1))
 
-  ends : EntryFails k alpha eta base bound tau q → answerBy bound k base q (run bound alpha eta tau) .answer ≡ Answer.Refused numerical
+  ends : EntryFails k alpha beta eta base bound tau q → answerBy bound k base q (run bound alpha beta eta tau) .answer ≡ Answer.Refused numerical
   unfolding answerBy withVector refusedEntry
-  ends (by-run {s} l c) = rw (runs-fail bound alpha eta tau s .1 (l, c))
+  ends (by-run {s} l c) = rw (runs-fail bound alpha beta eta tau s .1 (l, c))
   ends (by-read {w} {o} {s} h r) = rw (h, reads-fail (vectorOf (rows bound) w o) k base (place bound q) numerical .1 (refl, r))
 
 pub float-refusals : FloatRefusals
 unfolding floatEntry entryIf refusedEntry
-float-refusals k alpha eta base bound tau q n = (to (floatsOk k alpha eta base tau) (boundOk bound) (within bound q) refl refl refl, from n)
+float-refusals k alpha beta eta base bound tau q n = (to (floatsOk k alpha beta eta base tau) (boundOk bound) (within bound q) refl refl refl, from n)
   where
-    to : (f b h : Bool) → floatsOk k alpha eta base tau ≡ f → boundOk bound ≡ b → within bound q ≡ h → entryIf f b h k alpha eta base bound tau q .answer ≡ Answer.Refused n
-        → FloatRefused k alpha eta base bound tau q n
-    to false b h ef eb eh e = subst (λ (m : ℕ). FloatRefused k alpha eta base bound tau q m) (cc) (at-5 ef)
-    to true false h ef eb eh e = subst (λ (m : ℕ). FloatRefused k alpha eta base bound tau q m) (cc) (at-1 ef eb)
-    to true true false ef eb eh e = subst (λ (m : ℕ). FloatRefused k alpha eta base bound tau q m) (cc) (at-4 ef eb eh)
-    to true true true ef eb eh e = let (z, r) = ended k alpha eta base bound tau q (run bound alpha eta tau) refl n e in rw z (at-11 ef eb eh r)
+    to : (f b h : Bool) → floatsOk k alpha beta eta base tau ≡ f → boundOk bound ≡ b → within bound q ≡ h → entryIf f b h k alpha beta eta base bound tau q .answer ≡ Answer.Refused n
+        → FloatRefused k alpha beta eta base bound tau q n
+    to false b h ef eb eh e = subst (λ (m : ℕ). FloatRefused k alpha beta eta base bound tau q m) (cc) (at-5 ef)
+    to true false h ef eb eh e = subst (λ (m : ℕ). FloatRefused k alpha beta eta base bound tau q m) (cc) (at-1 ef eb)
+    to true true false ef eb eh e = subst (λ (m : ℕ). FloatRefused k alpha beta eta base bound tau q m) (cc) (at-4 ef eb eh)
+    to true true true ef eb eh e = let (z, r) = ended k alpha beta eta base bound tau q (run bound alpha beta eta tau) refl n e in rw z (at-11 ef eb eh r)
 
-    from : (m : ℕ) → FloatRefused k alpha eta base bound tau q m → entryIf (floatsOk k alpha eta base tau) (boundOk bound) (within bound q) k alpha eta base bound tau q .answer ≡ Answer.Refused m
+    from : (m : ℕ) → FloatRefused k alpha beta eta base bound tau q m → entryIf (floatsOk k alpha beta eta base tau) (boundOk bound) (within bound q) k alpha beta eta base bound tau q .answer ≡ Answer.Refused m
     from m (at-5 ef) = rw ef
     from m (at-1 ef eb) = rw (ef, eb)
     from m (at-4 ef eb eh) = rw (ef, eb, eh)
-    from m (at-11 ef eb eh r) = rw (ef, eb, eh) (ends k alpha eta base bound tau q r)
+    from m (at-11 ef eb eh r) = rw (ef, eb, eh) (ends k alpha beta eta base bound tau q r)
 
 -- ---- the cap report
 with-report : (v : ValueVector) (t : ℕ) (r : Sides) (need : Float) (b s : ℕ) → withVector v t r .answer ≡ Answer.OverCap need b s → _≡_ {A = ℕ} 0 1
@@ -141,17 +141,17 @@ reported bound k base q (failed t) need b s i = let z : _≡_ {A = ℕ} 0 1 = cc
 
 pub float-reports : FloatReports
 unfolding floatEntry entryIf answerBy refusedEntry
-float-reports k alpha eta base bound tau q need b s = (to (floatsOk k alpha eta base tau) (boundOk bound) (within bound q) refl refl refl, from)
+float-reports k alpha beta eta base bound tau q need b s = (to (floatsOk k alpha beta eta base tau) (boundOk bound) (within bound q) refl refl refl, from)
   where
-    to : (f c h : Bool) → floatsOk k alpha eta base tau ≡ f → boundOk bound ≡ c → within bound q ≡ h → entryIf f c h k alpha eta base bound tau q .answer ≡ Answer.OverCap need b s
-        → FloatReported k alpha eta base bound tau q need b s
+    to : (f c h : Bool) → floatsOk k alpha beta eta base tau ≡ f → boundOk bound ≡ c → within bound q ≡ h → entryIf f c h k alpha beta eta base bound tau q .answer ≡ Answer.OverCap need b s
+        → FloatReported k alpha beta eta base bound tau q need b s
     to false c h ef ec eh e = let z : _≡_ {A = ℕ} 0 1 = cc in absurd (omega arith)
     to true false h ef ec eh e = let z : _≡_ {A = ℕ} 0 1 = cc in absurd (omega arith)
     to true true false ef ec eh e = let z : _≡_ {A = ℕ} 0 1 = cc in absurd (omega arith)
     to true true true ef ec eh e =
-        let r = reported bound k base q (run bound alpha eta tau) need b s e in
-        let c = cap-reports bound alpha eta tau need b .0 (r .0) in
+        let r = reported bound k base q (run bound alpha beta eta tau) need b s e in
+        let c = cap-reports bound alpha beta eta tau need b .0 (r .0) in
         record { floats = ef; bound-ok = ec; held = eh; time = c .0; report = c .1; steps = r .1 }
 
-    from : FloatReported k alpha eta base bound tau q need b s → entryIf (floatsOk k alpha eta base tau) (boundOk bound) (within bound q) k alpha eta base bound tau q .answer ≡ Answer.OverCap need b s
-    from r = rw (r .floats, r .bound-ok, r .held, cap-reports bound alpha eta tau need b .1 (r .time, r .report), r .steps)
+    from : FloatReported k alpha beta eta base bound tau q need b s → entryIf (floatsOk k alpha beta eta base tau) (boundOk bound) (within bound q) k alpha beta eta base bound tau q .answer ≡ Answer.OverCap need b s
+    from r = rw (r .floats, r .bound-ok, r .held, cap-reports bound alpha beta eta tau need b .1 (r .time, r .report), r .steps)

@@ -33,24 +33,25 @@ answerBy bound k base q (overCap need b) = record { answer = Answer.OverCap need
 answerBy bound k base q (failed s) = refusedEntry numerical
 
 -- are the floats fine, is the bound, is the holding within it
-unfoldable pub entryIf : Bool → Bool → Bool → Float → Float → Float → Float → ℕ → Float → ℤ → FloatAnswer
-entryIf false b h k alpha eta base bound tau q = refusedEntry outside
-entryIf true false h k alpha eta base bound tau q = refusedEntry configuration
-entryIf true true false k alpha eta base bound tau q = refusedEntry holding
-entryIf true true true k alpha eta base bound tau q = answerBy bound k base q (run bound alpha eta tau)
+unfoldable pub entryIf : Bool → Bool → Bool → Float → Float → Float → Float → Float → ℕ → Float → ℤ → FloatAnswer
+entryIf false b h k alpha beta eta base bound tau q = refusedEntry outside
+entryIf true false h k alpha beta eta base bound tau q = refusedEntry configuration
+entryIf true true false k alpha beta eta base bound tau q = refusedEntry holding
+entryIf true true true k alpha beta eta base bound tau q = answerBy bound k base q (run bound alpha beta eta tau)
 
-unfoldable pub floatsOk : Float → Float → Float → Float → Float → Bool
-floatsOk k alpha eta base tau = positive k && positive alpha && positive eta && positive base && finite tau
+-- k, alpha, eta and base finite and above zero, beta and tau finite
+unfoldable pub floatsOk : Float → Float → Float → Float → Float → Float → Bool
+floatsOk k alpha beta eta base tau = positive k && positive alpha && finite beta && positive eta && positive base && finite tau
 
-unfoldable pub floatEntry : Float → Float → Float → Float → ℕ → Float → ℤ → FloatAnswer
-floatEntry k alpha eta base bound tau q = entryIf (floatsOk k alpha eta base tau) (boundOk bound) (within bound q) k alpha eta base bound tau q
+unfoldable pub floatEntry : Float → Float → Float → Float → Float → ℕ → Float → ℤ → FloatAnswer
+floatEntry k alpha beta eta base bound tau q = entryIf (floatsOk k alpha beta eta base tau) (boundOk bound) (within bound q) k alpha beta eta base bound tau q
 
 -- the finished steps of the run that the entry defines, under a refusal too: none where no run begins
-unfoldable pub stepsIf : Bool → Bool → Bool → Float → Float → ℕ → Float → ℕ
-stepsIf false b h alpha eta bound tau = 0
-stepsIf true false h alpha eta bound tau = 0
-stepsIf true true false alpha eta bound tau = 0
-stepsIf true true true alpha eta bound tau = spent (run bound alpha eta tau)
+unfoldable pub stepsIf : Bool → Bool → Bool → Float → Float → Float → ℕ → Float → ℕ
+stepsIf false b h alpha beta eta bound tau = 0
+stepsIf true false h alpha beta eta bound tau = 0
+stepsIf true true false alpha beta eta bound tau = 0
+stepsIf true true true alpha beta eta bound tau = spent (run bound alpha beta eta tau)
 
-unfoldable pub floatSteps : Float → Float → Float → Float → ℕ → Float → ℤ → ℕ
-floatSteps k alpha eta base bound tau q = stepsIf (floatsOk k alpha eta base tau) (boundOk bound) (within bound q) alpha eta bound tau
+unfoldable pub floatSteps : Float → Float → Float → Float → Float → ℕ → Float → ℤ → ℕ
+floatSteps k alpha beta eta base bound tau q = stepsIf (floatsOk k alpha beta eta base tau) (boundOk bound) (within bound q) alpha beta eta bound tau

@@ -2,6 +2,7 @@ pub mod Refusals
 pub mod Distances
 pub mod FloatEntry
 pub mod Count
+pub mod Drift
 pub mod Reading
 pub mod Weights
 pub mod Refusing

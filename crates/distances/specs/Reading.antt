@@ -35,8 +35,8 @@ answerFrom a k base q = readBy (a .outcome) (a .vector) k base q
 -- ==== statements
 -- where its numbers pass the checks, the float entry's answer is read from the value vector of its floats
 abbrev pub EntryReads : Type 0
-EntryReads = (k alpha eta base : Float) (bound : ℕ) (tau : Float) (q : ℤ) → floatsOk k alpha eta base tau ≡ true → boundOk bound ≡ true → within bound q ≡ true
-    → floatEntry k alpha eta base bound tau q .answer ≡ answerFrom (valueVector alpha eta bound tau) k base q
+EntryReads = (k alpha beta eta base : Float) (bound : ℕ) (tau : Float) (q : ℤ) → floatsOk k alpha beta eta base tau ≡ true → boundOk bound ≡ true → within bound q ≡ true
+    → floatEntry k alpha beta eta base bound tau q .answer ≡ answerFrom (valueVector alpha beta eta bound tau) k base q
 
 -- an answer from a vector is refused just where that refusal is there in the vector's place, or where there is a vector and its distances are refused
 abbrev pub ReadRefusals : Type 0

@@ -40,31 +40,31 @@ DistancesRefusals = (v : ValueVector) (k base : Float) (q : ℤ) (n : ℕ) → (
 
 -- ---- the float entry
 -- why a call that passes the checks fails: its run does, or a read of the vector that it gives
-pub data EntryFails (k alpha eta base : Float) (bound : ℕ) (tau : Float) (q : ℤ) : Type 0 where
-  by-run : {s : ℕ} → lt 0ᶠ tau ≡ true → RunFails (fixed bound alpha eta) tau s → EntryFails k alpha eta base bound tau q
-  by-read : {w o : List Float} {s : ℕ} → run bound alpha eta tau ≡ vector w o s → ReadFails (vectorOf (rows bound) w o) k base (place bound q) → EntryFails k alpha eta base bound tau q
+pub data EntryFails (k alpha beta eta base : Float) (bound : ℕ) (tau : Float) (q : ℤ) : Type 0 where
+  by-run : {s : ℕ} → lt 0ᶠ tau ≡ true → RunFails (fixed bound alpha beta eta) tau s → EntryFails k alpha beta eta base bound tau q
+  by-read : {w o : List Float} {s : ℕ} → run bound alpha beta eta tau ≡ vector w o s → ReadFails (vectorOf (rows bound) w o) k base (place bound q) → EntryFails k alpha beta eta base bound tau q
 
 -- in order: the floats, the bound, the holding, and a call that fails
-pub data FloatRefused (k alpha eta base : Float) (bound : ℕ) (tau : Float) (q : ℤ) : ℕ → Type 0 where
-  at-5 : floatsOk k alpha eta base tau ≡ false → FloatRefused k alpha eta base bound tau q outside
-  at-1 : floatsOk k alpha eta base tau ≡ true → boundOk bound ≡ false → FloatRefused k alpha eta base bound tau q configuration
-  at-4 : floatsOk k alpha eta base tau ≡ true → boundOk bound ≡ true → within bound q ≡ false → FloatRefused k alpha eta base bound tau q holding
-  at-11 : floatsOk k alpha eta base tau ≡ true → boundOk bound ≡ true → within bound q ≡ true → EntryFails k alpha eta base bound tau q
-      → FloatRefused k alpha eta base bound tau q numerical
+pub data FloatRefused (k alpha beta eta base : Float) (bound : ℕ) (tau : Float) (q : ℤ) : ℕ → Type 0 where
+  at-5 : floatsOk k alpha beta eta base tau ≡ false → FloatRefused k alpha beta eta base bound tau q outside
+  at-1 : floatsOk k alpha beta eta base tau ≡ true → boundOk bound ≡ false → FloatRefused k alpha beta eta base bound tau q configuration
+  at-4 : floatsOk k alpha beta eta base tau ≡ true → boundOk bound ≡ true → within bound q ≡ false → FloatRefused k alpha beta eta base bound tau q holding
+  at-11 : floatsOk k alpha beta eta base tau ≡ true → boundOk bound ≡ true → within bound q ≡ true → EntryFails k alpha beta eta base bound tau q
+      → FloatRefused k alpha beta eta base bound tau q numerical
 
 abbrev pub FloatRefusals : Type 0
-FloatRefusals = (k alpha eta base : Float) (bound : ℕ) (tau : Float) (q : ℤ) (n : ℕ)
-    → (floatEntry k alpha eta base bound tau q .answer ≡ Answer.Refused n) ↔ FloatRefused k alpha eta base bound tau q n
+FloatRefusals = (k alpha beta eta base : Float) (bound : ℕ) (tau : Float) (q : ℤ) (n : ℕ)
+    → (floatEntry k alpha beta eta base bound tau q .answer ≡ Answer.Refused n) ↔ FloatRefused k alpha beta eta base bound tau q n
 
 -- ---- the cap report, where the checks pass: a plan of the run needs more steps than the budget left; with it come the steps spent
-pub record FloatReported (k alpha eta base : Float) (bound : ℕ) (tau : Float) (q : ℤ) (need : Float) (b s : ℕ) : Type 0 where
-  pub floats : floatsOk k alpha eta base tau ≡ true
+pub record FloatReported (k alpha beta eta base : Float) (bound : ℕ) (tau : Float) (q : ℤ) (need : Float) (b s : ℕ) : Type 0 where
+  pub floats : floatsOk k alpha beta eta base tau ≡ true
   pub bound-ok : boundOk bound ≡ true
   pub held : within bound q ≡ true
   pub time : lt 0ᶠ tau ≡ true
-  pub report : CapReported (fixed bound alpha eta) tau need b
+  pub report : CapReported (fixed bound alpha beta eta) tau need b
   pub steps : s ≡ cap - b
 
 abbrev pub FloatReports : Type 0
-FloatReports = (k alpha eta base : Float) (bound : ℕ) (tau : Float) (q : ℤ) (need : Float) (b s : ℕ)
-    → (floatEntry k alpha eta base bound tau q .answer ≡ Answer.OverCap need b s) ↔ FloatReported k alpha eta base bound tau q need b s
+FloatReports = (k alpha beta eta base : Float) (bound : ℕ) (tau : Float) (q : ℤ) (need : Float) (b s : ℕ)
+    → (floatEntry k alpha beta eta base bound tau q .answer ≡ Answer.OverCap need b s) ↔ FloatReported k alpha beta eta base bound tau q need b s

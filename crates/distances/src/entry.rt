@@ -12,12 +12,13 @@ use vector::MAX_INVENTORY_LOTS;
 use vector::Outcome;
 use vector::ValueVector;
 
-// Whether k, alpha, eta and base are finite and above zero, and tau is finite.
-pub(crate) fn floats_fit(k: f64, alpha: f64, eta: f64, base: f64, tau: f64) -> bool
-    ensures { λ r. ⌜ r ≡ floatsOk k alpha eta base tau ⌝ }
+// Whether k, alpha, eta and base are finite and above zero, and beta and tau are finite.
+pub(crate) fn floats_fit(k: f64, alpha: f64, beta: f64, eta: f64, base: f64, tau: f64) -> bool
+    ensures { λ r. ⌜ r ≡ floatsOk k alpha beta eta base tau ⌝ }
 {
     elementary::is_positive_finite(k)
         & elementary::is_positive_finite(alpha)
+        & elementary::is_finite(beta)
         & elementary::is_positive_finite(eta)
         & elementary::is_positive_finite(base)
         & elementary::is_finite(tau)
@@ -59,16 +60,17 @@ fn with_vector(vector: ValueVector, steps: u32, sides: Sides) -> FloatAnswer
 pub(crate) fn entry_within(
     k: f64,
     alpha: f64,
+    beta: f64,
     eta: f64,
     base: f64,
     bound: u32,
     tau: f64,
     q: i64,
 ) -> FloatAnswer
-    requires { ⌜ (floatsOk k alpha eta base tau ≡ true) × (boundOk bound ≡ true) × (natAbs q ≤ bound) ⌝ }
-    ensures { λ r. ⌜ r ≡ answerBy bound k base q (run bound alpha eta tau) ⌝ }
+    requires { ⌜ (floatsOk k alpha beta eta base tau ≡ true) × (boundOk bound ≡ true) × (natAbs q ≤ bound) ⌝ }
+    ensures { λ r. ⌜ r ≡ answerBy bound k base q (run bound alpha beta eta tau) ⌝ }
 {
-    let a = vector::value_vector(alpha, eta, bound, tau);
+    let a = vector::value_vector(alpha, beta, eta, bound, tau);
     let outcome = a.outcome;
     let vector = a.vector;
     match outcome {

@@ -81,18 +81,19 @@ pub fn exact_distances(vector: ValueVector, k: f64, base: f64, q: i64) -> Sides
 pub fn float_entry(
     k: f64,
     alpha: f64,
+    beta: f64,
     eta: f64,
     base: f64,
     bound: u32,
     tau: f64,
     q: i64,
 ) -> FloatAnswer
-    ensures { λ r. ⌜ r ≡ floatEntry k alpha eta base bound tau q ⌝ }
+    ensures { λ r. ⌜ r ≡ floatEntry k alpha beta eta base bound tau q ⌝ }
 {
-    if entry::floats_fit(k, alpha, eta, base, tau) {
+    if entry::floats_fit(k, alpha, beta, eta, base, tau) {
         if entry::bound_fits(bound) {
             if within(q, bound) {
-                return entry::entry_within(k, alpha, eta, base, bound, tau, q);
+                return entry::entry_within(k, alpha, beta, eta, base, bound, tau, q);
             }
             return entry::refused_entry(refusals::HOLDING);
         }
@@ -106,18 +107,19 @@ pub fn float_entry(
 pub fn step_count(
     k: f64,
     alpha: f64,
+    beta: f64,
     eta: f64,
     base: f64,
     bound: u32,
     tau: f64,
     q: i64,
 ) -> FirstPlan
-    ensures { λ r. ⌜ r ≡ stepCount k alpha eta base bound tau q ⌝ }
+    ensures { λ r. ⌜ r ≡ stepCount k alpha beta eta base bound tau q ⌝ }
 {
-    if entry::floats_fit(k, alpha, eta, base, tau) {
+    if entry::floats_fit(k, alpha, beta, eta, base, tau) {
         if entry::bound_fits(bound) {
             if within(q, bound) {
-                return vector::first_plan(alpha, eta, bound, tau);
+                return vector::first_plan(alpha, beta, eta, bound, tau);
             }
             return FirstPlan::Refused(refusals::HOLDING);
         }

@@ -327,7 +327,7 @@ zero-sum f false n d h = ap (λ (z : ℕ). round f false z d) (zero-add n)
 zero-sum f true n d h =
     ap (λ (p : Bool). cond p (round f true (n - 0) d) (round f false (0 - n) d)) (is-true (ltb 0 n) (lt→ltb 0 n (h tt))) ∙ ap (λ (z : ℕ). round f true z d) (sub-zero n)
 
-sum-zero : (f : Format) (s : Bool) (n d : ℕ) → (T s → 0 < n) → sum f s n false 0 d ≡ round f s n d
+pub sum-zero : (f : Format) (s : Bool) (n d : ℕ) → (T s → 0 < n) → sum f s n false 0 d ≡ round f s n d
 unfolding sum
 sum-zero f false n d h = ap (λ (z : ℕ). round f false z d) (add-zero n)
 sum-zero f true n d h =
@@ -335,7 +335,7 @@ sum-zero f true n d h =
     ∙ ap (λ (p : Bool). round f p (n - 0) d) (is-true (ltb 0 n) (lt→ltb 0 n (h tt)))
     ∙ ap (λ (z : ℕ). round f true z d) (sub-zero n)
 
-less-zero : (f : Format) (s : Bool) (n d : ℕ) → sum f s n true 0 d ≡ round f s n d
+pub less-zero : (f : Format) (s : Bool) (n d : ℕ) → sum f s n true 0 d ≡ round f s n d
 unfolding sum
 less-zero f true n d = ap (λ (z : ℕ). round f true z d) (add-zero n)
 less-zero f false n d = ap (λ (p : Bool). cond p (round f true (0 - n) d) (round f false (n - 0) d)) (leb·suc-zero n) ∙ ap (λ (z : ℕ). round f false z d) (sub-zero n)

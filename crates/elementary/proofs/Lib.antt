@@ -1,5 +1,6 @@
 pub mod Signs
 pub mod Exact
+pub mod Zeros
 pub mod Order
 pub mod Count
 pub mod Bits

@@ -276,6 +276,22 @@ pub sub-finite : (f : Format) (x y : Float) → T (finite (sub f x y)) → T (fi
 unfolding sub
 sub-finite f x y h = rw (finite-neg y) at (add-finite f x (neg y) h)
 
+-- an infinity, or a NaN
+no-product : (b s : Bool) → T (finite (cond b nan (inf s))) → ⊥
+unfolding finite
+no-product true s h = h
+no-product false s h = h
+
+pub mul-finite : (f : Format) (x y : Float) → T (finite (mul f x y)) → T (finite x) × T (finite y)
+unfolding finite mul
+mul-finite f nan y h = absurd h
+mul-finite f (inf s) nan h = absurd h
+mul-finite f (inf s) (inf t) h = absurd h
+mul-finite f (inf s) (fin t n d) h = absurd (no-product (eqb n 0) (unlike s t) h)
+mul-finite f (fin s m e) nan h = absurd h
+mul-finite f (fin s m e) (inf t) h = absurd (no-product (eqb m 0) (unlike s t) h)
+mul-finite f (fin s m e) (fin t n d) h = (tt, tt)
+
 -- ---- a value less itself is zero exactly where the value is finite
 pub round-zero : (f : Format) (s : Bool) (d : ℕ) → 0 < d → round f s 0 d ≡ fin s 0 (pos 0)
 unfolding round size span climb units odd

@@ -42,6 +42,7 @@ fn quote_at(inventory: i64) {
         lot_size: LOT,
         terminal_time: 600000,
         min_spread: 0,
+        drift: 0,
     };
     match GLFTStrategy::exact_quotes(1000000000000, inventory, config, 1684700000000, 0) {
         ExactQuotes::Quotes(q, steps) => say_quotes(q, steps),

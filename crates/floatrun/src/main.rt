@@ -1,8 +1,8 @@
-// Reads records from standard input, seven words of eight bytes each, lowest first: the bits of k,
-// alpha, eta and base, the bound, the bits of tau, and q as two's complement. Writes a line for
-// each, the float entry's answer: `V`, the steps, bid and ask (`-` if absent), n, the n weights and
-// the n offsets; `C`, the steps needed and the budget left; or `R` and a refusal's number. A float
-// is 16 upper-case hex digits. A record that ends inside itself is the last: `R 6`.
+// Reads records from standard input, eight words of eight bytes each, lowest first: the bits of k,
+// alpha, eta and base, the bound, the bits of tau, q as two's complement, and the bits of beta. Writes
+// a line for each, the float entry's answer: `V`, the steps, bid and ask (`-` if absent), n, the n
+// weights and the n offsets; `C`, the steps needed and the budget left; or `R` and a refusal's number.
+// A float is 16 upper-case hex digits. A record that ends inside itself is the last: `R 6`.
 use distances::Answer;
 use distances::Distance;
 use distances::FloatAnswer;
@@ -22,8 +22,8 @@ use harness::read_block;
 use vector::MAX_DIM;
 use vector::ValueVector;
 
-// The bytes read at once: 1,170 records.
-const BLOCK: usize = 65520;
+// The bytes read at once: 1,024 records.
+const BLOCK: usize = 65536;
 
 // The most bytes of a line: 804 floats and two counts, a space before each, a letter and the line's
 // end.
@@ -82,7 +82,7 @@ fn put_answer(out: &mut [u8], start: usize, answer: Answer, v: ValueVector) -> u
 // The answer to the record at a place.
 fn answer_at(s: &[u8], at: usize) -> FloatAnswer {
     let e = entry_at(s, at);
-    float_entry(e.k, e.alpha, e.eta, e.base, e.bound, e.tau, e.q)
+    float_entry(e.k, e.alpha, e.beta, e.eta, e.base, e.bound, e.tau, e.q)
 }
 
 // The line of the record at a place.

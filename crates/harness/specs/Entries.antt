@@ -1,4 +1,4 @@
--- The numbers of a record of seven words: k, alpha, eta and base are words 0 to 3, the bound is word 4, tau word 5, and q word 6. Definitions only.
+-- The numbers of a record of eight words: k, alpha, eta and base are words 0 to 3, the bound is word 4, tau word 5, q word 6, and beta word 7. Definitions only.
 use Prim.Native.Nat.{ℕ, _+_, min}
 use mathlib.Core.List.{List}
 use lib.Ieee.{Float, binary64, ofBits}
@@ -20,4 +20,5 @@ entryAt s at =
       bound = min (word s (at + 32)) 0xFFFFFFFF;
       tau = floatAt s at 40;
       q = signed (word s (at + 48));
+      beta = floatAt s at 56;
     }

@@ -1,5 +1,6 @@
-// The float entry's numbers, which floatrun and countrun read from a record of seven words of eight
-// bytes: the bits of k, alpha, eta and base, the bound, the bits of tau, and q as two's complement.
+// The float entry's numbers, which floatrun and countrun read from a record of eight words of eight
+// bytes: the bits of k, alpha, eta and base, the bound, the bits of tau, q as two's complement, and the
+// bits of beta.
 ghost use mathlib.Core.Path.{_≡_};
 ghost use Rattle.harness.specs.Entries.{floatAt, entryAt};
 use crate::word::bound_of;
@@ -8,7 +9,7 @@ use crate::word::signed_of;
 use crate::word::word_at;
 
 // The bytes of a record.
-pub const ENTRY: usize = 56;
+pub const ENTRY: usize = 64;
 
 pub struct Entry {
     pub k: f64,
@@ -18,6 +19,7 @@ pub struct Entry {
     pub bound: u32,
     pub tau: f64,
     pub q: i64,
+    pub beta: f64,
 }
 
 // The float of the word i places after a place.
@@ -39,5 +41,6 @@ pub fn entry_at(s: &[u8], at: usize) -> Entry
         bound: bound_of(word_at(s, at, 32)),
         tau: float_at(s, at, 40),
         q: signed_of(word_at(s, at, 48)),
+        beta: float_at(s, at, 56),
     }
 }

@@ -1,11 +1,12 @@
-// Reads records from standard input, twelve words of eight bytes each, lowest first: mid, holding,
+// Reads records from standard input, thirteen words of eight bytes each, lowest first: mid, holding,
 // which is left aside, volatility, risk aversion, k, A, bound, lot size, terminal, current, min
-// spread, and the length of the buffer that `write_ladder` gets, 32,768 where it is more. An amount is
-// a count of billionths in two's complement. Each byte of the buffer is hex A5 before the call. Writes
-// for each a line `L` and the count of bytes that the ladder takes, and the ladder; or a line `R` and a
-// refusal's number. Then a line `U` where every byte of the buffer after the ladder is still hex A5, or
-// else `X`; after a refusal, every byte of it. A bound that 32 bits do not hold is refused by 2, and a
-// record that ends inside itself, the last, by 6, both without a call and followed by `U`.
+// spread, the length of the buffer that `write_ladder` gets, 32,768 where it is more, and the drift. An
+// amount is a count of billionths in two's complement. Each byte of the buffer is hex A5 before the
+// call. Writes for each a line `L` and the count of bytes that the ladder takes, and the ladder; or a
+// line `R` and a refusal's number. Then a line `U` where every byte of the buffer after the ladder is
+// still hex A5, or else `X`; after a refusal, every byte of it. A bound that 32 bits do not hold is
+// refused by 2, and a record that ends inside itself, the last, by 6, both without a call and followed
+// by `U`.
 ghost use Prim.Native.Nat.{_≤_};
 use desk::amount_at;
 use desk::config_at;
@@ -22,10 +23,10 @@ use sheet::LadderAnswer;
 use sheet::refusals::CUT_SHORT;
 
 // The bytes of a record.
-const RECORD: usize = 96;
+const RECORD: usize = 104;
 
-// The bytes read at once: 682 records.
-const BLOCK: usize = 65472;
+// The bytes read at once: 630 records.
+const BLOCK: usize = 65520;
 
 // The longest buffer.
 const ROOM: usize = 32768;

@@ -1,5 +1,6 @@
 pub mod Signed
 pub mod Passed
+pub mod Turned
 pub mod Mirrors
 pub mod Pairs
 pub mod Refusing
@@ -17,3 +18,4 @@ pub mod Presence
 pub mod Lots
 pub mod OneRun
 pub mod DeskPlan
+pub mod Drift

@@ -16,7 +16,7 @@ use mir.Facts.{toZ-ofZ, and-yes}
 use Rattle.elementary.specs.Float.{whole}
 use Rattle.vector.specs.Run.{boundOk}
 use Rattle.quote.specs.Configuration.{amountOk, timeOk, above0, configLimits, configOk}
-use Rattle.quote.specs.Model.{lots, holdingOk, marketOk, modelOf, modelOk, modelIf, modelLimits, newModel}
+use Rattle.quote.specs.Model.{lots, holdingOk, marketOk, modelOf, modelOk, modelIf, modelLimits, modelWith}
 use Rattle.quote.specs.declared.GLFTConfig.{GLFTConfig}
 use Rattle.quote.specs.declared.Model.{Model}
 
@@ -83,14 +83,15 @@ unfolding configLimits
 spread-passed c h =
     let p = amountOk (c .«risk_aversion») && amountOk (c .«order_intensity_k») && amountOk (c .«intensity_scale_a») && amountOk (c .«lot_size») in
     let s = amountOk (c .«min_spread») in
-    and-yes p s (and-yes (p && s) (timeOk (c .«terminal_time»)) h .0) .1
+    let d = amountOk (c .drift) in
+    and-yes p s (and-yes (p && s) d (and-yes (p && s && d) (timeOk (c .«terminal_time»)) h .0) .0) .1
 
-pub made-amounts : (mid h : ℤ) (c : GLFTConfig) (vol : ℤ) (m : Model) (q : ℤ) → newModel mid h c vol ≡ Made m q → T (amountOk mid) × T (amountOk (c .«min_spread»))
-unfolding newModel modelLimits modelIf
-made-amounts mid h c vol m q = go (modelLimits mid h c vol) refl
+pub made-amounts : (d : Bool) (mid h : ℤ) (c : GLFTConfig) (vol : ℤ) (m : Model) (q : ℤ) → modelWith d mid h c vol ≡ Made m q → T (amountOk mid) × T (amountOk (c .«min_spread»))
+unfolding modelLimits modelIf
+made-amounts d mid h c vol m q = go (modelLimits mid h c vol) refl
   where
     go : (t : Bool) → modelLimits mid h c vol ≡ t
-        → modelIf t (configOk c) (marketOk mid vol) (holdingOk h c) (modelOk (modelOf c vol)) (modelOf c vol) (lots h c) ≡ Made m q → T (amountOk mid) × T (amountOk (c .«min_spread»))
+        → modelIf t (configOk c) d (marketOk mid vol) (holdingOk h c) (modelOk (modelOf c vol)) (modelOf c vol) (lots h c) ≡ Made m q → T (amountOk mid) × T (amountOk (c .«min_spread»))
     go false k e = let z : _≡_ {A = ℕ} 0 1 = cc in absurd (omega arith)
     go true k e =
         let u = and-yes (amountOk mid && amountOk h && amountOk vol) (configLimits c) (subst T (sym k) tt) in

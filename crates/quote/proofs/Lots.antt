@@ -82,22 +82,22 @@ module _ (mid h : ℤ) (c : GLFTConfig) (vol : ℤ) (t : ℕ) where
 
   -- what the statement says of a model
   Read : ModelAnswer → Type 0
-  Read (ModelAnswer.Model m q) = answerFrom (valueVector (m .alpha) (m .eta) (m .«q_max») tau) (m .k) (m .base) q ≡ floatEntry (m .k) (m .alpha) (m .eta) (m .base) (m .«q_max») tau q .answer
+  Read (ModelAnswer.Model m q) = answerFrom (valueVector (m .alpha) (m .beta) (m .eta) (m .«q_max») tau) (m .k) (m .base) q ≡ floatEntry (m .k) (m .alpha) (m .beta) (m .eta) (m .base) (m .«q_max») tau q .answer
   Read (ModelAnswer.Refused r) = Unit {0}
 
-  model-read : {a : ModelAnswer} → timeOk t ≡ true → Outcome (modelLimits mid h c vol) (configOk c) (marketOk mid vol) (holdingOk h c) (modelOk (modelOf c vol)) (modelOf c vol) (lots h c) a → Read a
+  model-read : {a : ModelAnswer} → timeOk t ≡ true → Outcome (modelLimits mid h c vol) (configOk c) true (marketOk mid vol) (holdingOk h c) (modelOk (modelOf c vol)) (modelOf c vol) (lots h c) a → Read a
   unfolding Read modelOf modelFrom modelBy
   model-read e (stopped k) = tt
-  model-read e (passed l v k g f) =
+  model-read e (passed l v d k g f) =
       let m = modelOf c vol in
-      sym (entry-reads (m .k) (m .alpha) (m .eta) (m .base) (m .«q_max») tau (lots h c)
+      sym (entry-reads (m .k) (m .alpha) (m .beta) (m .eta) (m .base) (m .«q_max») tau (lots h c)
       (floats-passed m tau f (tau-passed mid h c vol t (rw (e, l)))) (bound-passed c v) (lots-passed h c g))
 
 pub from-vector : FromVector
 unfolding quotesFrom fromIf exactQuotes exactAnswer exactIf exactFrom newModel Read
 from-vector mid h c vol t m q e made =
-    let r = subst (Read mid h c vol t) made (model-read mid h c vol t e (outcome _ _ _ _ _ _ _)) in
-    let a = made-amounts mid h c vol m q made in
+    let r = subst (Read mid h c vol t) made (model-read mid h c vol t e (outcome _ _ _ _ _ _ _ _)) in
+    let a = made-amounts true mid h c vol m q made in
     rw (e, made, is-true (amountOk mid) (a .0), is-true (amountOk (c .«min_spread»)) (a .1)) (ap (exactBy mid (c .«min_spread»)) r)
 
 -- ---- the checks that no holding takes part in
@@ -148,7 +148,7 @@ module _ (mid : ℤ) (c : GLFTConfig) (vol : ℤ) (t : ℕ) (e : checkCall mid c
   lot-checked = is-true (above0 (c .«lot_size»)) (lot-passed c (checks .1))
 
   module _ (q : ℤ) (h : natAbs q ≤ c .«max_inventory_lots») where
-    made-by : newModel mid (holdingOf c q) c vol ≡ modelIf (amountOk (holdingOf c q)) true true true (modelOk (modelOf c vol)) (modelOf c vol) q
+    made-by : newModel mid (holdingOf c q) c vol ≡ modelIf (amountOk (holdingOf c q)) true true true true (modelOk (modelOf c vol)) (modelOf c vol) q
     unfolding newModel
     made-by =
         let p = lot-passed c (checks .1) in

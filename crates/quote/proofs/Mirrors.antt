@@ -1,85 +1,115 @@
--- The two calls of demand 3 before prices: a model at the opposite holding is the same with the opposite lots, so distances change sides. Assumes nothing.
+-- The two calls of demand 3 before prices: at the opposite holding and drift the model has the opposite lots and beta, so distances change sides. Assumes nothing.
 use mathlib.Core.Path.{_≡_, refl, sym, ap, _∙_}
-use Prim.Native.Nat.{ℕ, suc, _*_, _^_, _≤_, _<_}
-use native.Mathlib.Nat.{le-trans, mul-le-mul-left}
+use Prim.Native.Nat.{ℕ, zero, suc, _*_, _^_, _≤_, _<_}
+use native.Mathlib.Nat.{le-trans, mul-le-mul-left, zero-lt-suc}
 use native.Mathlib.Omega.{arith}
 use mathlib.Core.Bool.{Bool, true, false}
 use borrow.Author.Tests.{lt-ltb}
 use lib.IntN.{ℤ, pos, negsuc, negℤ, natAbs, _+ℤ_, _*ℤ_, negℤ-negℤ, negℤ-+ℤ}
 use lib.Signed.{ltZ, quotZ}
-use lib.Dec.{lit≤}
+use lib.Dec.{T, lit≤}
 use lib.Ieee.{Float, binary64, neg, ofInt, ofBits}
-use Rattle.elementary.specs.Float.{_⊕_, _⊖_, _⊗_, _⊘_, whole, 1ᶠ, 2ᶠ, positive}
+use Rattle.elementary.specs.Float.{_⊕_, _⊖_, _⊗_, _⊘_, whole, 1ᶠ, 2ᶠ, finite, positive}
 use Rattle.elementary.proofs.Signs.{mul-neg-left, div-neg-left, sub-neg}
+use Rattle.elementary.proofs.Zeros.{Zero, zero-equal, zero-neg}
 use Rattle.elementary.proofs.Exact.{one-whole, twice-and-one, twice-less-one}
 use Rattle.vector.specs.Run.{cap, largestBound}
 use Rattle.distances.specs.Promises.{Counted, exchanged, exchangedSides}
+use Rattle.distances.specs.FloatEntry.{floatEntry, floatSteps}
 use Rattle.distances.specs.declared.Distance.the-variants.{At}
+use Rattle.distances.specs.declared.FloatAnswer.{FloatAnswer}
+use Rattle.distances.proofs.Drift.{drift-zero-entry}
 use Rattle.distances.proofs.FloatMirror.{float-mirror, sides-exchanged}
 use Rattle.distances.proofs.Counting.{steps-counted}
 use Rattle.quote.specs.Configuration.{amountOk, timeOk, configOk}
-use Rattle.quote.specs.Model.{lots, holdingOk, modelIf, modelLimits, newModel, tauOf}
+use Rattle.quote.specs.Model.{lots, holdingOk, modelBy, modelFrom, modelOf, modelOk, driftless, modelIf, modelLimits, modelWith, newModel, driftlessModel, tauOf}
 use Rattle.quote.specs.ClosedForm.{slope, formBid, formAsk, bidForm, askForm, formIf, closedFormDistances}
 use Rattle.quote.specs.Quotes.{exactFrom, exactIf, exactAnswer, closedFrom, closedAnswer, stepsFrom, stepsIf, exactSteps}
-use Rattle.quote.specs.Promises.{ExactMirror, ClosedMirror}
+use Rattle.quote.specs.Promises.{turned, ExactMirror, ClosedMirror}
 use Rattle.quote.specs.declared.GLFTConfig.{GLFTConfig}
 use Rattle.quote.specs.declared.Model.{Model}
 use Rattle.quote.specs.declared.ModelAnswer.{ModelAnswer}
 use Rattle.quote.specs.declared.ModelAnswer.the-variants as ModelAnswer
 use Rattle.quote.proofs.Signed.{natAbs-neg, quot-neg, rem-neg, times-neg, whole-neg, ltZ-neg}
-use Rattle.quote.proofs.Passed.{Outcome, stopped, passed, outcome, few-lots}
+use Rattle.quote.proofs.Turned.{betaOf, beta-neg, beta-none, limits-turned, model-ok-turned, driftless-turned}
+use Rattle.quote.proofs.Passed.{Outcome, stopped, passed, outcome, k-passed, few-lots}
 
 -- ---- the model
--- the lots with the other sign
-opposed : ModelAnswer → ModelAnswer
-opposed (ModelAnswer.Model m q) = ModelAnswer.Model m (negℤ q)
-opposed (ModelAnswer.Refused r) = ModelAnswer.Refused r
+-- another model, and the lots with the other sign
+opposed : Model → ModelAnswer → ModelAnswer
+opposed n (ModelAnswer.Model m q) = ModelAnswer.Model n (negℤ q)
+opposed n (ModelAnswer.Refused r) = ModelAnswer.Refused r
 
-if-opposed : (l v m h f : Bool) (b : Model) (q : ℤ) → modelIf l v m h f b (negℤ q) ≡ opposed (modelIf l v m h f b q)
+if-opposed : (l v d m h f : Bool) (b n : Model) (q : ℤ) → modelIf l v d m h f n (negℤ q) ≡ opposed n (modelIf l v d m h f b q)
 unfolding opposed modelIf
-if-opposed false v m h f b q = refl
-if-opposed true false m h f b q = refl
-if-opposed true true false h f b q = refl
-if-opposed true true true false f b q = refl
-if-opposed true true true true false b q = refl
-if-opposed true true true true true b q = refl
+if-opposed false v d m h f b n q = refl
+if-opposed true false d m h f b n q = refl
+if-opposed true true false m h f b n q = refl
+if-opposed true true true false h f b n q = refl
+if-opposed true true true true false f b n q = refl
+if-opposed true true true true true false b n q = refl
+if-opposed true true true true true true b n q = refl
 
-model-opposed : (mid h : ℤ) (c : GLFTConfig) (vol : ℤ) → newModel mid (negℤ h) c vol ≡ opposed (newModel mid h c vol)
-unfolding newModel modelLimits amountOk holdingOk lots
-model-opposed mid h c vol =
-    rw (natAbs-neg h, rem-neg h (c .«lot_size»), quot-neg h (c .«lot_size»), natAbs-neg (quotZ h (c .«lot_size»))) (if-opposed _ _ _ _ _ _ _)
+model-opposed : (d : Bool) (mid h : ℤ) (c : GLFTConfig) (vol : ℤ) → modelWith d mid (negℤ h) (turned c) vol ≡ opposed (modelOf (turned c) vol) (modelWith d mid h c vol)
+unfolding modelLimits amountOk configOk holdingOk lots
+model-opposed d mid h c vol =
+    rw (natAbs-neg h, limits-turned c, rem-neg h (c .«lot_size»), quot-neg h (c .«lot_size»), natAbs-neg (quotZ h (c .«lot_size»)), model-ok-turned c vol) (if-opposed _ _ _ _ _ _ _ _ _)
 
 -- ---- exact calls
-from-opposed : (a : ModelAnswer) (tau : Float) → exactFrom (opposed a) tau ≡ exchanged (exactFrom a tau)
-unfolding opposed exactFrom exchanged
-from-opposed (ModelAnswer.Model m q) tau = float-mirror (m .k) (m .alpha) (m .eta) (m .base) (m .«q_max») tau q .0
-from-opposed (ModelAnswer.Refused r) tau = refl
+-- the float entry at the opposite drift and holding. Without a drift beta is a zero, and its opposite gives the same entry.
+module _ (k alpha eta base : Float) (bound : ℕ) (tau : Float) (q : ℤ) where
+  Opposite : Float → Float → Type 0
+  Opposite x y =
+      (floatEntry k alpha x eta base bound tau (negℤ q) .answer ≡ exchanged (floatEntry k alpha y eta base bound tau q .answer))
+      × (floatSteps k alpha x eta base bound tau (negℤ q) ≡ floatSteps k alpha y eta base bound tau q)
 
-steps-opposed : (a : ModelAnswer) (tau : Float) → stepsFrom (opposed a) tau ≡ stepsFrom a tau
-unfolding opposed stepsFrom
-steps-opposed (ModelAnswer.Model m q) tau = float-mirror (m .k) (m .alpha) (m .eta) (m .base) (m .«q_max») tau q .2
-steps-opposed (ModelAnswer.Refused r) tau = refl
+  by-mirror : (x y : Float) → x ≡ neg y → Opposite x y
+  unfolding Opposite
+  by-mirror x y e = let r = float-mirror k alpha y eta base bound tau q in rw e (r .0, r .2)
+
+  -- either zero
+  by-zeros : (x : Float) → Zero x → Opposite x x
+  unfolding Opposite
+  by-zeros x h =
+      let r = float-mirror k alpha x eta base bound tau q in
+      let z = zero-equal binary64 h in
+      let o = zero-equal binary64 (zero-neg h) in (
+        ap (λ (a : FloatAnswer). a .answer) (drift-zero-entry .entry k alpha x eta base bound tau (negℤ q) z ∙ sym (drift-zero-entry .entry k alpha (neg x) eta base bound tau (negℤ q) o)) ∙ r .0,
+        drift-zero-entry .steps k alpha x eta base bound tau (negℤ q) z ∙ sym (drift-zero-entry .steps k alpha (neg x) eta base bound tau (negℤ q) o) ∙ r .2,
+      )
+
+  opposite : T (finite k) → (d : ℤ) → Opposite (betaOf k (negℤ d)) (betaOf k d)
+  opposite h (pos zero) = by-zeros (betaOf k (pos 0)) (beta-none k h)
+  opposite h (pos (suc n)) = by-mirror _ _ (beta-neg k (pos (suc n)) (zero-lt-suc n))
+  opposite h (negsuc n) = by-mirror _ _ (beta-neg k (negsuc n) (zero-lt-suc n))
+
+from-opposed : {l v d m h : Bool} (c : GLFTConfig) (vol : ℤ) {q : ℤ} (tau : Float) {a : ModelAnswer} → Outcome l v d m h (modelOk (modelOf c vol)) (modelOf c vol) q a
+    → (exactFrom (opposed (modelOf (turned c) vol) a) tau ≡ exchanged (exactFrom a tau)) × (stepsFrom (opposed (modelOf (turned c) vol) a) tau ≡ stepsFrom a tau)
+unfolding opposed exactFrom stepsFrom exchanged modelOf modelFrom modelBy Opposite
+from-opposed c vol tau (stopped k) = (refl, refl)
+from-opposed c vol {q} tau (passed l v d m h f) =
+    let m = modelOf c vol in opposite (m .k) (m .alpha) (m .eta) (m .base) (m .«q_max») tau q (k-passed m f) (c .drift)
 
 from-counted : (a : ModelAnswer) (tau : Float) → Counted (exactFrom a tau) (stepsFrom a tau) × (stepsFrom a tau ≤ cap)
 unfolding exactFrom stepsFrom Counted
-from-counted (ModelAnswer.Model m q) tau = steps-counted (m .k) (m .alpha) (m .eta) (m .base) (m .«q_max») tau q
+from-counted (ModelAnswer.Model m q) tau = steps-counted (m .k) (m .alpha) (m .beta) (m .eta) (m .base) (m .«q_max») tau q
 from-counted (ModelAnswer.Refused r) tau = (tt, omega arith)
 
 module _ (mid h : ℤ) (c : GLFTConfig) (vol : ℤ) (t : ℕ) where
-  answer-exchanged : exactAnswer mid (negℤ h) c vol t ≡ exchanged (exactAnswer mid h c vol t)
-  unfolding exactAnswer exactIf exchanged
+  answer-exchanged : exactAnswer mid (negℤ h) (turned c) vol t ≡ exchanged (exactAnswer mid h c vol t)
+  unfolding exactAnswer exactIf exchanged newModel
   answer-exchanged = go (timeOk t)
     where
-      go : (b : Bool) → exactIf b mid (negℤ h) c vol t ≡ exchanged (exactIf b mid h c vol t)
-      go true = rw (model-opposed mid h c vol) (from-opposed (newModel mid h c vol) (tauOf (c .«terminal_time») t))
+      go : (b : Bool) → exactIf b mid (negℤ h) (turned c) vol t ≡ exchanged (exactIf b mid h c vol t)
+      go true = rw (model-opposed true mid h c vol) (from-opposed c vol (tauOf (c .«terminal_time») t) (outcome _ _ _ _ _ _ _ _) .0)
       go false = refl
 
-  steps-same : exactSteps mid (negℤ h) c vol t ≡ exactSteps mid h c vol t
-  unfolding exactSteps stepsIf
+  steps-same : exactSteps mid (negℤ h) (turned c) vol t ≡ exactSteps mid h c vol t
+  unfolding exactSteps stepsIf newModel
   steps-same = go (timeOk t)
     where
-      go : (b : Bool) → stepsIf b mid (negℤ h) c vol t ≡ stepsIf b mid h c vol t
-      go true = rw (model-opposed mid h c vol) (steps-opposed (newModel mid h c vol) (tauOf (c .«terminal_time») t))
+      go : (b : Bool) → stepsIf b mid (negℤ h) (turned c) vol t ≡ stepsIf b mid h c vol t
+      go true = rw (model-opposed true mid h c vol) (from-opposed c vol (tauOf (c .«terminal_time») t) (outcome _ _ _ _ _ _ _ _) .1)
       go false = refl
 
   -- an exact answer carries the steps of the defined run
@@ -107,8 +137,8 @@ two-whole : 2ᶠ ≡ whole (pos 2)
 unfolding ofBits ofInt
 two-whole = refl
 
-turned : (q : ℤ) → natAbs q ≤ largestBound → 2ᶠ ⊗ whole (negℤ q) ⊖ 1ᶠ ≡ neg (2ᶠ ⊗ whole q ⊕ 1ᶠ)
-turned q h =
+odd-turned : (q : ℤ) → natAbs q ≤ largestBound → 2ᶠ ⊗ whole (negℤ q) ⊖ 1ᶠ ≡ neg (2ᶠ ⊗ whole q ⊕ 1ᶠ)
+odd-turned q h =
     let small : 2 * natAbs q ≤ 2 ^ 53 = le-trans (mul-le-mul-left 2 h) (lit≤ tt) in
     rw (two-whole, one-whole, twice-and-one binary64 q small, twice-less-one binary64 (negℤ q) (rw (natAbs-neg q) small), times-neg 2 q)
     (ap (λ (z : ℤ). whole z) (sym (negℤ-+ℤ (pos 2 *ℤ q) (pos 1))) ∙ whole-neg binary64 (pos 2 *ℤ q +ℤ pos 1) (odd-some q))
@@ -118,7 +148,7 @@ unfolding formBid formAsk
 form-side false base c q h = refl
 form-side true base c q h =
     let x = 2ᶠ ⊗ whole q ⊕ 1ᶠ in
-    ap At (rw (turned q h, div-neg-left binary64 x 2ᶠ, mul-neg-left binary64 (x ⊘ 2ᶠ) c, sub-neg binary64 base (x ⊘ 2ᶠ ⊗ c)))
+    ap At (rw (odd-turned q h, div-neg-left binary64 x 2ᶠ, mul-neg-left binary64 (x ⊘ 2ᶠ) c, sub-neg binary64 base (x ⊘ 2ᶠ ⊗ c)))
 
 module _ (m : Model) (q : ℤ) (h : natAbs q ≤ largestBound) where
   bid-opposed : bidForm m (negℤ q) ≡ askForm m q
@@ -137,12 +167,21 @@ module _ (m : Model) (q : ℤ) (h : natAbs q ≤ largestBound) where
       go true = rw (bid-opposed, ask-opposed) (sides-exchanged _ _)
       go false = refl
 
-closed-opposed : {l m f : Bool} (h : ℤ) (c : GLFTConfig) {b : Model} {a : ModelAnswer} → Outcome l (configOk c) m (holdingOk h c) f b (lots h c) a
-    → closedFrom (opposed a) ≡ exchangedSides (closedFrom a)
+-- beta has no part in it
+form-turned : (c : GLFTConfig) (vol q : ℤ) → closedFormDistances (modelOf (turned c) vol) q ≡ closedFormDistances (modelOf c vol) q
+unfolding closedFormDistances formIf bidForm askForm slope modelOf modelFrom modelBy
+form-turned c vol q = go (positive (slope (modelOf c vol)))
+  where
+    go : (t : Bool) → formIf t (modelOf (turned c) vol) q ≡ formIf t (modelOf c vol) q
+    go true = refl
+    go false = refl
+
+closed-opposed : {l d m f : Bool} (h : ℤ) (c : GLFTConfig) (vol : ℤ) {a : ModelAnswer} → Outcome l (configOk c) d m (holdingOk h c) f (modelOf c vol) (lots h c) a
+    → closedFrom (opposed (modelOf (turned c) vol) a) ≡ exchangedSides (closedFrom a)
 unfolding opposed closedFrom exchangedSides
-closed-opposed h c (stopped k) = refl
-closed-opposed h c {b} (passed l v m g f) = form-exchanged b (lots h c) (few-lots h c v g)
+closed-opposed h c vol (stopped k) = refl
+closed-opposed h c vol (passed l v d m g f) = form-turned c vol (negℤ (lots h c)) ∙ form-exchanged (modelOf c vol) (lots h c) (few-lots h c v g)
 
 pub closed-mirror : ClosedMirror
-unfolding closedAnswer newModel
-closed-mirror mid h c vol = rw (model-opposed mid h c vol) (closed-opposed h c (outcome _ _ _ _ _ _ _))
+unfolding closedAnswer driftlessModel
+closed-mirror mid h c vol = rw (driftless-turned c, model-opposed (driftless c) mid h c vol) (closed-opposed h c vol (outcome _ _ _ _ _ _ _ _))

@@ -17,9 +17,10 @@ use Rattle.distances.specs.declared.Sides.{Sides}
 use Rattle.distances.specs.declared.Sides.the-variants as Sides
 use Rattle.distances.specs.declared.Answer.the-variants as Answer
 use Rattle.quote.specs.Refusals.{limits, market}
-use Rattle.quote.specs.Configuration.{amountOk, above0}
+use Rattle.quote.specs.Configuration.{amountOk, above0, configOk}
+use Rattle.quote.specs.Model.{modelLimits}
 use Rattle.quote.specs.Quotes.{Judged, quoted, refused, withSteps, buildQuotes, exactBy}
-use Rattle.quote.specs.Promises.{Checked, by-2, by-1, by-3, by-4, by-5, Priced, by-13, by-14, PricedOf}
+use Rattle.quote.specs.Promises.{Checked, by-2, by-1, by-22, by-3, by-4, by-5, Priced, by-13, by-14, PricedOf, turned}
 use Rattle.quote.specs.Reckoning.{checkIf, checkCall, fromIf, quotesFrom, holdingOf, lotsIf, quotesOfLots, by-report, by-refusal, LotsEnd, Carries, OneRun, LotsMirror, Early, CheckRefusals, FromRefusals, LotsRefusals}
 use Rattle.quote.specs.declared.GLFTConfig.{GLFTConfig}
 use Rattle.quote.specs.declared.ExactQuotes.{ExactQuotes}
@@ -28,6 +29,7 @@ use Rattle.quote.specs.declared.reckoning.Check.{Check}
 use Rattle.quote.specs.declared.reckoning.Check.the-variants as Check
 use Rattle.quote.specs.declared.reckoning.Reckoning.{Reckoning}
 use Rattle.quote.proofs.Signed.{natAbs-neg, times-neg}
+use Rattle.quote.proofs.Turned.{limits-turned}
 use Rattle.quote.proofs.Mirrors.{exact-mirror}
 use Rattle.quote.proofs.Pairs.{exact-pairs}
 use Rattle.quote.proofs.Refusing.{exact-by, exact-refusals}
@@ -81,7 +83,7 @@ run-carries mid c r q n h =
 pub one-run : OneRun
 one-run mid c r q p n m h g = sym (run-carries mid c r q n h) ∙ run-carries mid c r p m g
 
--- ---- opposite lots
+-- ---- opposite lots and drifts
 negated-by : (q : ℤ) (n : ℕ) → negℤ q *ℤ pos n ≡ negℤ (q *ℤ pos n)
 negated-by q n = *ℤ-comm (negℤ q) (pos n) ∙ times-neg n q ∙ ap negℤ (*ℤ-comm (pos n) q)
 
@@ -93,17 +95,22 @@ holding-negated : (c : GLFTConfig) (q : ℤ) → holdingOf c (negℤ q) ≡ neg�
 unfolding holdingOf
 holding-negated c q = negated-times q (c .«lot_size»)
 
+pub check-turned : (mid : ℤ) (c : GLFTConfig) (vol : ℤ) (t : ℕ) → checkCall mid (turned c) vol t ≡ checkCall mid c vol t
+unfolding checkCall modelLimits configOk
+check-turned mid c vol t = rw (limits-turned c)
+
 pub lots-mirror : LotsMirror
+unfolding holdingOf
 lots-mirror mid c vol t q e h =
     let n = holding-negated c q in (
       rw n (exact-mirror mid (holdingOf c q) c vol t .0),
       λ x y s r u w.
           exact-pairs mid (holdingOf c q) c vol t x y s r (sym (lots-are-single mid c vol t q e h) ∙ u)
-          (rw (← n) (sym (lots-are-single mid c vol t (negℤ q) e (rw (natAbs-neg q) h)) ∙ w)) .0,
+          (rw (← n) (sym (lots-are-single mid (turned c) vol t (negℤ q) (check-turned mid c vol t ∙ e) (rw (natAbs-neg q) h)) ∙ w)) .0,
     )
 
 -- ---- what refuses a call whatever the holding
-checked-early : {h f : Bool} (l v m : Bool) (n : ℕ) → checkIf l v m ≡ Check.Refused n → Early n × Checked l v m h f n
+checked-early : {h f : Bool} (l v m : Bool) (n : ℕ) → checkIf l v m ≡ Check.Refused n → Early n × Checked l v true m h f n
 unfolding checkIf
 checked-early false v m n e = let z : n ≡ limits = cc in rw z (inl refl, by-2)
 checked-early true false m n e = let z : n ≡ configuration = cc in rw z (inr (inl refl), by-1)
@@ -116,10 +123,11 @@ not-early n h (inl e) = absurd (omega arith)
 not-early n h (inr (inl e)) = absurd (omega arith)
 not-early n h (inr (inr e)) = absurd (omega arith)
 
-early-checked : {l v m h f : Bool} {n : ℕ} → Early n → Checked l v m h f n → checkIf l v m ≡ Check.Refused n
+early-checked : {l v d m h f : Bool} {n : ℕ} → Early n → Checked l v d m h f n → checkIf l v m ≡ Check.Refused n
 unfolding checkIf
 early-checked y by-2 = refl
 early-checked y by-1 = refl
+early-checked y by-22 = not-early 22 (omega arith) y
 early-checked y by-3 = refl
 early-checked y by-4 = not-early 4 (omega arith) y
 early-checked y by-5 = not-early 5 (omega arith) y

@@ -19,7 +19,7 @@ use Rattle.distances.specs.declared.Answer.{Answer}
 use Rattle.distances.specs.declared.Answer.the-variants as Answer
 use Rattle.distances.proofs.Finite.{sides-fine, finite-distances}
 use Rattle.quote.specs.Configuration.{amountOk, above0, timeOk}
-use Rattle.quote.specs.Model.{newModel, tauOf}
+use Rattle.quote.specs.Model.{newModel, driftlessModel, tauOf}
 use Rattle.quote.specs.ClosedForm.{slope, bidForm, askForm, formIf, closedFormDistances}
 use Rattle.quote.specs.Rounding.{billionths, exactly, AtMost}
 use Rattle.quote.specs.Quotes.{side, halfUp, widening, bidPrice, askPrice, quoted, buildQuotes, exactFrom, exactIf, exactAnswer, withoutReport, optimalAnswer, exactBy, exactQuotes, optimalQuotes, closedFrom, closedAnswer, closedBy, closedFormQuotes}
@@ -108,7 +108,7 @@ closed-outside mid least (Sides.Refused r) q f e = let z : _≡_ {A = ℕ} 0 1 =
 -- ---- the distances of an exact call and of the closed form are finite
 from-finite : (m : ModelAnswer) (tau : Float) (b a : Distance) (s : ℕ) → exactFrom m tau ≡ Answer.Distances b a s → Finite b a
 unfolding exactFrom
-from-finite (ModelAnswer.Model m q) tau b a s e = finite-distances .entry (m .k) (m .alpha) (m .eta) (m .base) (m .«q_max») tau q b a s e
+from-finite (ModelAnswer.Model m q) tau b a s e = finite-distances .entry (m .k) (m .alpha) (m .beta) (m .eta) (m .base) (m .«q_max») tau q b a s e
 from-finite (ModelAnswer.Refused r) tau b a s e = let z : _≡_ {A = ℕ} 0 1 = cc in absurd (omega arith)
 
 answer-finite : (mid h : ℤ) (c : GLFTConfig) (vol : ℤ) (t : ℕ) (b a : Distance) (s : ℕ) → exactAnswer mid h c vol t ≡ Answer.Distances b a s → Finite b a
@@ -162,7 +162,7 @@ unfolding closedFormQuotes closedAnswer
 never-inside = record {
   exact = exact-never;
   optimal = optimal-never;
-  closed = λ mid h c vol q e. closed-outside mid (c .«min_spread») (closedAnswer mid h c vol) q (closed-finite (newModel mid h c vol)) e;
+  closed = λ mid h c vol q e. closed-outside mid (c .«min_spread») (closedAnswer mid h c vol) q (closed-finite (driftlessModel mid h c vol)) e;
   from = from-never;
   lots = lots-never;
 }

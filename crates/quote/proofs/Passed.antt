@@ -1,5 +1,5 @@
 -- The checks of numbers either stop a call or all pass, and what it says that they pass. Assumes nothing.
-use mathlib.Core.Path.{_≡_, refl, subst}
+use mathlib.Core.Path.{_≡_, refl, sym, subst}
 use Prim.Native.Nat.{ℕ, _-_, _^_, _≤_}
 use native.Mathlib.Nat.{le-trans, sub-le}
 use mathlib.Core.Bool.{Bool, true, false, _&&_, and-eq-true-iff}
@@ -11,7 +11,7 @@ use lib.Ieee.{Float, nan, inf, fin, binary64, le, lt, ofInt, ofBits, fits}
 use lib.Ieee.Fits.{round-fits}
 use lib.Ieee.Bits.{is-true}
 use lib.Ieee.Exact.{HasValue}
-use Rattle.elementary.specs.Float.{_⊘_, whole, finite, positive}
+use Rattle.elementary.specs.Float.{_⊘_, whole, 0ᶠ, finite, positive}
 use Rattle.elementary.proofs.Signs.{nonneg}
 use Rattle.elementary.proofs.Exact.{whole-value, div-one-f}
 use Rattle.elementary.proofs.Order.{round-nonneg, div-nonneg, div-number, div-anti, finite-below}
@@ -19,30 +19,32 @@ use Rattle.vector.specs.Run.{largestBound, boundOk}
 use Rattle.distances.specs.FloatEntry.{floatsOk}
 use Rattle.quote.specs.Configuration.{amountOk, timeLimit, timeOk, above0, configLimits, configOk}
 use Rattle.quote.specs.Model.{lots, holdingOk, modelIf, modelOk, modelLimits, tauOf}
-use Rattle.quote.specs.Promises.{Checked, by-2, by-1, by-3, by-4, by-5}
+use Rattle.quote.specs.Promises.{Checked, by-2, by-1, by-22, by-3, by-4, by-5}
 use Rattle.quote.specs.declared.GLFTConfig.{GLFTConfig}
 use Rattle.quote.specs.declared.Model.{Model}
 use Rattle.quote.specs.declared.ModelAnswer.{ModelAnswer}
 use Rattle.quote.specs.declared.ModelAnswer.the-variants.{Refused, Model as Made}
 
--- ---- the tests for 2, 1, 3, 4 and 5, in this order
-pub data Outcome (l v m h f : Bool) (b : Model) (q : ℤ) : ModelAnswer → Type 0 where
-  stopped : {n : ℕ} → Checked l v m h f n → Outcome l v m h f b q (Refused n)
-  passed : l ≡ true → v ≡ true → m ≡ true → h ≡ true → f ≡ true → Outcome l v m h f b q (Made b q)
+-- ---- the tests for 2, 1, 22, 3, 4 and 5, in this order
+pub data Outcome (l v d m h f : Bool) (b : Model) (q : ℤ) : ModelAnswer → Type 0 where
+  stopped : {n : ℕ} → Checked l v d m h f n → Outcome l v d m h f b q (Refused n)
+  passed : l ≡ true → v ≡ true → d ≡ true → m ≡ true → h ≡ true → f ≡ true → Outcome l v d m h f b q (Made b q)
 
-pub outcome : (l v m h f : Bool) (b : Model) (q : ℤ) → Outcome l v m h f b q (modelIf l v m h f b q)
+pub outcome : (l v d m h f : Bool) (b : Model) (q : ℤ) → Outcome l v d m h f b q (modelIf l v d m h f b q)
 unfolding modelIf
-outcome false v m h f b q = stopped by-2
-outcome true false m h f b q = stopped by-1
-outcome true true false h f b q = stopped by-3
-outcome true true true false f b q = stopped by-4
-outcome true true true true false b q = stopped by-5
-outcome true true true true true b q = passed refl refl refl refl refl
+outcome false v d m h f b q = stopped by-2
+outcome true false d m h f b q = stopped by-1
+outcome true true false m h f b q = stopped by-22
+outcome true true true false h f b q = stopped by-3
+outcome true true true true false f b q = stopped by-4
+outcome true true true true true false b q = stopped by-5
+outcome true true true true true true b q = passed refl refl refl refl refl refl
 
-pub stops : {l v m h f : Bool} {n : ℕ} (b : Model) (q : ℤ) → Checked l v m h f n → modelIf l v m h f b q ≡ Refused n
+pub stops : {l v d m h f : Bool} {n : ℕ} (b : Model) (q : ℤ) → Checked l v d m h f n → modelIf l v d m h f b q ≡ Refused n
 unfolding modelIf
 stops b q by-2 = refl
 stops b q by-1 = refl
+stops b q by-22 = refl
 stops b q by-3 = refl
 stops b q by-4 = refl
 stops b q by-5 = refl
@@ -92,7 +94,7 @@ thousandths n h =
 time-passed : (c : GLFTConfig) → configLimits c ≡ true → c .«terminal_time» ≤ timeLimit
 unfolding configLimits timeOk
 time-passed c e =
-    let p = amountOk (c .«risk_aversion») && amountOk (c .«order_intensity_k») && amountOk (c .«intensity_scale_a») && amountOk (c .«lot_size») && amountOk (c .«min_spread») in
+    let p = amountOk (c .«risk_aversion») && amountOk (c .«order_intensity_k») && amountOk (c .«intensity_scale_a») && amountOk (c .«lot_size») && amountOk (c .«min_spread») && amountOk (c .drift) in
     leb-true (c .«terminal_time») timeLimit (and-eq-true-iff p (timeOk (c .«terminal_time»)) .0 e .1)
 
 pub tau-passed : (mid h : ℤ) (c : GLFTConfig) (vol : ℤ) (t : ℕ) → (timeOk t && modelLimits mid h c vol) ≡ true → finite (tauOf (c .«terminal_time») t) ≡ true
@@ -103,16 +105,30 @@ tau-passed mid h c vol t e =
     is-true (finite (tauOf (c .«terminal_time») t)) (thousandths (c .«terminal_time» - t) (le-trans (sub-le (c .«terminal_time») t) (le-trans (time-passed c limits) (lit≤ tt))))
 
 -- the model's tests, and tau's, without those of gamma, A and sigma²
-fewer : (k g a s x y z w : Bool) → (k && g && a && s && x && y && z) ≡ true → w ≡ true → (k && x && y && z && w) ≡ true
-fewer k g a s x y z w h e =
-    let u₁ = and-eq-true-iff (k && g && a && s && x && y) z .0 h in
+fewer : (k g a s x y z t w : Bool) → (k && g && a && s && x && y && z && t) ≡ true → w ≡ true → (k && x && t && y && z && w) ≡ true
+fewer k g a s x y z t w h e =
+    let u₀ = and-eq-true-iff (k && g && a && s && x && y && z) t .0 h in
+    let u₁ = and-eq-true-iff (k && g && a && s && x && y) z .0 (u₀ .0) in
     let u₂ = and-eq-true-iff (k && g && a && s && x) y .0 (u₁ .0) in
     let u₃ = and-eq-true-iff (k && g && a && s) x .0 (u₂ .0) in
     let u₄ = and-eq-true-iff (k && g && a) s .0 (u₃ .0) in
     let u₅ = and-eq-true-iff (k && g) a .0 (u₄ .0) in
     let u₆ = and-eq-true-iff k g .0 (u₅ .0) in
-    rw (u₆ .0, u₃ .1, u₂ .1, u₁ .1, e)
+    rw (u₆ .0, u₃ .1, u₀ .1, u₂ .1, u₁ .1, e)
 
-pub floats-passed : (m : Model) (tau : Float) → modelOk m ≡ true → finite tau ≡ true → floatsOk (m .k) (m .alpha) (m .eta) (m .base) tau ≡ true
+-- k is a number
+first-of : (k g a s x y z t : Bool) → (k && g && a && s && x && y && z && t) ≡ true → k ≡ true
+first-of true g a s x y z t h = refl
+first-of false g a s x y z t h = h
+
+pub positive-number : (x : Float) → positive x ≡ true → T (finite x)
+unfolding positive
+positive-number x h = subst T (sym (and-eq-true-iff (finite x) (lt 0ᶠ x) .0 h .0)) tt
+
+pub k-passed : (m : Model) → modelOk m ≡ true → T (finite (m .k))
+unfolding modelOk
+k-passed m f = positive-number (m .k) (first-of (positive (m .k)) (positive (m .gamma)) (positive (m .a)) (positive (m .sigma2)) (positive (m .alpha)) (positive (m .eta)) (positive (m .base)) (finite (m .beta)) f)
+
+pub floats-passed : (m : Model) (tau : Float) → modelOk m ≡ true → finite tau ≡ true → floatsOk (m .k) (m .alpha) (m .beta) (m .eta) (m .base) tau ≡ true
 unfolding modelOk floatsOk
-floats-passed m tau f e = fewer (positive (m .k)) (positive (m .gamma)) (positive (m .a)) (positive (m .sigma2)) (positive (m .alpha)) (positive (m .eta)) (positive (m .base)) (finite tau) f e
+floats-passed m tau f e = fewer (positive (m .k)) (positive (m .gamma)) (positive (m .a)) (positive (m .sigma2)) (positive (m .alpha)) (positive (m .eta)) (positive (m .base)) (finite (m .beta)) (finite tau) f e

@@ -18,7 +18,7 @@ use Rattle.distances.specs.declared.Answer.{Answer}
 use Rattle.distances.specs.declared.Answer.the-variants as Answer
 use Rattle.distances.proofs.Presence.{float-presence, sides-are}
 use Rattle.quote.specs.Configuration.{timeOk, configOk}
-use Rattle.quote.specs.Model.{lots, holdingOk, modelOf, modelFrom, modelBy, newModel, tauOf}
+use Rattle.quote.specs.Model.{lots, holdingOk, modelOf, modelFrom, modelBy, newModel, driftlessModel, tauOf}
 use Rattle.quote.specs.ClosedForm.{slope, formBid, formAsk, bidForm, askForm, formIf, closedFormDistances}
 use Rattle.quote.specs.Quotes.{side, widening, bidPrice, askPrice, quoted, buildQuotes, exactFrom, exactIf, exactAnswer, exactBy, exactQuotes, optimalQuotes, closedFrom, closedAnswer, closedBy, closedFormQuotes}
 use Rattle.quote.specs.Presence.{Presence, ExactPresence, OptimalPresence, ClosedPresence}
@@ -64,18 +64,18 @@ module _ (mid least h : ℤ) (c : GLFTConfig) (q : GlftQuotes) where
   closed-built (Sides.Refused r) w e = let z : _≡_ {A = ℕ} 0 1 = cc in absurd (omega arith)
 
 -- ---- exact quotes
-from-withheld : {l m f : Bool} (h : ℤ) (c : GLFTConfig) (vol : ℤ) (tau : Float) {x : ModelAnswer} (b a : Distance) (s : ℕ) → Outcome l (configOk c) m (holdingOk h c) f (modelOf c vol) (lots h c) x
+from-withheld : {l d m f : Bool} (h : ℤ) (c : GLFTConfig) (vol : ℤ) (tau : Float) {x : ModelAnswer} (b a : Distance) (s : ℕ) → Outcome l (configOk c) d m (holdingOk h c) f (modelOf c vol) (lots h c) x
     → exactFrom x tau ≡ Answer.Distances b a s → Withheld (c .«max_inventory_lots») (lots h c) b a
 unfolding exactFrom modelOf modelFrom modelBy
 from-withheld h c vol tau b a s (stopped k) e = let z : _≡_ {A = ℕ} 0 1 = cc in absurd (omega arith)
-from-withheld h c vol tau b a s (passed l v m g f) e = let m = modelOf c vol in float-presence (m .k) (m .alpha) (m .eta) (m .base) (m .«q_max») tau (lots h c) b a s e
+from-withheld h c vol tau b a s (passed l v d m g f) e = let m = modelOf c vol in float-presence (m .k) (m .alpha) (m .beta) (m .eta) (m .base) (m .«q_max») tau (lots h c) b a s e
 
 answer-withheld : (mid h : ℤ) (c : GLFTConfig) (vol : ℤ) (t : ℕ) (b a : Distance) (s : ℕ) → exactAnswer mid h c vol t ≡ Answer.Distances b a s → Withheld (c .«max_inventory_lots») (lots h c) b a
 unfolding exactAnswer exactIf newModel
 answer-withheld mid h c vol t b a s = go (timeOk t)
   where
     go : (x : Bool) → exactIf x mid h c vol t ≡ Answer.Distances b a s → Withheld (c .«max_inventory_lots») (lots h c) b a
-    go true e = from-withheld h c vol (tauOf (c .«terminal_time») t) b a s (outcome _ _ _ _ _ _ _) e
+    go true e = from-withheld h c vol (tauOf (c .«terminal_time») t) b a s (outcome _ _ _ _ _ _ _ _) e
     go false e = let z : _≡_ {A = ℕ} 0 1 = cc in absurd (omega arith)
 
 pub exact-presence : ExactPresence
@@ -118,12 +118,12 @@ form-withheld m q h b a = go (positive (slope m))
         rw (← u .0, ← u .1) (Iff·trans (form-bid-absent _ (m .base) (slope m) (whole q)) (top q (m .«q_max») h), Iff·trans (form-ask-absent _ (m .base) (slope m) (whole q)) (bottom q (m .«q_max») h))
     go false e = let z : _≡_ {A = ℕ} 0 1 = cc in absurd (omega arith)
 
-closed-withheld : {l m f : Bool} (h : ℤ) (c : GLFTConfig) (vol : ℤ) {x : ModelAnswer} → Outcome l (configOk c) m (holdingOk h c) f (modelOf c vol) (lots h c) x
+closed-withheld : {l d m f : Bool} (h : ℤ) (c : GLFTConfig) (vol : ℤ) {x : ModelAnswer} → Outcome l (configOk c) d m (holdingOk h c) f (modelOf c vol) (lots h c) x
     → (b a : Distance) → closedFrom x ≡ Sides.Distances b a → Withheld (c .«max_inventory_lots») (lots h c) b a
 unfolding closedFrom modelOf modelFrom modelBy
 closed-withheld h c vol (stopped k) b a e = let z : _≡_ {A = ℕ} 0 1 = cc in absurd (omega arith)
-closed-withheld h c vol (passed l v m g f) b a e = form-withheld (modelOf c vol) (lots h c) (leb-true (natAbs (lots h c)) (c .«max_inventory_lots») (lots-passed h c g)) b a e
+closed-withheld h c vol (passed l v d m g f) b a e = form-withheld (modelOf c vol) (lots h c) (leb-true (natAbs (lots h c)) (c .«max_inventory_lots») (lots-passed h c g)) b a e
 
 pub closed-presence : ClosedPresence
-unfolding closedFormQuotes closedAnswer newModel
-closed-presence mid h c vol q e = closed-built mid (c .«min_spread») h c q (closedAnswer mid h c vol) (closed-withheld h c vol (outcome _ _ _ _ _ _ _)) e
+unfolding closedFormQuotes closedAnswer driftlessModel
+closed-presence mid h c vol q e = closed-built mid (c .«min_spread») h c q (closedAnswer mid h c vol) (closed-withheld h c vol (outcome _ _ _ _ _ _ _ _)) e

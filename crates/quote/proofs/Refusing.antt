@@ -20,7 +20,7 @@ use Rattle.distances.specs.declared.Answer.the-variants as Answer
 use Rattle.distances.proofs.Refusing.{never, float-refusals}
 use Rattle.quote.specs.Refusals.{capped}
 use Rattle.quote.specs.Configuration.{timeOk, configLimits, configOk, configIf, newConfig}
-use Rattle.quote.specs.Model.{lots, marketOk, holdingOk, modelOk, modelOf, modelFrom, modelBy, modelIf, modelLimits, newModel, tauOf}
+use Rattle.quote.specs.Model.{lots, marketOk, holdingOk, modelOk, modelOf, modelFrom, modelBy, modelIf, modelLimits, newModel, driftless, driftlessModel, tauOf}
 use Rattle.quote.specs.ClosedForm.{slope, bidForm, askForm, formIf, closedFormDistances}
 use Rattle.quote.specs.Quotes.{side, widening, bidPrice, askPrice, Judged, quoted, refused, judgeIf, judge, quotesBy, buildQuotes, withSteps, exactBy, exactFrom, exactIf, exactAnswer, exactQuotes, wrapped, optimalQuotes, ofJudged, closedBy, closedFrom, closedAnswer, closedFormQuotes}
 use Rattle.quote.specs.Promises.{Checked, Passed, Within, Ordered, Priced, PricedOf, by-13, by-14, ConfigRefused, config-2, config-1, ConfigRefusals, ModelRefusals, FormFails, by-slope, by-bid, by-ask, ExactRefusals, OptimalRefusals, ClosedRefusals}
@@ -54,20 +54,20 @@ module _ (mid least : ℤ) where
 
 -- ---- by the numbers' checks, or after them: g reckons from a model, and answers a refusal by its number
 module _ {R : Type 0} (refusal : ℕ → R) (g : ModelAnswer → R) (kept : (r : ℕ) → g (ModelAnswer.Refused r) ≡ refusal r) (alike : (r n : ℕ) → refusal r ≡ refusal n → r ≡ n) where
-  stopped-at : {l v m h f : Bool} {b : Model} {q : ℤ} {x : ModelAnswer} (n : ℕ) → Outcome l v m h f b q x → g x ≡ refusal n
-      → Checked l v m h f n ⊎ (Passed l v m h f × (g (ModelAnswer.Model b q) ≡ refusal n))
-  stopped-at {l} {v} {m} {h} {f} n (stopped {n = r} k) e = inl (subst (λ (i : ℕ). Checked l v m h f i) (alike r n (sym (kept r) ∙ e)) k)
-  stopped-at n (passed l v m h f) e = inr ((l, v, m, h, f), e)
+  stopped-at : {l v d m h f : Bool} {b : Model} {q : ℤ} {x : ModelAnswer} (n : ℕ) → Outcome l v d m h f b q x → g x ≡ refusal n
+      → Checked l v d m h f n ⊎ (Passed l v d m h f × (g (ModelAnswer.Model b q) ≡ refusal n))
+  stopped-at {l} {v} {d} {m} {h} {f} n (stopped {n = r} k) e = inl (subst (λ (i : ℕ). Checked l v d m h f i) (alike r n (sym (kept r) ∙ e)) k)
+  stopped-at n (passed l v d m h f) e = inr ((l, v, d, m, h, f), e)
 
-  goes-on : (l v m h f : Bool) (b : Model) (q : ℤ) → Passed l v m h f → modelIf l v m h f b q ≡ ModelAnswer.Model b q
+  goes-on : (l v d m h f : Bool) (b : Model) (q : ℤ) → Passed l v d m h f → modelIf l v d m h f b q ≡ ModelAnswer.Model b q
   unfolding modelIf
-  goes-on l v m h f b q (el, ev, em, eh, ef) = rw (el, ev, em, eh, ef)
+  goes-on l v d m h f b q (el, ev, ed, em, eh, ef) = rw (el, ev, ed, em, eh, ef)
 
-  pub after-checks : (l v m h f : Bool) (b : Model) (q : ℤ) (n : ℕ)
-      → (g (modelIf l v m h f b q) ≡ refusal n) ↔ (Checked l v m h f n ⊎ (Passed l v m h f × (g (ModelAnswer.Model b q) ≡ refusal n)))
-  after-checks l v m h f b q n = (
-    stopped-at n (outcome l v m h f b q),
-    λ x. elim x [ inl k ↦ ap g (stops b q k) ∙ kept n | inr k ↦ ap g (goes-on l v m h f b q (k .0)) ∙ k .1 ],
+  pub after-checks : (l v d m h f : Bool) (b : Model) (q : ℤ) (n : ℕ)
+      → (g (modelIf l v d m h f b q) ≡ refusal n) ↔ (Checked l v d m h f n ⊎ (Passed l v d m h f × (g (ModelAnswer.Model b q) ≡ refusal n)))
+  after-checks l v d m h f b q n = (
+    stopped-at n (outcome l v d m h f b q),
+    λ x. elim x [ inl k ↦ ap g (stops b q k) ∙ kept n | inr k ↦ ap g (goes-on l v d m h f b q (k .0)) ∙ k .1 ],
   )
 
 -- ---- the constructors
@@ -84,13 +84,13 @@ config-refusals c n = (to (configLimits c) (configOk c) refl refl, from n)
     from m (config-2 el) = rw el
     from m (config-1 el ev) = rw (el, ev)
 
-model-stopped : {l v m h f : Bool} {b : Model} {q : ℤ} {x : ModelAnswer} (n : ℕ) → Outcome l v m h f b q x → x ≡ ModelAnswer.Refused n → Checked l v m h f n
-model-stopped {l} {v} {m} {h} {f} n (stopped {n = r} k) e = let z : r ≡ n = cc in subst (λ (i : ℕ). Checked l v m h f i) z k
-model-stopped n (passed l v m h f) e = let z : _≡_ {A = ℕ} 0 1 = cc in absurd (omega arith)
+model-stopped : {l v d m h f : Bool} {b : Model} {q : ℤ} {x : ModelAnswer} (n : ℕ) → Outcome l v d m h f b q x → x ≡ ModelAnswer.Refused n → Checked l v d m h f n
+model-stopped {l} {v} {d} {m} {h} {f} n (stopped {n = r} k) e = let z : r ≡ n = cc in subst (λ (i : ℕ). Checked l v d m h f i) z k
+model-stopped n (passed l v d m h f) e = let z : _≡_ {A = ℕ} 0 1 = cc in absurd (omega arith)
 
 pub model-refusals : ModelRefusals
 unfolding newModel
-model-refusals mid h c vol n = (model-stopped n (outcome _ _ _ _ _ _ _), stops _ _)
+model-refusals mid h c vol n = (model-stopped n (outcome _ _ _ _ _ _ _ _), stops _ _)
 
 -- both ways, put together
 joined : {A B C D P : Type 0} → (A ↔ (B ⊎ P)) → (B ↔ (C ⊎ D)) → (A ↔ (C ⊎ (D ⊎ P)))
@@ -107,13 +107,13 @@ pub right : {A B C : Type 0} → (B ↔ C) → (A ⊎ B) ↔ (A ⊎ C)
 right f = (λ x. elim x [ inl a ↦ inl a | inr b ↦ inr (f .0 b) ], λ x. elim x [ inl a ↦ inl a | inr c ↦ inr (f .1 c) ])
 
 -- ---- exact quotes
-float-fails : (k alpha eta base : Float) (bound : ℕ) (tau : Float) (q : ℤ) (n : ℕ) → floatsOk k alpha eta base tau ≡ true → boundOk bound ≡ true → within bound q ≡ true
-    → (floatEntry k alpha eta base bound tau q .answer ≡ Answer.Refused n) ↔ ((n ≡ numerical) × EntryFails k alpha eta base bound tau q)
-float-fails k alpha eta base bound tau q n f b h =
-    let r = float-refusals k alpha eta base bound tau q in
+float-fails : (k alpha beta eta base : Float) (bound : ℕ) (tau : Float) (q : ℤ) (n : ℕ) → floatsOk k alpha beta eta base tau ≡ true → boundOk bound ≡ true → within bound q ≡ true
+    → (floatEntry k alpha beta eta base bound tau q .answer ≡ Answer.Refused n) ↔ ((n ≡ numerical) × EntryFails k alpha beta eta base bound tau q)
+float-fails k alpha beta eta base bound tau q n f b h =
+    let r = float-refusals k alpha beta eta base bound tau q in
     (λ e. go (r n .0 e), λ x. rw (x .0) (r numerical .1 (at-11 f b h (x .1))))
   where
-    go : {m : ℕ} → FloatRefused k alpha eta base bound tau q m → (m ≡ numerical) × EntryFails k alpha eta base bound tau q
+    go : {m : ℕ} → FloatRefused k alpha beta eta base bound tau q m → (m ≡ numerical) × EntryFails k alpha beta eta base bound tau q
     go (at-5 e) = never (sym f ∙ e)
     go (at-1 e i) = never (sym b ∙ i)
     go (at-4 e i j) = never (sym h ∙ j)
@@ -121,12 +121,12 @@ float-fails k alpha eta base bound tau q n f b h =
 
 answer-is : (mid h : ℤ) (c : GLFTConfig) (vol : ℤ) (t : ℕ)
     → exactAnswer mid h c vol t
-    ≡ exactFrom (modelIf (timeOk t && modelLimits mid h c vol) (configOk c) (marketOk mid vol) (holdingOk h c) (modelOk (modelOf c vol)) (modelOf c vol) (lots h c)) (tauOf (c .«terminal_time») t)
+    ≡ exactFrom (modelIf (timeOk t && modelLimits mid h c vol) (configOk c) true (marketOk mid vol) (holdingOk h c) (modelOk (modelOf c vol)) (modelOf c vol) (lots h c)) (tauOf (c .«terminal_time») t)
 unfolding exactAnswer exactIf newModel exactFrom modelIf
 answer-is mid h c vol t = go (timeOk t)
   where
     go : (b : Bool) → exactIf b mid h c vol t
-        ≡ exactFrom (modelIf (b && modelLimits mid h c vol) (configOk c) (marketOk mid vol) (holdingOk h c) (modelOk (modelOf c vol)) (modelOf c vol) (lots h c)) (tauOf (c .«terminal_time») t)
+        ≡ exactFrom (modelIf (b && modelLimits mid h c vol) (configOk c) true (marketOk mid vol) (holdingOk h c) (modelOk (modelOf c vol)) (modelOf c vol) (lots h c)) (tauOf (c .«terminal_time») t)
     go true = refl
     go false = refl
 
@@ -155,8 +155,8 @@ exact-refusals mid h c vol t n =
     let tau = tauOf (c .«terminal_time») t in
     let m = modelOf c vol in
     joined (exact-by mid (c .«min_spread») (exactAnswer mid h c vol t) n)
-    (rw (answer-is mid h c vol t) (Iff·trans (after-checks Answer.Refused (λ x. exactFrom x tau) (λ r. refl) same-answer (timeOk t && modelLimits mid h c vol) (configOk c) (marketOk mid vol) (holdingOk h c) (modelOk m) m (lots h c) n)
-    (right (late (λ p. float-fails (m .k) (m .alpha) (m .eta) (m .base) (m .«q_max») tau (lots h c) n (floats-passed m tau (p .4) (tau-passed mid h c vol t (p .0))) (bound-passed c (p .1)) (lots-passed h c (p .3)))))))
+    (rw (answer-is mid h c vol t) (Iff·trans (after-checks Answer.Refused (λ x. exactFrom x tau) (λ r. refl) same-answer (timeOk t && modelLimits mid h c vol) (configOk c) true (marketOk mid vol) (holdingOk h c) (modelOk m) m (lots h c) n)
+    (right (late (λ p. float-fails (m .k) (m .alpha) (m .beta) (m .eta) (m .base) (m .«q_max») tau (lots h c) n (floats-passed m tau (p .5) (tau-passed mid h c vol t (p .0))) (bound-passed c (p .1)) (lots-passed h c (p .4)))))))
 
 -- ---- the wrapper's
 pub optimal-refusals : OptimalRefusals
@@ -213,9 +213,9 @@ same-sides : (r n : ℕ) → Sides.Refused r ≡ Sides.Refused n → r ≡ n
 same-sides r n e = cc
 
 pub closed-refusals : ClosedRefusals
-unfolding closedFormQuotes closedAnswer closedFrom newModel
+unfolding closedFormQuotes closedAnswer closedFrom driftlessModel
 closed-refusals mid h c vol n =
     let m = modelOf c vol in
     joined (closed-by mid (c .«min_spread») (closedAnswer mid h c vol) n)
-    (Iff·trans (after-checks Sides.Refused closedFrom (λ r. refl) same-sides (modelLimits mid h c vol) (configOk c) (marketOk mid vol) (holdingOk h c) (modelOk m) m (lots h c) n)
+    (Iff·trans (after-checks Sides.Refused closedFrom (λ r. refl) same-sides (modelLimits mid h c vol) (configOk c) (driftless c) (marketOk mid vol) (holdingOk h c) (modelOk m) m (lots h c) n)
     (right (late (λ p. form-fails m (lots h c) n))))

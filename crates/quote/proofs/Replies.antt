@@ -15,12 +15,12 @@ use Rattle.distances.specs.Promises.{Counted}
 use Rattle.distances.specs.declared.Distance.{Distance}
 use Rattle.distances.specs.declared.Answer.{Answer}
 use Rattle.distances.specs.declared.Answer.the-variants as Answer
-use Rattle.distances.proofs.Refusing.{float-reports}
+use Rattle.distances.proofs.Refusing.{never, float-reports}
 use Rattle.quote.specs.Refusals.{crossed}
 use Rattle.quote.specs.Configuration.{amountLimit, amountOk, above0, timeOk}
 use Rattle.quote.specs.Model.{newModel, tauOf}
 use Rattle.quote.specs.Quotes.{each, inOrder, judgeIf, judge, quotesBy, buildQuotes, withSteps, exactFrom, exactIf, exactAnswer, exactBy, exactQuotes, exactSteps}
-use Rattle.quote.specs.Promises.{Checked, by-2, by-1, by-3, by-4, by-5, Priced, by-13, by-14}
+use Rattle.quote.specs.Promises.{Checked, by-2, by-1, by-22, by-3, by-4, by-5, Priced, by-13, by-14}
 use Rattle.quote.specs.Replies.{PriceKept, ReplyKept, RepliesKept}
 use Rattle.quote.specs.declared.GLFTConfig.{GLFTConfig}
 use Rattle.quote.specs.declared.ModelAnswer.{ModelAnswer}
@@ -67,27 +67,28 @@ number-above (fin s m e) nan h = h
 number-above x (inf s) h = tt
 number-above x (fin s m e) h = tt
 
-float-reported : (k alpha eta base : Float) (bound : ℕ) (tau : Float) (q : ℤ) → Reported (floatEntry k alpha eta base bound tau q .answer)
+float-reported : (k alpha beta eta base : Float) (bound : ℕ) (tau : Float) (q : ℤ) → Reported (floatEntry k alpha beta eta base bound tau q .answer)
 unfolding Reported
-float-reported k alpha eta base bound tau q = go (floatEntry k alpha eta base bound tau q .answer) refl
+float-reported k alpha beta eta base bound tau q = go (floatEntry k alpha beta eta base bound tau q .answer) refl
   where
-    go : (a : Answer) → floatEntry k alpha eta base bound tau q .answer ≡ a → Reported a
+    go : (a : Answer) → floatEntry k alpha beta eta base bound tau q .answer ≡ a → Reported a
     go (Answer.Distances b a s) e = tt
-    go (Answer.OverCap need b s) e = number-above (whole (pos b)) need (float-reports k alpha eta base bound tau q need b s .0 e .report .above)
+    go (Answer.OverCap need b s) e = number-above (whole (pos b)) need (float-reports k alpha beta eta base bound tau q need b s .0 e .report .above)
     go (Answer.Refused r) e = tt
 
 from-reported : (m : ModelAnswer) (tau : Float) → Reported (exactFrom m tau)
 unfolding Reported exactFrom
-from-reported (ModelAnswer.Model m q) tau = float-reported (m .k) (m .alpha) (m .eta) (m .base) (m .«q_max») tau q
+from-reported (ModelAnswer.Model m q) tau = float-reported (m .k) (m .alpha) (m .beta) (m .eta) (m .base) (m .«q_max») tau q
 from-reported (ModelAnswer.Refused r) tau = tt
 
 -- ---- a refusal's number
-checked-small : {l v m h f : Bool} {n : ℕ} → Checked l v m h f n → n ≤ crossed
-checked-small by-2 = omega arith
-checked-small by-1 = omega arith
-checked-small by-3 = omega arith
-checked-small by-4 = omega arith
-checked-small by-5 = omega arith
+checked-small : {l v d m h f : Bool} {n : ℕ} → d ≡ true → Checked l v d m h f n → n ≤ crossed
+checked-small e by-2 = omega arith
+checked-small e by-1 = omega arith
+checked-small e by-22 = never (sym e)
+checked-small e by-3 = omega arith
+checked-small e by-4 = omega arith
+checked-small e by-5 = omega arith
 
 priced-small : {mid least : ℤ} {b a : Distance} {n : ℕ} → Priced mid least b a n → n ≤ crossed
 priced-small (by-13 h) = omega arith
@@ -103,7 +104,7 @@ module _ (mid h : ℤ) (c : GLFTConfig) (vol : ℤ) (t : ℕ) where
       go false = tt
 
   refusal-small : (n : ℕ) → exactQuotes mid h c vol t ≡ Exact.Refused n → n ≤ crossed
-  refusal-small n e = elim (exact-refusals mid h c vol t n .0 e) [ inl k ↦ checked-small k | inr x ↦ elim x [ inl k ↦ omega (arith, k .0) | inr k ↦ priced-small (k .4) ] ]
+  refusal-small n e = elim (exact-refusals mid h c vol t n .0 e) [ inl k ↦ checked-small refl k | inr x ↦ elim x [ inl k ↦ omega (arith, k .0) | inr k ↦ priced-small (k .4) ] ]
 
   answer-kept : (a : Answer) → exactAnswer mid h c vol t ≡ a → ReplyKept (exactBy mid (c .«min_spread») a)
   unfolding ReplyKept exactQuotes exactBy buildQuotes quotesBy Counted Reported

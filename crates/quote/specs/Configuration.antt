@@ -42,7 +42,7 @@ toFloat z = whole z ⊘ whole (pos billion)
 unfoldable pub configLimits : GLFTConfig → Bool
 configLimits c =
     amountOk (c .«risk_aversion») && amountOk (c .«order_intensity_k») && amountOk (c .«intensity_scale_a») && amountOk (c .«lot_size»)
-    && amountOk (c .«min_spread») && timeOk (c .«terminal_time»)
+    && amountOk (c .«min_spread») && amountOk (c .drift) && timeOk (c .«terminal_time»)
 
 -- risk aversion, k, A and lot size positive, the bound 1 to 200, a terminal time, no negative min spread, or 1
 unfoldable pub configOk : GLFTConfig → Bool

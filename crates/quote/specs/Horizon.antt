@@ -7,6 +7,7 @@ use lib.IntN.{ℤ}
 use lib.Ieee.{Float, lt}
 use Rattle.elementary.specs.Float.{0ᶠ, positive}
 use Rattle.vector.specs.Refusals.{numerical}
+use Rattle.vector.specs.Run.{diagonalFinite, fixed}
 use Rattle.vector.specs.Count.{firstSize, FirstGoes}
 use Rattle.vector.specs.declared.FirstPlan.{FirstPlan}
 use Rattle.vector.specs.declared.FirstPlan.the-variants as FirstPlan
@@ -25,7 +26,7 @@ use Rattle.quote.specs.declared.ExactQuotes.the-variants as ExactQuotes
 -- the count of the model's floats
 unfoldable pub planFrom : ModelAnswer → Float → FirstPlan
 planFrom (ModelAnswer.Refused r) tau = FirstPlan.Refused r
-planFrom (ModelAnswer.Model m q) tau = stepCount (m .k) (m .alpha) (m .eta) (m .base) (m .«q_max») tau q
+planFrom (ModelAnswer.Model m q) tau = stepCount (m .k) (m .alpha) (m .beta) (m .eta) (m .base) (m .«q_max») tau q
 
 -- the current time is one of the numbers that 2 looks at
 unfoldable pub deskPlanIf : Bool → ℤ → ℤ → GLFTConfig → ℤ → ℕ → FirstPlan
@@ -44,16 +45,16 @@ pub record DeskPlanIsFirst : Type 0 where
   pub refused : (mid h : ℤ) (c : GLFTConfig) (vol : ℤ) (t n : ℕ) → deskPlan mid h c vol t ≡ FirstPlan.Refused n → exactQuotes mid h c vol t ≡ ExactQuotes.Refused n
   -- some steps: the model's run begins with a plan of so many; none: no step is spent
   pub steps : (mid h : ℤ) (c : GLFTConfig) (vol : ℤ) (t s : ℕ) → deskPlan mid h c vol t ≡ FirstPlan.Steps (suc s)
-      → (m : Model) × (q : ℤ) × (newModel mid h c vol ≡ ModelAnswer.Model m q) × FirstGoes (m .«q_max») (m .alpha) (m .eta) (tauOf (c .«terminal_time») t) (suc s)
+      → (m : Model) × (q : ℤ) × (newModel mid h c vol ≡ ModelAnswer.Model m q) × FirstGoes (m .«q_max») (m .alpha) (m .beta) (m .eta) (tauOf (c .«terminal_time») t) (suc s)
   pub none : (mid h : ℤ) (c : GLFTConfig) (vol : ℤ) (t : ℕ) → deskPlan mid h c vol t ≡ FirstPlan.Steps 0 → exactSteps mid h c vol t ≡ 0
 
--- ---- its refusals: what the numbers' checks refuse, and 11 where they pass, time is left, and tau × norm is not finite and positive
+-- ---- its refusals: what the numbers' checks refuse, and 11 where they pass, time is left, and an entry of the diagonal is not finite or tau × norm not finite and positive
 abbrev pub DeskPlanFails : ℤ → ℤ → GLFTConfig → ℤ → ℕ → Type 0
 DeskPlanFails mid h c vol t =
     let m = modelOf c vol in
     let tau = tauOf (c .«terminal_time») t in
-    Passed (timeOk t && modelLimits mid h c vol) (configOk c) (marketOk mid vol) (holdingOk h c) (modelOk m)
-    × ((lt 0ᶠ tau ≡ true) × (positive (firstSize (m .«q_max») (m .alpha) (m .eta) tau) ≡ false))
+    Passed (timeOk t && modelLimits mid h c vol) (configOk c) true (marketOk mid vol) (holdingOk h c) (modelOk m)
+    × ((lt 0ᶠ tau ≡ true) × ((diagonalFinite (fixed (m .«q_max») (m .alpha) (m .beta) (m .eta)) && positive (firstSize (m .«q_max») (m .alpha) (m .beta) (m .eta) tau)) ≡ false))
 
 abbrev pub DeskPlanRefusals : Type 0
 DeskPlanRefusals = (mid h : ℤ) (c : GLFTConfig) (vol : ℤ) (t n : ℕ)

@@ -21,9 +21,9 @@ use Rattle.quote.specs.declared.quotes.Built.{Built}
 use Rattle.quote.specs.declared.quotes.Built.the-variants as Built
 use Rattle.quote.specs.declared.rounding.Billionths.{Billionths}
 
--- a model after 2, 1 and 3
+-- a model after 2, 1, 22 and 3
 unfoldable pub modelAfter : ℤ → GLFTConfig → ℤ → ModelAnswer
-modelAfter h c vol = modelIf true true true (holdingOk h c) (modelOk (modelOf c vol)) (modelOf c vol) (lots h c)
+modelAfter h c vol = modelIf true true true true (holdingOk h c) (modelOk (modelOf c vol)) (modelOf c vol) (lots h c)
 
 -- a number's billionths in size: cut, or rounded up
 unfoldable pub sizeBy : Bool → Float → ℕ

@@ -11,3 +11,4 @@ pub mod Presence
 pub mod Reckoning
 pub mod Outward
 pub mod Horizon
+pub mod Drift

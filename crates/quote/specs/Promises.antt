@@ -17,9 +17,9 @@ use Rattle.distances.specs.declared.Distance.{Distance}
 use Rattle.distances.specs.declared.Sides.the-variants as Sides
 use Rattle.distances.specs.declared.Answer.{Answer}
 use Rattle.distances.specs.declared.Answer.the-variants as Answer
-use Rattle.quote.specs.Refusals.{limits, market, capped, beyond, crossed}
+use Rattle.quote.specs.Refusals.{limits, market, capped, beyond, crossed, drifting}
 use Rattle.quote.specs.Configuration.{amountOk, above0, timeOk, configLimits, configOk, newConfig}
-use Rattle.quote.specs.Model.{lots, modelLimits, marketOk, holdingOk, modelOk, modelOf, tauOf, newModel}
+use Rattle.quote.specs.Model.{lots, modelLimits, driftless, marketOk, holdingOk, modelOk, modelOf, tauOf, newModel}
 use Rattle.quote.specs.ClosedForm.{slope, bidForm, askForm}
 use Rattle.quote.specs.Quotes.{side, widening, bidPrice, askPrice, each, inOrder, exactAnswer, optimalAnswer, closedAnswer, exactSteps, exactBy, exactQuotes, wrapped, optimalQuotes, closedFormQuotes}
 use Rattle.quote.specs.declared.GLFTConfig.{GLFTConfig}
@@ -33,22 +33,34 @@ use Rattle.quote.specs.declared.ExactQuotes.the-variants as Exact
 use Rattle.quote.specs.declared.OptimalQuotes.the-variants as Optimal
 use Rattle.quote.specs.declared.ClosedFormQuotes.the-variants as Closed
 
--- ==== Demand 3: two calls of one entry, alike in all but the holding, which the second has with the other sign.
--- The opposite of a 64-bit holding is a number of ℤ always, so nothing is asked here; where 64 bits hold it, there is a second call.
+-- ==== Demand 3, as change request 7 has it: two calls of one entry, alike in all but the holding and the drift, which the second has with the other sign.
+-- The opposite of a 64-bit number is a number of ℤ always, so nothing is asked here; where 64 bits hold both, there is a second call.
+abbrev pub turned : GLFTConfig → GLFTConfig
+turned c =
+    record {
+      «risk_aversion» = c .«risk_aversion»;
+      «order_intensity_k» = c .«order_intensity_k»;
+      «intensity_scale_a» = c .«intensity_scale_a»;
+      «max_inventory_lots» = c .«max_inventory_lots»;
+      «lot_size» = c .«lot_size»;
+      «terminal_time» = c .«terminal_time»;
+      «min_spread» = c .«min_spread»;
+      drift = negℤ (c .drift);
+    }
 
 -- ---- (a) before prices: the same report or refusal, or the distances exchanged bit for bit, an absent side facing an absent one; the defined run's
 -- steps agree, under a refusal too, and are at most 11,000
 abbrev pub ExactMirror : Type 0
 ExactMirror = (mid h : ℤ) (c : GLFTConfig) (vol : ℤ) (t : ℕ)
-    → (exactAnswer mid (negℤ h) c vol t ≡ exchanged (exactAnswer mid h c vol t)) × (exactSteps mid (negℤ h) c vol t ≡ exactSteps mid h c vol t) × (exactSteps mid h c vol t ≤ cap)
+    → (exactAnswer mid (negℤ h) (turned c) vol t ≡ exchanged (exactAnswer mid h c vol t)) × (exactSteps mid (negℤ h) (turned c) vol t ≡ exactSteps mid h c vol t) × (exactSteps mid h c vol t ≤ cap)
 
 -- the wrapper's two replies: the same refusal, 12 where the answer is the report; steps as above
 abbrev pub OptimalMirror : Type 0
 OptimalMirror = (mid h : ℤ) (c : GLFTConfig) (vol : ℤ) (t : ℕ)
-    → (optimalAnswer mid (negℤ h) c vol t ≡ exchanged (optimalAnswer mid h c vol t)) × (exactSteps mid (negℤ h) c vol t ≡ exactSteps mid h c vol t) × (exactSteps mid h c vol t ≤ cap)
+    → (optimalAnswer mid (negℤ h) (turned c) vol t ≡ exchanged (optimalAnswer mid h c vol t)) × (exactSteps mid (negℤ h) (turned c) vol t ≡ exactSteps mid h c vol t) × (exactSteps mid h c vol t ≤ cap)
 
 abbrev pub ClosedMirror : Type 0
-ClosedMirror = (mid h : ℤ) (c : GLFTConfig) (vol : ℤ) → closedAnswer mid (negℤ h) c vol ≡ exchangedSides (closedAnswer mid h c vol)
+ClosedMirror = (mid h : ℤ) (c : GLFTConfig) (vol : ℤ) → closedAnswer mid (negℤ h) (turned c) vol ≡ exchangedSides (closedAnswer mid h c vol)
 
 -- ---- (b) prices that face each other: both absent, or adding up to exactly twice the mid
 unfoldable pub Facing : ℤ → Price → Price → Type 0
@@ -66,7 +78,7 @@ pub record Pair (mid : ℤ) (q q′ : GlftQuotes) : Type 0 where
 -- the holding of 1 lot has an ask alone, above the limit: 13; minus 1 lot has a bid alone, which is fine.
 abbrev pub ExactPairs : Type 0
 ExactPairs = (mid h : ℤ) (c : GLFTConfig) (vol : ℤ) (t : ℕ) (q q′ : GlftQuotes) (s s′ : ℕ)
-    → exactQuotes mid h c vol t ≡ Exact.Quotes q s → exactQuotes mid (negℤ h) c vol t ≡ Exact.Quotes q′ s′ → Pair mid q q′ × (s ≡ s′) × (s ≡ exactSteps mid h c vol t)
+    → exactQuotes mid h c vol t ≡ Exact.Quotes q s → exactQuotes mid (negℤ h) (turned c) vol t ≡ Exact.Quotes q′ s′ → Pair mid q q′ × (s ≡ s′) × (s ≡ exactSteps mid h c vol t)
 
 -- ---- (c) the wrapper, and the closed form
 -- the wrapper's quotes are its answer, priced
@@ -75,33 +87,37 @@ OptimalPriced = (mid h : ℤ) (c : GLFTConfig) (vol : ℤ) (t : ℕ) → optimal
 
 abbrev pub OptimalPairs : Type 0
 OptimalPairs = (mid h : ℤ) (c : GLFTConfig) (vol : ℤ) (t : ℕ) (q q′ : GlftQuotes) (s s′ : ℕ)
-    → optimalQuotes mid h c vol t ≡ Optimal.Quotes q s → optimalQuotes mid (negℤ h) c vol t ≡ Optimal.Quotes q′ s′ → Pair mid q q′ × (s ≡ s′) × (s ≡ exactSteps mid h c vol t)
+    → optimalQuotes mid h c vol t ≡ Optimal.Quotes q s → optimalQuotes mid (negℤ h) (turned c) vol t ≡ Optimal.Quotes q′ s′ → Pair mid q q′ × (s ≡ s′) × (s ≡ exactSteps mid h c vol t)
 
 abbrev pub ClosedPairs : Type 0
 ClosedPairs = (mid h : ℤ) (c : GLFTConfig) (vol : ℤ) (q q′ : GlftQuotes)
-    → closedFormQuotes mid h c vol ≡ Closed.Quotes q → closedFormQuotes mid (negℤ h) c vol ≡ Closed.Quotes q′ → Pair mid q q′
+    → closedFormQuotes mid h c vol ≡ Closed.Quotes q → closedFormQuotes mid (negℤ h) (turned c) vol ≡ Closed.Quotes q′ → Pair mid q q′
 
 -- ==== Demand 1: each refusal is the reply in just the situation that document 01 names
 
--- the numbers' checks, in order: the situation of 2, 1, 3, 4 and 5, each where none before it holds
-pub data Checked : Bool → Bool → Bool → Bool → Bool → ℕ → Type 0 where
-  by-2 : {v m h f : Bool} → Checked false v m h f limits
-  by-1 : {m h f : Bool} → Checked true false m h f configuration
-  by-3 : {h f : Bool} → Checked true true false h f market
-  by-4 : {f : Bool} → Checked true true true false f holding
-  by-5 : Checked true true true true false outside
+-- the numbers' checks, in order: the situation of 2, 1, 22, 3, 4 and 5, each where none before it holds; the closed form alone asks for no drift
+pub data Checked : Bool → Bool → Bool → Bool → Bool → Bool → ℕ → Type 0 where
+  by-2 : {v d m h f : Bool} → Checked false v d m h f limits
+  by-1 : {d m h f : Bool} → Checked true false d m h f configuration
+  by-22 : {m h f : Bool} → Checked true true false m h f drifting
+  by-3 : {h f : Bool} → Checked true true true false h f market
+  by-4 : {f : Bool} → Checked true true true true false f holding
+  by-5 : Checked true true true true true false outside
 
 -- they all pass
-abbrev pub Passed : Bool → Bool → Bool → Bool → Bool → Type 0
-Passed l v m h f = (l ≡ true) × (v ≡ true) × (m ≡ true) × (h ≡ true) × (f ≡ true)
+abbrev pub Passed : Bool → Bool → Bool → Bool → Bool → Bool → Type 0
+Passed l v d m h f = (l ≡ true) × (v ≡ true) × (d ≡ true) × (m ≡ true) × (h ≡ true) × (f ≡ true)
 
 abbrev pub ExactChecked : ℤ → ℤ → GLFTConfig → ℤ → ℕ → ℕ → Type 0
-ExactChecked mid h c vol t n = Checked (timeOk t && modelLimits mid h c vol) (configOk c) (marketOk mid vol) (holdingOk h c) (modelOk (modelOf c vol)) n
+ExactChecked mid h c vol t n = Checked (timeOk t && modelLimits mid h c vol) (configOk c) true (marketOk mid vol) (holdingOk h c) (modelOk (modelOf c vol)) n
+
+abbrev pub ModelChecked : ℤ → ℤ → GLFTConfig → ℤ → ℕ → Type 0
+ModelChecked mid h c vol n = Checked (modelLimits mid h c vol) (configOk c) true (marketOk mid vol) (holdingOk h c) (modelOk (modelOf c vol)) n
 
 abbrev pub ClosedChecked : ℤ → ℤ → GLFTConfig → ℤ → ℕ → Type 0
-ClosedChecked mid h c vol n = Checked (modelLimits mid h c vol) (configOk c) (marketOk mid vol) (holdingOk h c) (modelOk (modelOf c vol)) n
+ClosedChecked mid h c vol n = Checked (modelLimits mid h c vol) (configOk c) (driftless c) (marketOk mid vol) (holdingOk h c) (modelOk (modelOf c vol)) n
 
--- the two constructors: the configuration's is refused by 2, then 1; the model's by all five
+-- the two constructors: the configuration's is refused by 2, then 1; the model's by all but 22
 pub data ConfigRefused (c : GLFTConfig) : ℕ → Type 0 where
   config-2 : configLimits c ≡ false → ConfigRefused c limits
   config-1 : configLimits c ≡ true → configOk c ≡ false → ConfigRefused c configuration
@@ -110,14 +126,14 @@ abbrev pub ConfigRefusals : Type 0
 ConfigRefusals = (c : GLFTConfig) (n : ℕ) → (newConfig c ≡ ConfigAnswer.Refused n) ↔ ConfigRefused c n
 
 abbrev pub ModelRefusals : Type 0
-ModelRefusals = (mid h : ℤ) (c : GLFTConfig) (vol : ℤ) (n : ℕ) → (newModel mid h c vol ≡ ModelAnswer.Refused n) ↔ ClosedChecked mid h c vol n
+ModelRefusals = (mid h : ℤ) (c : GLFTConfig) (vol : ℤ) (n : ℕ) → (newModel mid h c vol ≡ ModelAnswer.Refused n) ↔ ModelChecked mid h c vol n
 
 -- 11: they all pass, and the float entry fails from the model's floats: its run does, or a read of its vector
 abbrev pub ExactFails : ℤ → ℤ → GLFTConfig → ℤ → ℕ → Type 0
 ExactFails mid h c vol t =
     let m = modelOf c vol in
-    Passed (timeOk t && modelLimits mid h c vol) (configOk c) (marketOk mid vol) (holdingOk h c) (modelOk m)
-    × EntryFails (m .k) (m .alpha) (m .eta) (m .base) (m .«q_max») (tauOf (c .«terminal_time») t) (lots h c)
+    Passed (timeOk t && modelLimits mid h c vol) (configOk c) true (marketOk mid vol) (holdingOk h c) (modelOk m)
+    × EntryFails (m .k) (m .alpha) (m .beta) (m .eta) (m .base) (m .«q_max») (tauOf (c .«terminal_time») t) (lots h c)
 
 -- and of the closed form: the slope is not finite and positive, an elementary refusal under it included; or it is, and a present distance is not finite
 pub data FormFails (m : Model) (q : ℤ) : Type 0 where
@@ -127,7 +143,7 @@ pub data FormFails (m : Model) (q : ℤ) : Type 0 where
 
 abbrev pub ClosedFails : ℤ → ℤ → GLFTConfig → ℤ → Type 0
 ClosedFails mid h c vol =
-    let m = modelOf c vol in Passed (modelLimits mid h c vol) (configOk c) (marketOk mid vol) (holdingOk h c) (modelOk m) × FormFails m (lots h c)
+    let m = modelOf c vol in Passed (modelLimits mid h c vol) (configOk c) (driftless c) (marketOk mid vol) (holdingOk h c) (modelOk m) × FormFails m (lots h c)
 
 -- prices from distances: 13 where a rounded distance or a price in its last form is beyond the limit; 14 where that is not so and a price is not positive or
 -- bid is not below ask

@@ -13,7 +13,7 @@ use Rattle.distances.specs.declared.Answer.{Answer}
 use Rattle.distances.specs.declared.Answer.the-variants as Answer
 use Rattle.quote.specs.Refusals.{limits, capped, beyond, crossed}
 use Rattle.quote.specs.Configuration.{amountOk, above0, timeOk}
-use Rattle.quote.specs.Model.{newModel, tauOf}
+use Rattle.quote.specs.Model.{newModel, driftlessModel, tauOf}
 use Rattle.quote.specs.ClosedForm.{closedFormDistances}
 use Rattle.quote.specs.Rounding.{billionths}
 use Rattle.quote.specs.declared.GLFTConfig.{GLFTConfig}
@@ -88,7 +88,7 @@ buildQuotes mid least b a = quotesBy mid least (side b) (side a)
 -- ---- before prices: the distances with their steps, a report, or a refusal
 unfoldable pub exactFrom : ModelAnswer → Float → Answer
 exactFrom (ModelAnswer.Refused r) tau = Answer.Refused r
-exactFrom (ModelAnswer.Model m q) tau = floatEntry (m .k) (m .alpha) (m .eta) (m .base) (m .«q_max») tau q .answer
+exactFrom (ModelAnswer.Model m q) tau = floatEntry (m .k) (m .alpha) (m .beta) (m .eta) (m .base) (m .«q_max») tau q .answer
 
 -- the current time is one of the numbers that 2 looks at
 unfoldable pub exactIf : Bool → ℤ → ℤ → GLFTConfig → ℤ → ℕ → Answer
@@ -112,7 +112,7 @@ closedFrom (ModelAnswer.Refused r) = Sides.Refused r
 closedFrom (ModelAnswer.Model m q) = closedFormDistances m q
 
 unfoldable pub closedAnswer : ℤ → ℤ → GLFTConfig → ℤ → Sides
-closedAnswer mid h c vol = closedFrom (newModel mid h c vol)
+closedAnswer mid h c vol = closedFrom (driftlessModel mid h c vol)
 
 -- ---- the entries
 unfoldable pub withSteps : ℕ → Judged → ExactQuotes
@@ -150,7 +150,7 @@ closedFormQuotes mid h c vol = closedBy mid (c .«min_spread») (closedAnswer mi
 -- the finished steps of the run that an exact call defines, under a refusal too
 unfoldable pub stepsFrom : ModelAnswer → Float → ℕ
 stepsFrom (ModelAnswer.Refused r) tau = 0
-stepsFrom (ModelAnswer.Model m q) tau = floatSteps (m .k) (m .alpha) (m .eta) (m .base) (m .«q_max») tau q
+stepsFrom (ModelAnswer.Model m q) tau = floatSteps (m .k) (m .alpha) (m .beta) (m .eta) (m .base) (m .«q_max») tau q
 
 unfoldable pub stepsIf : Bool → ℤ → ℤ → GLFTConfig → ℤ → ℕ → ℕ
 stepsIf false mid h c vol t = 0

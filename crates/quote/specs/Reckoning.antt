@@ -17,7 +17,7 @@ use Rattle.quote.specs.Refusals.{limits, market}
 use Rattle.quote.specs.Configuration.{amountOk, above0, timeOk, configOk}
 use Rattle.quote.specs.Model.{marketOk, modelOf, modelOk, tauOf, modelLimits, newModel}
 use Rattle.quote.specs.Quotes.{exactAnswer, exactBy, exactQuotes}
-use Rattle.quote.specs.Promises.{Pair, PricedOf}
+use Rattle.quote.specs.Promises.{turned, Pair, PricedOf}
 use Rattle.quote.specs.declared.GLFTConfig.{GLFTConfig}
 use Rattle.quote.specs.declared.Model.{Model}
 use Rattle.quote.specs.declared.ModelAnswer.the-variants as ModelAnswer
@@ -41,7 +41,7 @@ checkCall mid c vol t = checkIf (timeOk t && modelLimits mid (pos 0) c vol) (con
 -- ---- the reckoning: the model's k and base, and its value vector; 5 in the vector's place where a float of the model is not fine
 unfoldable pub reckonIf : Bool → Model → Float → VectorAnswer
 reckonIf false m tau = refusedVector outside
-reckonIf true m tau = valueVector (m .alpha) (m .eta) (m .«q_max») tau
+reckonIf true m tau = valueVector (m .alpha) (m .beta) (m .eta) (m .«q_max») tau
 
 unfoldable pub reckoning : GLFTConfig → ℤ → ℕ → Reckoning
 reckoning c vol t = let m = modelOf c vol in record { k = m .k; base = m .base; vector = reckonIf (modelOk m) m (tauOf (c .«terminal_time») t) }
@@ -70,7 +70,7 @@ quotesOfLots mid c r q = lotsIf (above0 (c .«lot_size»)) (amountOk (holdingOf 
 -- where a call's model is made, the quotes from its value vector are those of `exact_quotes`
 abbrev pub FromVector : Type 0
 FromVector = (mid h : ℤ) (c : GLFTConfig) (vol : ℤ) (t : ℕ) (m : Model) (q : ℤ) → timeOk t ≡ true → newModel mid h c vol ≡ ModelAnswer.Model m q
-    → quotesFrom mid (c .«min_spread») (m .k) (m .base) q (valueVector (m .alpha) (m .eta) (m .«q_max») (tauOf (c .«terminal_time») t)) ≡ exactQuotes mid h c vol t
+    → quotesFrom mid (c .«min_spread») (m .k) (m .base) q (valueVector (m .alpha) (m .beta) (m .eta) (m .«q_max») (tauOf (c .«terminal_time») t)) ≡ exactQuotes mid h c vol t
 
 -- where a call's numbers pass, the quotes of so many lots, within the bound, from its reckoning are those of `exact_quotes` at their holding
 abbrev pub LotsAreSingle : Type 0
@@ -96,15 +96,15 @@ Carries (ExactQuotes.Refused r) n = ⊥
 abbrev pub OneRun : Type 0
 OneRun = (mid : ℤ) (c : GLFTConfig) (r : Reckoning) (q p : ℤ) (n m : ℕ) → Carries (quotesOfLots mid c r q) n → Carries (quotesOfLots mid c r p) m → n ≡ m
 
--- before prices, the answers at two holdings: the same report or refusal, or the distances exchanged
+-- before prices, the answers at two holdings, the second with the drift turned: the same report or refusal, or the distances exchanged
 abbrev pub Opposed : ℤ → GLFTConfig → ℤ → ℕ → ℤ → ℤ → Type 0
-Opposed mid c vol t h g = exactAnswer mid g c vol t ≡ exchanged (exactAnswer mid h c vol t)
+Opposed mid c vol t h g = exactAnswer mid g (turned c) vol t ≡ exchanged (exactAnswer mid h c vol t)
 
--- opposite lots: opposed before prices; where both end in quotes, their prices face each other
+-- opposite lots and drifts: opposed before prices; where both end in quotes, their prices face each other
 abbrev pub LotsMirror : Type 0
 LotsMirror = (mid : ℤ) (c : GLFTConfig) (vol : ℤ) (t : ℕ) (q : ℤ) → checkCall mid c vol t ≡ Check.Passes → natAbs q ≤ c .«max_inventory_lots»
     → Opposed mid c vol t (holdingOf c q) (holdingOf c (negℤ q))
-    × ((x y : GlftQuotes) (s r : ℕ) → quotesOfLots mid c (reckoning c vol t) q ≡ ExactQuotes.Quotes x s → quotesOfLots mid c (reckoning c vol t) (negℤ q) ≡ ExactQuotes.Quotes y r → Pair mid x y)
+    × ((x y : GlftQuotes) (s r : ℕ) → quotesOfLots mid c (reckoning c vol t) q ≡ ExactQuotes.Quotes x s → quotesOfLots mid (turned c) (reckoning (turned c) vol t) (negℤ q) ≡ ExactQuotes.Quotes y r → Pair mid x y)
 
 -- what refuses a call whatever the holding is what refuses it by 2, 1 or 3 at holding 0
 abbrev pub Early : ℕ → Type 0

@@ -20,3 +20,7 @@ beyond = 13
 -- bid not positive, ask not positive, or bid not below ask
 abbrev pub crossed : ℕ
 crossed = 14
+
+-- a drift in a closed-form call
+abbrev pub drifting : ℕ
+drifting = 22

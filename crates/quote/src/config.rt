@@ -14,6 +14,7 @@ pub(crate) fn within_limits(c: GLFTConfig) -> bool
         & amount_fits(c.intensity_scale_a)
         & amount_fits(c.lot_size)
         & amount_fits(c.min_spread)
+        & amount_fits(c.drift)
         & (c.terminal_time <= GLFTConfig::MAX_TIME)
 }
 

@@ -27,7 +27,8 @@ ghost use Rattle.quote.specs.Quotes.{exactQuotes, optimalQuotes, closedF
 // The billionths of a unit.
 pub const BILLION: u64 = 1000000000;
 
-// The configuration. Its fields are public, so every call checks them again.
+// The configuration. The drift is an amount of price a year. Its fields are public, so every call
+// checks them again.
 pub struct GLFTConfig {
     pub risk_aversion: i64,
     pub order_intensity_k: i64,
@@ -36,6 +37,7 @@ pub struct GLFTConfig {
     pub lot_size: i64,
     pub terminal_time: u64,
     pub min_spread: i64,
+    pub drift: i64,
 }
 
 pub enum ConfigAnswer {
@@ -52,6 +54,7 @@ pub struct Model {
     pub alpha: f64,
     pub eta: f64,
     pub base: f64,
+    pub beta: f64,
     pub q_max: u32,
 }
 
@@ -109,6 +112,7 @@ impl GLFTConfig {
         lot_size: i64,
         terminal_time: u64,
         min_spread: i64,
+        drift: i64,
     ) -> ConfigAnswer
         ensures { λ r. ⌜ r ≡ newConfig (record {
           «risk_aversion» = «risk_aversion»;
@@ -118,6 +122,7 @@ impl GLFTConfig {
           «lot_size» = «lot_size»;
           «terminal_time» = «terminal_time»;
           «min_spread» = «min_spread»;
+          drift = drift;
         }) ⌝ }
     {
         let c = GLFTConfig {
@@ -128,6 +133,7 @@ impl GLFTConfig {
             lot_size,
             terminal_time,
             min_spread,
+            drift,
         };
         if config::within_limits(c) {
             if config::validate(c) {
@@ -201,8 +207,8 @@ impl GLFTStrategy {
         }
     }
 
-    // The quotes of the closed form, which has no current time: refused by 2, then 1, 3, 4, 5, 11, 13
-    // and 14.
+    // The quotes of the closed form, which has no current time: refused by 2, then 1, 22, 3, 4, 5, 11,
+    // 13 and 14.
     pub fn closed_form_quotes(
         mid_price: i64,
         inventory: i64,
@@ -212,7 +218,7 @@ impl GLFTStrategy {
         ensures { λ r. ⌜ r ≡ closedFormQuotes «mid_price» inventory config volatility ⌝ }
     {
         let least = config.min_spread;
-        match Model::new(mid_price, inventory, config, volatility) {
+        match closed_form::driftless_model(mid_price, inventory, config, volatility) {
             ModelAnswer::Model(m, q) => quotes::closed_of(
                 mid_price,
                 least,

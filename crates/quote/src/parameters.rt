@@ -53,9 +53,9 @@ fn holding_fits(inventory: i64, config: GLFTConfig) -> bool
     (inventory % config.lot_size == 0) & distances::within(q, config.max_inventory_lots)
 }
 
-// The model from its four given floats.
-fn from_floats(k: f64, gamma: f64, a: f64, sigma2: f64, bound: u32) -> Model
-    ensures { λ r. ⌜ r ≡ modelFrom k gamma a sigma2 bound ⌝ }
+// The model from its five given floats; the drift is a second's.
+fn from_floats(k: f64, gamma: f64, a: f64, sigma2: f64, drift: f64, bound: u32) -> Model
+    ensures { λ r. ⌜ r ≡ modelFrom k gamma a sigma2 drift bound ⌝ }
 {
     let log1p_ratio = elementary::or_nan(elementary::ln_1p(gamma / k));
     let decay = elementary::or_nan(elementary::exp(-(1.0 + k / gamma) * log1p_ratio));
@@ -67,6 +67,7 @@ fn from_floats(k: f64, gamma: f64, a: f64, sigma2: f64, bound: u32) -> Model
         alpha: k * gamma * sigma2 / 2.0,
         eta: a * decay,
         base: log1p_ratio / gamma,
+        beta: k * drift,
         q_max: bound,
     }
 }
@@ -80,11 +81,12 @@ pub(crate) fn model_of(config: GLFTConfig, volatility: i64) -> Model
         to_f64(config.risk_aversion) * to_f64(config.lot_size),
         to_f64(config.intensity_scale_a),
         sigma * sigma / SECONDS_PER_YEAR,
+        to_f64(config.drift) / SECONDS_PER_YEAR,
         config.max_inventory_lots,
     )
 }
 
-// Whether all seven floats are finite and above zero.
+// Whether the seven floats are finite and above zero, and beta is finite.
 pub(crate) fn floats_fit(m: Model) -> bool
     ensures { λ r. ⌜ r ≡ modelOk m ⌝ }
 {
@@ -95,6 +97,7 @@ pub(crate) fn floats_fit(m: Model) -> bool
         & elementary::is_positive_finite(m.alpha)
         & elementary::is_positive_finite(m.eta)
         & elementary::is_positive_finite(m.base)
+        & elementary::is_finite(m.beta)
 }
 
 // The model of a configuration and a market that pass: refused by 4, then 5.

@@ -177,9 +177,9 @@ pub(crate) fn from_answer(mid: i64, least: i64, answer: Answer) -> ExactQuotes
 // The exact quotes of a model at q lots.
 pub(crate) fn exact_of(mid: i64, least: i64, m: Model, q: i64, tau: f64) -> ExactQuotes
     requires { ⌜ T (amountOk mid) × T (amountOk least) ⌝ }
-    ensures { λ r. ⌜ r ≡ exactBy mid least (floatEntry (m .k) (m .alpha) (m .eta) (m .base) (m .«q_max») tau q .answer) ⌝ }
+    ensures { λ r. ⌜ r ≡ exactBy mid least (floatEntry (m .k) (m .alpha) (m .beta) (m .eta) (m .base) (m .«q_max») tau q .answer) ⌝ }
 {
-    let r = distances::float_entry(m.k, m.alpha, m.eta, m.base, m.q_max, tau, q);
+    let r = distances::float_entry(m.k, m.alpha, m.beta, m.eta, m.base, m.q_max, tau, q);
     let answer = r.answer;
     from_answer(mid, least, answer)
 }

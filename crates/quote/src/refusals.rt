@@ -15,3 +15,6 @@ pub const BEYOND: u8 = 13;
 
 // Bid not positive, ask not positive, or bid not below ask.
 pub const CROSSED: u8 = 14;
+
+// A drift in a closed-form call.
+pub const DRIFT: u8 = 22;

@@ -7,8 +7,8 @@
 // hold is refused by 2, and a record that ends inside itself, the last, by 6, both without a call.
 ghost use Prim.Native.Nat.{_≤_};
 use desk::amount_at;
-use desk::config_at;
 use harness::LARGEST_BOUND;
+use harness::bound_of;
 use harness::first;
 use harness::make_room;
 use harness::put;
@@ -83,8 +83,14 @@ fn record_at(s: &[u8], at: usize) -> Record {
         mid_price: amount_at(s, at, 0),
         inventory: amount_at(s, at, 8),
         volatility: amount_at(s, at, 16),
-        config: config_at(s, at),
+        risk_aversion: amount_at(s, at, 24),
+        order_intensity_k: amount_at(s, at, 32),
+        intensity_scale_a: amount_at(s, at, 40),
+        max_inventory_lots: bound_of(word_at(s, at, 48)),
+        lot_size: amount_at(s, at, 56),
+        terminal_time: word_at(s, at, 64),
         current_time: word_at(s, at, 72),
+        min_spread: amount_at(s, at, 80),
     }
 }
 

@@ -1,5 +1,5 @@
 -- The promises of a ladder: its lines are those of single calls, opposite lines mirror each other, one run, and what refuses it. Assumes nothing.
-use mathlib.Core.Path.{_≡_, refl, sym, ap}
+use mathlib.Core.Path.{_≡_, refl, sym, ap, _∙_, subst}
 use mathlib.Core.Logic.{_⊎_, inl, inr}
 use Prim.Native.Nat.{ℕ, zero, suc, _+_, _-_, _*_, _<_, _≤_}
 use native.Mathlib.Nat.{le-trans, sub-self}
@@ -10,15 +10,17 @@ use borrow.Author.Tests.{leb-true, leb-false, lt-leb, lt-ltb, le-ltb, ltb-true, 
 use lib.IntN.{ℤ, pos, negsuc, negℤ, subℕ, _-ℤ_}
 use lib.ListN.{length}
 use lib.Dec.{leb, ltb}
-use Rattle.quote.specs.Reckoning.{checkCall, reckoning}
+use Rattle.quote.specs.Promises.{turned}
+use Rattle.quote.specs.Reckoning.{checkCall, reckoning, holdingOf}
 use Rattle.quote.specs.declared.GLFTConfig.{GLFTConfig}
 use Rattle.quote.specs.declared.reckoning.Check.{Check}
 use Rattle.quote.specs.declared.reckoning.Check.the-variants as Check
 use Rattle.quote.proofs.Lots.{lots-are-single}
-use Rattle.quote.proofs.OneRun.{lots-mirror, one-run, check-refusals}
+use Rattle.quote.proofs.OneRun.{check-turned, lots-mirror, one-run, check-refusals}
 use Rattle.sheet.specs.Refusals.{smallLadderBuffer}
+use Rattle.sheet.specs.Record.{configOf}
 use Rattle.sheet.specs.Lines.{answerLine}
-use Rattle.sheet.specs.Ladder.{lotAt, ladderLine, ladder, ladderRoom, ladderIf, ladderFor, ladderAnswer, ladderLeft, LadderIsSingle, LadderMirror, LadderOneRun, LadderFits, Unrefused, LadderRefusals}
+use Rattle.sheet.specs.Ladder.{lotAt, ladderLine, ladder, ladderRoom, ladderIf, ladderFor, ladderAnswer, ladderLeft, LadderIsSingle, LinesFace, LadderMirror, LadderOwnMirror, RecordLadderMirror, LadderMirrorRefusals, LadderOneRun, LadderFits, Unrefused, LadderRefusals}
 use Rattle.sheet.specs.declared.ladder.LadderAnswer.the-variants as LadderAnswer
 use Rattle.sheet.proofs.Rungs.{lot-within, ladder-most}
 
@@ -61,12 +63,50 @@ opposite i j zero e =
     rw (p, q)
 opposite i j (suc b) e = sub-opposite i j (suc b) e
 
-lot-opposite : (c : GLFTConfig) (i j : ℕ) → i + j ≡ 2 * c .«max_inventory_lots» → lotAt c j ≡ negℤ (lotAt c i)
+lot-opposite : (c : GLFTConfig) (i j : ℕ) → i + j ≡ 2 * c .«max_inventory_lots» → lotAt (turned c) j ≡ negℤ (lotAt c i)
 unfolding lotAt
 lot-opposite c i j e = opposite i j (c .«max_inventory_lots») e
 
 pub ladder-mirror : LadderMirror
-ladder-mirror mid c vol t e i j k = rw (lot-opposite c i j k) (lots-mirror mid c vol t (lotAt c i) e (lot-within c i (omega arith)))
+unfolding holdingOf
+ladder-mirror mid c vol t e i j k =
+    let m = lots-mirror mid c vol t (lotAt c i) e (lot-within c i (omega arith)) in
+    (refl, rw (lot-opposite c i j k) (m .0), rw (lot-opposite c i j k) (m .1))
+
+-- no drift, turned, is no drift
+turned-none : (c : GLFTConfig) → c .drift ≡ pos 0 → turned c ≡ c
+turned-none c e =
+    ap
+    (λ (d : ℤ).
+    record {
+      «risk_aversion» = c .«risk_aversion»;
+      «order_intensity_k» = c .«order_intensity_k»;
+      «intensity_scale_a» = c .«intensity_scale_a»;
+      «max_inventory_lots» = c .«max_inventory_lots»;
+      «lot_size» = c .«lot_size»;
+      «terminal_time» = c .«terminal_time»;
+      «min_spread» = c .«min_spread»;
+      drift = d;
+    })
+    (ap negℤ e ∙ sym e)
+
+pub ladder-own-mirror : LadderOwnMirror
+ladder-own-mirror mid c vol t z e i j k = subst (λ (d : GLFTConfig). LinesFace mid c d vol t i j) (turned-none c z) (ladder-mirror mid c vol t e i j k)
+
+pub record-ladder-mirror : RecordLadderMirror
+unfolding configOf
+record-ladder-mirror r e i j k = ladder-own-mirror (r .«mid_price») (configOf r) (r .volatility) (r .«current_time») refl e i j k
+
+-- the checks and the room are the same for both
+refused-too : (k : Check) (m : Bool) (t u : List ℕ) (n : ℕ) → ladderAnswer (ladderIf k m t) ≡ LadderAnswer.Refused n → ladderAnswer (ladderIf k m u) ≡ LadderAnswer.Refused n
+unfolding ladderAnswer ladderIf
+refused-too Check.Passes true t u n e = let z : _≡_ {A = ℕ} 0 1 = cc in absurd (omega arith)
+refused-too Check.Passes false t u n e = e
+refused-too (Check.Refused r) m t u n e = e
+
+pub ladder-mirror-refusals : LadderMirrorRefusals
+unfolding ladderFor
+ladder-mirror-refusals mid c vol t b n = rw (check-turned mid c vol t) (refused-too _ _ _ _ n, refused-too _ _ _ _ n)
 
 -- ---- one run
 pub ladder-one-run : LadderOneRun

@@ -15,6 +15,7 @@ use Rattle.quote.specs.declared.GLFTConfig.{GLFTConfig}
 use Rattle.quote.specs.declared.reckoning.Check.{Check}
 use Rattle.quote.specs.declared.reckoning.Check.the-variants as Check
 use Rattle.sheet.specs.Refusals.{smallLadderBuffer}
+use Rattle.sheet.specs.Record.{configOf}
 use Rattle.sheet.specs.Lines.{refusalLine}
 use Rattle.sheet.specs.Sheet.{leastRoom, line, answered, hasRoom}
 use Rattle.sheet.specs.Ladder.{ladder, ladderRoom, ladderIf, ladderFor, ladderText, recordLadder, ladderAt}
@@ -48,7 +49,7 @@ record-most : (room : ℕ) (r : Record) → leastRoom ≤ room → length (recor
 unfolding recordLadder ladderFor
 record-most room r h =
     let mid = r .«mid_price» in
-    let c = r .config in
+    let c = configOf r in
     let vol = r .volatility in
     let t = r .«current_time» in
     text-most (checkCall mid c vol t) (ladderRoom c) room (ladder mid c vol t) (number-most mid c vol t) (ladder-most mid c vol t) h (leb (ladderRoom c) room) (leb-true (ladderRoom c) room)

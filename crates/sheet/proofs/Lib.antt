@@ -20,3 +20,4 @@ pub mod Ladders
 pub mod Flat
 pub mod LadderLaws
 pub mod Plans
+pub mod Drift

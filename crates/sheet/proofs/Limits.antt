@@ -14,7 +14,7 @@ use mir.Val.{Fits, toZ, ofZ}
 use Rattle.quote.specs.Configuration.{amountLimit, timeLimit, amountOk, timeOk, configLimits}
 use Rattle.quote.specs.Model.{modelLimits}
 use Rattle.quote.proofs.Limits.{kept}
-use Rattle.sheet.specs.Record.{holdingBy, holding, recordOf, mostBound, recordOk}
+use Rattle.sheet.specs.Record.{holdingBy, holding, recordOf, configOf, mostBound, recordOk}
 
 -- ---- an amount within the limit, as the machine holds it
 pub same-bits : (z : ℤ) → natAbs z ≤ amountLimit → toZ w64 (ofZ w64 z) ≡ z
@@ -58,7 +58,8 @@ pub record Bounds (v : List ℕ) : Type 0 where
   pub current : getD v 9 0 ≤ timeLimit
   pub spread : getD v 10 0 ≤ amountLimit
 
-all-pass : (m h v r k a l s t c b : Bool) → T (m && h && v && (r && k && a && l && s && t) && c && b)
+-- the drift of a stored record passes by itself
+all-pass : (m h v r k a l s t c b : Bool) → T (m && h && v && (r && k && a && l && s && true && t) && c && b)
     → T m × T h × T v × T r × T k × T a × T l × T s × T t × T c × T b
 all-pass false h v r k a l s t c b x = absurd x
 all-pass true false v r k a l s t c b x = absurd x
@@ -74,7 +75,7 @@ all-pass true true true true true true true true true true false x = absurd x
 all-pass true true true true true true true true true true true x = (tt, tt, tt, tt, tt, tt, tt, tt, tt, tt, tt)
 
 pub bounds : (v : List ℕ) → T (recordOk (recordOf v)) → Bounds v
-unfolding recordOk recordOf modelLimits amountOk timeOk configLimits
+unfolding recordOk recordOf configOf modelLimits amountOk timeOk configLimits
 bounds v h =
     let small : ℕ → Bool = λ i. leb (getD v i 0) amountLimit in
     let p = all-pass (small 0) (leb (natAbs (holding (getD v 1 0))) amountLimit) (small 2) (small 3) (small 4) (small 5) (small 7) (small 10) (small 8) (small 9) (leb (getD v 6 0) mostBound) h in

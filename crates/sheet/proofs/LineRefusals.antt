@@ -13,12 +13,12 @@ use Rattle.quote.specs.Refusals.{limits}
 use Rattle.quote.specs.Configuration.{timeOk}
 use Rattle.quote.specs.Model.{modelLimits}
 use Rattle.quote.specs.Quotes.{exactQuotes}
-use Rattle.quote.specs.Promises.{Checked, by-2, by-1, by-3, by-4, by-5, Priced, by-13, by-14, ExactRefused}
+use Rattle.quote.specs.Promises.{Checked, by-2, by-1, by-22, by-3, by-4, by-5, Priced, by-13, by-14, ExactRefused}
 use Rattle.quote.specs.declared.ExactQuotes.{ExactQuotes}
 use Rattle.quote.specs.declared.ExactQuotes.the-variants as ExactQuotes
 use Rattle.quote.proofs.Refusing.{exact-refusals}
 use Rattle.sheet.specs.Refusals.{cutShort, malformed, longSheet}
-use Rattle.sheet.specs.Record.{Read, taken, refused, numbers, fields, recordOf, mostBound, recordOk, recordIf, recordFrom, readRecord}
+use Rattle.sheet.specs.Record.{Read, taken, refused, numbers, fields, recordOf, configOf, mostBound, recordOk, recordIf, recordFrom, readRecord}
 use Rattle.sheet.specs.Lines.{joined, quotesLine, capLine, refusalLine, answerLine}
 use Rattle.sheet.specs.Sheet.{mostBytes, recordLine, line, stepOf, lineAt}
 use Rattle.sheet.specs.Refusing.{Stopped, Beyond, LongLine, Readable, StoppedLine, SkippedLine, LineRefusals}
@@ -46,9 +46,10 @@ refused-line (ExactQuotes.Refused n) k e = ap ExactQuotes.Refused (same-number n
 abbrev Apart : ℕ → Type 0
 Apart k = (k ≡ limits → ⊥) × (k ≡ cutShort → ⊥) × (k ≡ malformed → ⊥) × (k ≡ longSheet → ⊥)
 
-checked-apart : {l v m h f : Bool} {k : ℕ} → l ≡ true → Checked l v m h f k → Apart k
+checked-apart : {l v d m h f : Bool} {k : ℕ} → l ≡ true → Checked l v d m h f k → Apart k
 checked-apart e by-2 = let z : _≡_ {A = ℕ} 0 1 = cc in absurd (omega arith)
 checked-apart e by-1 = omega arith
+checked-apart e by-22 = omega arith
 checked-apart e by-3 = omega arith
 checked-apart e by-4 = omega arith
 checked-apart e by-5 = omega arith
@@ -61,14 +62,14 @@ quotes-apart : (r : Record) (k : ℕ) → recordOk r ≡ true → recordLine r �
 unfolding recordLine recordOk
 quotes-apart r k h e =
     let time = timeOk (r .«current_time») in
-    let amounts = modelLimits (r .«mid_price») (r .inventory) (r .config) (r .volatility) in
-    let p = and-eq-true-iff amounts time .0 (and-eq-true-iff (amounts && time) (leb (r .config .«max_inventory_lots») mostBound) .0 h .0) in
+    let amounts = modelLimits (r .«mid_price») (r .inventory) (configOf r) (r .volatility) in
+    let p = and-eq-true-iff amounts time .0 (and-eq-true-iff (amounts && time) (leb (r .«max_inventory_lots») mostBound) .0 h .0) in
     go (and-eq-true-iff time amounts .1 (p .1, p .0))
-    (exact-refusals (r .«mid_price») (r .inventory) (r .config) (r .volatility) (r .«current_time») k .0
-    (refused-line (exactQuotes (r .«mid_price») (r .inventory) (r .config) (r .volatility) (r .«current_time»)) k e))
+    (exact-refusals (r .«mid_price») (r .inventory) (configOf r) (r .volatility) (r .«current_time») k .0
+    (refused-line (exactQuotes (r .«mid_price») (r .inventory) (configOf r) (r .volatility) (r .«current_time»)) k e))
   where
-    go : (timeOk (r .«current_time») && modelLimits (r .«mid_price») (r .inventory) (r .config) (r .volatility)) ≡ true
-        → ExactRefused (r .«mid_price») (r .inventory) (r .config) (r .volatility) (r .«current_time») k → Apart k
+    go : (timeOk (r .«current_time») && modelLimits (r .«mid_price») (r .inventory) (configOf r) (r .volatility)) ≡ true
+        → ExactRefused (r .«mid_price») (r .inventory) (configOf r) (r .volatility) (r .«current_time») k → Apart k
     go l (inl x) = checked-apart l x
     go l (inr (inl x)) = omega (arith, x .0)
     go l (inr (inr x)) = priced-apart (x .4)

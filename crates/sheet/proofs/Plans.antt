@@ -17,7 +17,7 @@ use Rattle.quote.specs.declared.ExactQuotes.the-variants as ExactQuotes
 use Rattle.quote.specs.Quotes.{exactQuotes}
 use Rattle.quote.proofs.Replies.{replies-kept}
 use Rattle.quote.proofs.DeskPlan.{desk-plan-is-first}
-use Rattle.sheet.specs.Record.{readAs, readRecord}
+use Rattle.sheet.specs.Record.{configOf, readAs, readRecord}
 use Rattle.sheet.specs.Lines.{answerLine}
 use Rattle.sheet.specs.Sheet.{mostBytes, leastRoom, recordLine, line, stepOf, stepAt, lineAt, answered, hasRoom}
 use Rattle.sheet.specs.Horizon.{planLine, planOf, recordPlan, planAt, HorizonLines}
@@ -35,7 +35,7 @@ use Rattle.sheet.proofs.Refusing.{step-refusals}
 module _ (r : Record) where
   -- what the exact call replies
   abbrev reply : ExactQuotes
-  reply = exactQuotes (r .«mid_price») (r .inventory) (r .config) (r .volatility) (r .«current_time»)
+  reply = exactQuotes (r .«mid_price») (r .inventory) (configOf r) (r .volatility) (r .«current_time»)
 
   reported : (need : Float) (b : ℕ) → planOf r ≡ FirstPlan.OverCap need b → reply ≡ ExactQuotes.OverStepCap need b 0
   reported need b e = desk-plan-is-first .over _ _ _ _ _ need b .0 e

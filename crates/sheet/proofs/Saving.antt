@@ -158,11 +158,11 @@ numbers-again v e = rw (holdings-stored .1 (getD v 1 0)) (entries-all fields 0 v
 pub record NotBelow (r : Record) : Type 0 where
   pub mid : T (leZ (pos 0) (r .«mid_price»))
   pub volatility : T (leZ (pos 0) (r .volatility))
-  pub risk : T (leZ (pos 0) (r .config .«risk_aversion»))
-  pub k : T (leZ (pos 0) (r .config .«order_intensity_k»))
-  pub scale : T (leZ (pos 0) (r .config .«intensity_scale_a»))
-  pub lot : T (leZ (pos 0) (r .config .«lot_size»))
-  pub spread : T (leZ (pos 0) (r .config .«min_spread»))
+  pub risk : T (leZ (pos 0) (r .«risk_aversion»))
+  pub k : T (leZ (pos 0) (r .«order_intensity_k»))
+  pub scale : T (leZ (pos 0) (r .«intensity_scale_a»))
+  pub lot : T (leZ (pos 0) (r .«lot_size»))
+  pub spread : T (leZ (pos 0) (r .«min_spread»))
 
 seven : (m v r k a l s : Bool) → T (m && v && r && k && a && l && s) → T m × T v × T r × T k × T a × T l × T s
 seven m v r k a l s h =
@@ -177,8 +177,7 @@ seven m v r k a l s h =
 pub not-below : (r : Record) → T (saveOk r) → NotBelow r
 unfolding saveOk noneBelow
 not-below r h =
-    let c = r .config in
-    let p = seven (leZ (pos 0) (r .«mid_price»)) (leZ (pos 0) (r .volatility)) (leZ (pos 0) (c .«risk_aversion»)) (leZ (pos 0) (c .«order_intensity_k»)) (leZ (pos 0) (c .«intensity_scale_a»)) (leZ (pos 0) (c .«lot_size»)) (leZ (pos 0) (c .«min_spread»)) (and-yes (recordOk r) (noneBelow r) h .1) in
+    let p = seven (leZ (pos 0) (r .«mid_price»)) (leZ (pos 0) (r .volatility)) (leZ (pos 0) (r .«risk_aversion»)) (leZ (pos 0) (r .«order_intensity_k»)) (leZ (pos 0) (r .«intensity_scale_a»)) (leZ (pos 0) (r .«lot_size»)) (leZ (pos 0) (r .«min_spread»)) (and-yes (recordOk r) (noneBelow r) h .1) in
     record { mid = p .0; volatility = p .1; risk = p .2; k = p .3; scale = p .4; lot = p .5; spread = p .6 }
 
 pos-again : (z : ℤ) → T (leZ (pos 0) z) → pos (natAbs z) ≡ z
@@ -189,7 +188,7 @@ pub record-again : (r : Record) → T (saveOk r) → recordOf (numbersOf r) ≡ 
 unfolding recordOf numbersOf
 record-again r h =
     let p = not-below r h in
-    rw (pos-again (r .«mid_price») (p .mid), holdings-stored .0 (r .inventory), pos-again (r .volatility) (p .volatility), pos-again (r .config .«risk_aversion») (p .risk), pos-again (r .config .«order_intensity_k») (p .k), pos-again (r .config .«intensity_scale_a») (p .scale), pos-again (r .config .«lot_size») (p .lot), pos-again (r .config .«min_spread») (p .spread))
+    rw (pos-again (r .«mid_price») (p .mid), holdings-stored .0 (r .inventory), pos-again (r .volatility) (p .volatility), pos-again (r .«risk_aversion») (p .risk), pos-again (r .«order_intensity_k») (p .k), pos-again (r .«intensity_scale_a») (p .scale), pos-again (r .«lot_size») (p .lot), pos-again (r .«min_spread») (p .spread))
 
 -- ---- a record within its limits has numbers that the groups hold, and fits the least buffer
 pub limits-kept : (r : Record) → T (saveOk r) → Bounds (numbersOf r)

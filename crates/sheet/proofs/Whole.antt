@@ -12,7 +12,7 @@ use lib.Dec.{ltb, leb, eqb}
 use Rattle.quote.proofs.Replies.{replies-kept}
 use Rattle.quote.specs.Refusals.{limits}
 use Rattle.sheet.specs.Refusals.{longSheet}
-use Rattle.sheet.specs.Record.{Read, taken, refused, _then_, group, groups, number, numbers, fields, stored, holdingBy, holding, recordOf, recordOk, recordIf, recordFrom, readRecord, readAs}
+use Rattle.sheet.specs.Record.{Read, taken, refused, _then_, group, groups, number, numbers, fields, stored, holdingBy, holding, recordOf, configOf, recordOk, recordIf, recordFrom, readRecord, readAs}
 use Rattle.sheet.specs.Lines.{refusalLine}
 use Rattle.sheet.specs.Sheet.{mostBytes, leastRoom, recordLine, line, stepOf, stepAt, lineAt, answered, first, headIf, headBy, headOf, lines, printedIf, printed}
 use Rattle.sheet.specs.Promises.{BillionRead, HoldingsStored, LinesFit, LinesMove, Followed, StepsMakeTheWhole}
@@ -69,7 +69,7 @@ line-is s at = ap (stepAt recordLine s at) (as-it-is s at)
 
 line-most : (r : Record) → length (recordLine r) ≤ leastRoom
 unfolding recordLine
-line-most r = answer-most _ (replies-kept (r .«mid_price») (r .inventory) (r .config) (r .volatility) (r .«current_time»))
+line-most r = answer-most _ (replies-kept (r .«mid_price») (r .inventory) (configOf r) (r .volatility) (r .«current_time»))
 
 module _ (s : List ℕ) (at : ℕ) where
   abbrev Fits : List ℕ → Type 0

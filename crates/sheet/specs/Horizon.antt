@@ -9,7 +9,7 @@ use Rattle.vector.specs.declared.FirstPlan.{FirstPlan}
 use Rattle.vector.specs.declared.FirstPlan.the-variants as FirstPlan
 use Rattle.quote.specs.Horizon.{deskPlan}
 use Rattle.sheet.specs.Refusals.{smallBuffer}
-use Rattle.sheet.specs.Record.{readRecord}
+use Rattle.sheet.specs.Record.{configOf, readRecord}
 use Rattle.sheet.specs.Lines.{count, joined, capLine, refusalLine}
 use Rattle.sheet.specs.Sheet.{leastRoom, recordLine, Step, line, stepAt, lineAt, hasRoom, answered}
 use Rattle.sheet.specs.declared.record.Record.{Record}
@@ -24,7 +24,7 @@ planLine (FirstPlan.Refused n) = refusalLine n
 
 -- a record's plan, and its line
 abbrev pub planOf : Record → FirstPlan
-planOf r = deskPlan (r .«mid_price») (r .inventory) (r .config) (r .volatility) (r .«current_time»)
+planOf r = deskPlan (r .«mid_price») (r .inventory) (configOf r) (r .volatility) (r .«current_time»)
 
 unfoldable pub recordPlan : Record → List ℕ
 recordPlan r = planLine (planOf r)

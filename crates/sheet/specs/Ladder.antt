@@ -1,4 +1,4 @@
--- Change request 4: a ladder, one line for each lot from minus the bound to the bound. Definitions only.
+-- Change requests 4 and 7: a ladder, one line for each lot from minus the bound to the bound. Definitions only.
 use mathlib.Core.Path.{_≡_}
 use mathlib.Core.Logic.{_⊎_, _↔_}
 use Prim.Native.Nat.{ℕ, zero, suc, _+_, _*_, _<_, _≤_}
@@ -8,7 +8,7 @@ use lib.IntN.{ℤ, pos, _-ℤ_}
 use lib.ListN.{length}
 use lib.Dec.{leb}
 use Rattle.quote.specs.Quotes.{exactQuotes}
-use Rattle.quote.specs.Promises.{Pair}
+use Rattle.quote.specs.Promises.{turned, Pair}
 use Rattle.quote.specs.Reckoning.{checkCall, reckoning, holdingOf, quotesOfLots, Carries, Opposed, Early}
 use Rattle.quote.specs.declared.GLFTConfig.{GLFTConfig}
 use Rattle.quote.specs.declared.GlftQuotes.{GlftQuotes}
@@ -17,7 +17,7 @@ use Rattle.quote.specs.declared.reckoning.Check.{Check}
 use Rattle.quote.specs.declared.reckoning.Check.the-variants as Check
 use Rattle.quote.specs.declared.reckoning.Reckoning.{Reckoning}
 use Rattle.sheet.specs.Refusals.{smallLadderBuffer}
-use Rattle.sheet.specs.Record.{readAs}
+use Rattle.sheet.specs.Record.{configOf, readAs}
 use Rattle.sheet.specs.Lines.{answerLine, refusalLine, over}
 use Rattle.sheet.specs.Sheet.{leastRoom, Step, stepAt}
 use Rattle.sheet.specs.declared.record.Record.{Record}
@@ -81,7 +81,7 @@ ladderText (written t) = t
 ladderText (refused n) = refusalLine n
 
 unfoldable pub recordLadder : ℕ → Record → List ℕ
-recordLadder room r = ladderText (ladderFor (r .«mid_price») (r .config) (r .volatility) (r .«current_time») room)
+recordLadder room r = ladderText (ladderFor (r .«mid_price») (configOf r) (r .volatility) (r .«current_time») room)
 
 -- at a place, with a buffer of so many bytes
 unfoldable pub ladderAt : ℕ → List ℕ → ℕ → Step
@@ -93,12 +93,29 @@ abbrev pub LadderIsSingle : Type 0
 LadderIsSingle = (mid : ℤ) (c : GLFTConfig) (vol : ℤ) (t : ℕ) → checkCall mid c vol t ≡ Check.Passes → (i : ℕ) → i < rungs c
     → ladderLine mid c (reckoning c vol t) i ≡ answerLine (exactQuotes mid (holdingOf c (lotAt c i)) c vol t)
 
--- opposite lines, the first and the last before all: the same report or refusal before prices, or the distances exchanged; where both quote, the bid of one
--- and the ask of the other add up to twice the mid
+-- line i of the ladder of c and line j of that of d, which is c with the drift turned: the same report or refusal before prices, or the distances exchanged;
+-- where both quote, the bid of one and the ask of the other add up to twice the mid
+abbrev pub LinesFace : ℤ → GLFTConfig → GLFTConfig → ℤ → ℕ → ℕ → ℕ → Type 0
+LinesFace mid c d vol t i j = (turned c ≡ d) × Opposed mid c vol t (holdingOf c (lotAt c i)) (holdingOf d (lotAt d j))
+    × ((x y : GlftQuotes) (s r : ℕ) → quotesOfLots mid c (reckoning c vol t) (lotAt c i) ≡ Exact.Quotes x s → quotesOfLots mid d (reckoning d vol t) (lotAt d j) ≡ Exact.Quotes y r → Pair mid x y)
+
+-- opposite lines, the first and the last before all: a ladder is paired with itself for drift 0 alone, any other with the ladder of the opposite drift
 abbrev pub LadderMirror : Type 0
-LadderMirror = (mid : ℤ) (c : GLFTConfig) (vol : ℤ) (t : ℕ) → checkCall mid c vol t ≡ Check.Passes → (i j : ℕ) → i + j ≡ 2 * c .«max_inventory_lots»
-    → Opposed mid c vol t (holdingOf c (lotAt c i)) (holdingOf c (lotAt c j))
-    × ((x y : GlftQuotes) (s r : ℕ) → quotesOfLots mid c (reckoning c vol t) (lotAt c i) ≡ Exact.Quotes x s → quotesOfLots mid c (reckoning c vol t) (lotAt c j) ≡ Exact.Quotes y r → Pair mid x y)
+LadderMirror = (mid : ℤ) (c : GLFTConfig) (vol : ℤ) (t : ℕ) → checkCall mid c vol t ≡ Check.Passes → (i j : ℕ) → i + j ≡ 2 * c .«max_inventory_lots» → LinesFace mid c (turned c) vol t i j
+
+abbrev pub LadderOwnMirror : Type 0
+LadderOwnMirror = (mid : ℤ) (c : GLFTConfig) (vol : ℤ) (t : ℕ) → c .drift ≡ pos 0 → checkCall mid c vol t ≡ Check.Passes → (i j : ℕ) → i + j ≡ 2 * c .«max_inventory_lots»
+    → LinesFace mid c c vol t i j
+
+-- that of a stored record with itself
+abbrev pub RecordLadderMirror : Type 0
+RecordLadderMirror = (r : Record) → let c = configOf r in checkCall (r .«mid_price») c (r .volatility) (r .«current_time») ≡ Check.Passes → (i j : ℕ) → i + j ≡ 2 * r .«max_inventory_lots»
+    → LinesFace (r .«mid_price») c c (r .volatility) (r .«current_time») i j
+
+-- what refuses a ladder as a whole refuses that of the opposite drift
+abbrev pub LadderMirrorRefusals : Type 0
+LadderMirrorRefusals = (mid : ℤ) (c : GLFTConfig) (vol : ℤ) (t : ℕ) (b : List ℕ) (n : ℕ)
+    → (laddered mid c vol t b ≡ LadderAnswer.Refused n) ↔ (laddered mid (turned c) vol t b ≡ LadderAnswer.Refused n)
 
 -- one run: the steps of all lines that carry steps agree
 abbrev pub LadderOneRun : Type 0

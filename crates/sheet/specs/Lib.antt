@@ -5,6 +5,7 @@ pub mod Sheet
 pub mod Fill
 pub mod Ladder
 pub mod Horizon
+pub mod Drift
 pub mod Save
 pub mod Promises
 pub mod Refusing

@@ -8,6 +8,7 @@ use lib.Dec.{ltb, leb, eqb}
 use Rattle.quote.specs.Refusals.{limits}
 use Rattle.quote.specs.Configuration.{timeOk}
 use Rattle.quote.specs.Model.{modelLimits}
+use Rattle.quote.specs.declared.GLFTConfig.{GLFTConfig}
 use Rattle.sheet.specs.Refusals.{cutShort, malformed}
 use Rattle.sheet.specs.declared.record.Record.{Record}
 use Rattle.sheet.specs.declared.record.RecordAnswer.{RecordAnswer}
@@ -72,16 +73,28 @@ recordOf v =
       «mid_price» = pos (getD v 0 0);
       inventory = holding (getD v 1 0);
       volatility = pos (getD v 2 0);
-      config = record {
-        «risk_aversion» = pos (getD v 3 0);
-        «order_intensity_k» = pos (getD v 4 0);
-        «intensity_scale_a» = pos (getD v 5 0);
-        «max_inventory_lots» = getD v 6 0;
-        «lot_size» = pos (getD v 7 0);
-        «terminal_time» = getD v 8 0;
-        «min_spread» = pos (getD v 10 0);
-      };
+      «risk_aversion» = pos (getD v 3 0);
+      «order_intensity_k» = pos (getD v 4 0);
+      «intensity_scale_a» = pos (getD v 5 0);
+      «max_inventory_lots» = getD v 6 0;
+      «lot_size» = pos (getD v 7 0);
+      «terminal_time» = getD v 8 0;
       «current_time» = getD v 9 0;
+      «min_spread» = pos (getD v 10 0);
+    }
+
+-- the configuration in a record; change request 7: stored records mean drift 0
+unfoldable pub configOf : Record → GLFTConfig
+configOf r =
+    record {
+      «risk_aversion» = r .«risk_aversion»;
+      «order_intensity_k» = r .«order_intensity_k»;
+      «intensity_scale_a» = r .«intensity_scale_a»;
+      «max_inventory_lots» = r .«max_inventory_lots»;
+      «lot_size» = r .«lot_size»;
+      «terminal_time» = r .«terminal_time»;
+      «min_spread» = r .«min_spread»;
+      drift = pos 0;
     }
 
 -- the largest bound that is read, 2 ^ 32 - 1
@@ -91,7 +104,7 @@ mostBound = 4_294_967_295
 -- every amount and time within its limit, and the bound too, or 2
 unfoldable pub recordOk : Record → Bool
 recordOk r =
-    modelLimits (r .«mid_price») (r .inventory) (r .config) (r .volatility) && timeOk (r .«current_time») && leb (r .config .«max_inventory_lots») mostBound
+    modelLimits (r .«mid_price») (r .inventory) (configOf r) (r .volatility) && timeOk (r .«current_time») && leb (r .«max_inventory_lots») mostBound
 
 -- ---- the record at a place of a sheet, and the next place; past the end there is no byte
 unfoldable pub recordIf : Bool → Record → ℕ → RecordAnswer

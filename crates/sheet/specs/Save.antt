@@ -35,14 +35,14 @@ numbersOf r =
     natAbs (r .«mid_price»)
     ∷ stored (r .inventory)
     ∷ natAbs (r .volatility)
-    ∷ natAbs (r .config .«risk_aversion»)
-    ∷ natAbs (r .config .«order_intensity_k»)
-    ∷ natAbs (r .config .«intensity_scale_a»)
-    ∷ r .config .«max_inventory_lots»
-    ∷ natAbs (r .config .«lot_size»)
-    ∷ r .config .«terminal_time»
+    ∷ natAbs (r .«risk_aversion»)
+    ∷ natAbs (r .«order_intensity_k»)
+    ∷ natAbs (r .«intensity_scale_a»)
+    ∷ r .«max_inventory_lots»
+    ∷ natAbs (r .«lot_size»)
+    ∷ r .«terminal_time»
     ∷ r .«current_time»
-    ∷ natAbs (r .config .«min_spread»)
+    ∷ natAbs (r .«min_spread»)
     ∷ []
 
 unfoldable pub recordBytes : Record → List ℕ
@@ -51,8 +51,8 @@ recordBytes r = allInGroups (numbersOf r)
 -- ---- what can be saved: every number within its limit, and none below zero but the holding, or 2
 unfoldable pub noneBelow : Record → Bool
 noneBelow r =
-    leZ (pos 0) (r .«mid_price») && leZ (pos 0) (r .volatility) && leZ (pos 0) (r .config .«risk_aversion») && leZ (pos 0) (r .config .«order_intensity_k»)
-    && leZ (pos 0) (r .config .«intensity_scale_a») && leZ (pos 0) (r .config .«lot_size») && leZ (pos 0) (r .config .«min_spread»)
+    leZ (pos 0) (r .«mid_price») && leZ (pos 0) (r .volatility) && leZ (pos 0) (r .«risk_aversion») && leZ (pos 0) (r .«order_intensity_k»)
+    && leZ (pos 0) (r .«intensity_scale_a») && leZ (pos 0) (r .«lot_size») && leZ (pos 0) (r .«min_spread»)
 
 unfoldable pub saveOk : Record → Bool
 saveOk r = recordOk r && noneBelow r

@@ -7,7 +7,7 @@ use lib.Dec.{ltb, leb}
 use Rattle.quote.specs.Refusals.{limits}
 use Rattle.quote.specs.Quotes.{exactQuotes}
 use Rattle.sheet.specs.Refusals.{smallBuffer, longSheet}
-use Rattle.sheet.specs.Record.{Read, taken, refused, numbers, fields, recordOf, recordOk, readRecord}
+use Rattle.sheet.specs.Record.{Read, taken, refused, numbers, fields, recordOf, configOf, recordOk, readRecord}
 use Rattle.sheet.specs.Lines.{answerLine, refusalLine, over}
 use Rattle.sheet.specs.declared.record.Record.{Record}
 use Rattle.sheet.specs.declared.record.RecordAnswer.{RecordAnswer}
@@ -24,7 +24,7 @@ leastRoom = 64
 
 -- a record's line
 unfoldable pub recordLine : Record → List ℕ
-recordLine r = answerLine (exactQuotes (r .«mid_price») (r .inventory) (r .config) (r .volatility) (r .«current_time»))
+recordLine r = answerLine (exactQuotes (r .«mid_price») (r .inventory) (configOf r) (r .volatility) (r .«current_time»))
 
 -- ---- the line at a place, and the next place; or the end
 pub data Step : Type 0 where

@@ -13,6 +13,7 @@ use crate::line::LineAnswer;
 use crate::line::write_answer;
 use crate::line::write_refusal;
 use crate::record::Record;
+use crate::record::config_of;
 use crate::refusals::SMALL_LADDER_BUFFER;
 use crate::text::Kind;
 use crate::text::next_text;
@@ -99,8 +100,7 @@ pub(crate) fn write_record_ladder(out: &mut [u8], r: Record) -> usize
     ensures { λ _. ⌜ now (out .exit) ≡ over (recordLadder (length (now (out .entry))) r) (now (out .entry)) ⌝ }
     ensures { λ n. ⌜ n ≡ length (recordLadder (length (now (out .entry))) r) ⌝ }
 {
-    let config = r.config;
-    match write_ladder(r.mid_price, config, r.volatility, r.current_time, out) {
+    match write_ladder(r.mid_price, config_of(r), r.volatility, r.current_time, out) {
         LadderAnswer::Written(n) => n,
         LadderAnswer::Refused(number) => write_refusal(out, number),
     }

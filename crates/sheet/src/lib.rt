@@ -21,6 +21,7 @@ pub use line::next_line;
 pub use plan::next_plan;
 pub use record::Record;
 pub use record::RecordAnswer;
+pub use record::config_of;
 pub use record::read_record;
 pub use save::RECORD_ROOM;
 pub use save::SaveAnswer;

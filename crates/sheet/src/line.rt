@@ -11,6 +11,7 @@ ghost use Rattle.quote.specs.Replies.{PriceKept, ReplyKept};
 ghost use Rattle.sheet.specs.Lines.{glyph, digits, places, count, price, side, hex, joined, quotesLine, capLine, refusalLine, answerLine, over};
 ghost use Rattle.sheet.specs.Sheet.{leastRoom, recordLine, lineAt, hasRoom, answered, left};
 use crate::record::Record;
+use crate::record::config_of;
 use crate::text::Kind;
 use crate::text::next_text;
 use quote::BILLION;
@@ -208,11 +209,10 @@ pub(crate) fn write_record(line: &mut [u8], r: Record) -> usize
     ensures { λ _. ⌜ now (line .exit) ≡ over (recordLine r) (now (line .entry)) ⌝ }
     ensures { λ n. ⌜ n ≡ length (recordLine r) ⌝ }
 {
-    let config = r.config;
     let answer = GLFTStrategy::exact_quotes(
         r.mid_price,
         r.inventory,
-        config,
+        config_of(r),
         r.volatility,
         r.current_time,
     );

@@ -12,6 +12,7 @@ use crate::line::write_cap;
 use crate::line::write_counted;
 use crate::line::write_refusal;
 use crate::record::Record;
+use crate::record::config_of;
 use crate::text::Kind;
 use crate::text::next_text;
 use vector::FirstPlan;
@@ -36,11 +37,10 @@ pub(crate) fn write_record_plan(line: &mut [u8], r: Record) -> usize
     ensures { λ _. ⌜ now (line .exit) ≡ over (recordPlan r) (now (line .entry)) ⌝ }
     ensures { λ n. ⌜ n ≡ length (recordPlan r) ⌝ }
 {
-    let config = r.config;
     let plan = quote::first_plan(
         r.mid_price,
         r.inventory,
-        config,
+        config_of(r),
         r.volatility,
         r.current_time,
     );

@@ -4,7 +4,7 @@ ghost use Prim.Native.Nat.{_*_, _≤_};
 ghost use lib.ListN.{length};
 ghost use lib.Dec.{T};
 ghost use Rattle.quote.specs.Configuration.{amountLimit};
-ghost use Rattle.sheet.specs.Record.{holding, asHeld, recordOf, recordOk, readAs, readRecord};
+ghost use Rattle.sheet.specs.Record.{configOf, holding, asHeld, recordOf, recordOk, readAs, readRecord};
 ghost use Rattle.sheet.specs.Inner.{NumberIs, NumbersAre};
 use crate::refusals::CUT_SHORT;
 use crate::refusals::MALFORMED;
@@ -24,13 +24,19 @@ const MOST: u64 = GLFTConfig::MAX_AMOUNT as u64;
 // The largest bound that is read.
 const MOST_BOUND: u64 = 4294967295;
 
-// The eleven numbers of a record.
+// The eleven numbers of a record, in the sheet's order.
 pub struct Record {
     pub mid_price: i64,
     pub inventory: i64,
     pub volatility: i64,
-    pub config: GLFTConfig,
+    pub risk_aversion: i64,
+    pub order_intensity_k: i64,
+    pub intensity_scale_a: i64,
+    pub max_inventory_lots: u32,
+    pub lot_size: i64,
+    pub terminal_time: u64,
     pub current_time: u64,
+    pub min_spread: i64,
 }
 
 // A record and the place of the next; a refusal by 2, with the place where reading goes on; or a
@@ -148,21 +154,34 @@ fn record_of(v: [u64; FIELDS]) -> Record
     requires { ⌜ T (recordOk (recordOf v)) ⌝ }
     ensures { λ r. ⌜ r ≡ recordOf v ⌝ }
 {
-    let config = GLFTConfig {
+    Record {
+        mid_price: v[0] as i64,
+        inventory: holding_of(v[1]),
+        volatility: v[2] as i64,
         risk_aversion: v[3] as i64,
         order_intensity_k: v[4] as i64,
         intensity_scale_a: v[5] as i64,
         max_inventory_lots: v[6] as u32,
         lot_size: v[7] as i64,
         terminal_time: v[8],
-        min_spread: v[10] as i64,
-    };
-    Record {
-        mid_price: v[0] as i64,
-        inventory: holding_of(v[1]),
-        volatility: v[2] as i64,
-        config,
         current_time: v[9],
+        min_spread: v[10] as i64,
+    }
+}
+
+// The desk that a record means: a stored record has drift 0.
+pub fn config_of(r: Record) -> GLFTConfig
+    ensures { λ c. ⌜ c ≡ configOf r ⌝ }
+{
+    GLFTConfig {
+        risk_aversion: r.risk_aversion,
+        order_intensity_k: r.order_intensity_k,
+        intensity_scale_a: r.intensity_scale_a,
+        max_inventory_lots: r.max_inventory_lots,
+        lot_size: r.lot_size,
+        terminal_time: r.terminal_time,
+        min_spread: r.min_spread,
+        drift: 0,
     }
 }
 

@@ -10,6 +10,7 @@ ghost use Rattle.sheet.specs.Save.{inGroups, allInGroups, numbersOf, non
 use crate::record::FIELDS;
 use crate::record::MOST_GROUPS;
 use crate::record::Record;
+use crate::record::config_of;
 use crate::refusals::SMALL_RECORD_BUFFER;
 use quote::GLFTConfig;
 use quote::refusals::LIMITS;
@@ -73,19 +74,18 @@ fn numbers_of(r: Record) -> [u64; FIELDS]
     requires { ⌜ T (saveOk r) ⌝ }
     ensures { λ v. ⌜ v ≡ numbersOf r ⌝ }
 {
-    let c = r.config;
     [
         r.mid_price as u64,
         stored_of(r.inventory),
         r.volatility as u64,
-        c.risk_aversion as u64,
-        c.order_intensity_k as u64,
-        c.intensity_scale_a as u64,
-        c.max_inventory_lots as u64,
-        c.lot_size as u64,
-        c.terminal_time,
+        r.risk_aversion as u64,
+        r.order_intensity_k as u64,
+        r.intensity_scale_a as u64,
+        r.max_inventory_lots as u64,
+        r.lot_size as u64,
+        r.terminal_time,
         r.current_time,
-        c.min_spread as u64,
+        r.min_spread as u64,
     ]
 }
 
@@ -93,22 +93,20 @@ fn numbers_of(r: Record) -> [u64; FIELDS]
 fn none_below(r: Record) -> bool
     ensures { λ b. ⌜ b ≡ noneBelow r ⌝ }
 {
-    let c = r.config;
     (0 <= r.mid_price)
         & (0 <= r.volatility)
-        & (0 <= c.risk_aversion)
-        & (0 <= c.order_intensity_k)
-        & (0 <= c.intensity_scale_a)
-        & (0 <= c.lot_size)
-        & (0 <= c.min_spread)
+        & (0 <= r.risk_aversion)
+        & (0 <= r.order_intensity_k)
+        & (0 <= r.intensity_scale_a)
+        & (0 <= r.lot_size)
+        & (0 <= r.min_spread)
 }
 
 // Whether a record can be saved.
 fn can_save(r: Record) -> bool
     ensures { λ b. ⌜ b ≡ saveOk r ⌝ }
 {
-    let config = r.config;
-    quote::limits_fit(r.mid_price, r.inventory, config, r.volatility)
+    quote::limits_fit(r.mid_price, r.inventory, config_of(r), r.volatility)
         & (r.current_time <= GLFTConfig::MAX_TIME)
         & none_below(r)
 }

@@ -15,8 +15,8 @@ use Rattle.elementary.specs.Reply.{Reply, value, refusal}
 use Rattle.elementary.proofs.Order.{lt→not-ge}
 use Rattle.vector.specs.Vectors.{tab, fill, fold, smaller}
 use Rattle.vector.specs.Series.{leftAt, rightAt}
-use Rattle.vector.specs.Run.{Ended, vector, overCap, failed, Fixed, Going, Turn, going, ended, cap, needed, start, begin, divided, rebalances, rebalance, next, stepped, turn, runOn, fixed, runFor, run}
-use Rattle.vector.specs.Causes.{Reached, first, later, GoingKeeps, RunsEnd, stepSum, Rebalancing, weightsPositive, Planning, at-first, again, factorsFinite, timesNorm, PlanFails, by-factor, by-norm, RunFails, by-plan, by-series, by-weight, RunsFail, CapReported, CapReports}
+use Rattle.vector.specs.Run.{Ended, vector, overCap, failed, Fixed, Going, Turn, going, ended, cap, needed, start, begin, divided, rebalances, rebalance, next, stepped, turn, runOn, fixed, diagonalFinite, firstIf, firstTurn, runFor, run}
+use Rattle.vector.specs.Causes.{Reached, first, later, GoingKeeps, RunsEnd, stepSum, Rebalancing, weightsPositive, Planning, at-first, again, factorsFinite, timesNorm, PlanFails, by-factor, by-norm, RunFails, by-diagonal, by-plan, by-series, by-weight, RunsFail, CapReported, CapReports}
 use Rattle.vector.proofs.Plans.{planned-some, planned-within, planned-same}
 use Rattle.vector.proofs.RunLaws.{on-ended}
 use Rattle.vector.proofs.Turns.{Any, TurnOk, begin-ok}
@@ -74,8 +74,13 @@ module _ (p : Fixed) (tau : Float) where
         go (refusal n) e = by-series r (series-refused _ _ _ n .0 e .1)
         go (value v) e = after v e _ _ refl refl
 
+  at-once : (d : Bool) → diagonalFinite p ≡ d → Caused cap (firstIf d p tau)
+  unfolding firstIf
+  at-once false e = by-diagonal e
+  at-once true e = begun _ (at-first e) (le-refl cap)
+
   caused : {b : ℕ} {t : Turn} → Reached p tau b t → (b ≤ cap) × Caused b t
-  caused first = (le-refl cap, begun _ at-first (le-refl cap))
+  caused first = (le-refl cap, at-once (diagonalFinite p) refl)
   caused (later r) = let (k, h) = caused r in (omega arith, turned r k (h .1))
 
   -- ==== the run and the states that it reaches
@@ -116,9 +121,12 @@ module _ (p : Fixed) (tau : Float) where
       go zero e = cc
       go (suc s) e = ap (λ (c : Bool). next (suc s) c p b g w) e
 
+  begun-first : Reached p tau cap (firstTurn p tau)
+  begun-first = first
+
   plans : {b : ℕ} {o : List Float} {rest : Float} → Planning p tau b o rest → Reached p tau b (begin p b (fill (p .n) 1ᶠ) o rest)
-  unfolding rebalance
-  plans at-first = first
+  unfolding rebalance firstIf
+  plans (at-first e) = rw e at begun-first
   plans (again h e) = rw e at (rebalanced h)
 
   plan-fails : {o : List Float} {rest : Float} (b : ℕ) (w : List Float) → PlanFails p o rest → begin p b w o rest ≡ ended (failed (cap - b))
@@ -127,7 +135,8 @@ module _ (p : Fixed) (tau : Float) where
   plan-fails b w (by-norm ef et) = rw (ef, et)
 
   fails : {s : ℕ} → RunFails p tau s → Ends (failed s)
-  unfolding turn stepped rebalance
+  unfolding turn stepped rebalance firstIf
+  fails (by-diagonal e) = (cap, rw e at begun-first)
   fails (by-plan {b} h f) = (b, subst (Reached p tau b) (plan-fails b _ f) (plans h))
   fails (by-series {b} r f) = (b, rw (series-refused _ _ _ _ .1 (refl, f)) at (later r))
   fails (by-weight {b} h e) = (b, rw e at (rebalanced h))
@@ -145,22 +154,22 @@ going-keeps p tau b g r = caused p tau r .1
 
 pub runs-end : RunsEnd
 unfolding run
-runs-end bound alpha eta tau r e = let p = fixed bound alpha eta in rw e (reaches p tau r, λ h. meets-end p tau (h .1))
+runs-end bound alpha beta eta tau r e = let p = fixed bound alpha beta eta in rw e (reaches p tau r, λ h. meets-end p tau (h .1))
 
 -- an end that is no vector, by its cause
-by-cause : (bound : ℕ) (alpha eta tau : Float) (r : Ended) (C : Type 0) → ((w o : List Float) (s : ℕ) → vector w o s ≡ r → _≡_ {A = ℕ} 0 1)
-    → (Ends (fixed bound alpha eta) tau r ↔ C) → (run bound alpha eta tau ≡ r) ↔ ((lt 0ᶠ tau ≡ true) × C)
+by-cause : (bound : ℕ) (alpha beta eta tau : Float) (r : Ended) (C : Type 0) → ((w o : List Float) (s : ℕ) → vector w o s ≡ r → _≡_ {A = ℕ} 0 1)
+    → (Ends (fixed bound alpha beta eta) tau r ↔ C) → (run bound alpha beta eta tau ≡ r) ↔ ((lt 0ᶠ tau ≡ true) × C)
 unfolding run runFor
-by-cause bound alpha eta tau r C other cause = (go (lt 0ᶠ tau) refl, λ x. runs-end bound alpha eta tau r (x .0) .1 (cause .1 (x .1)))
+by-cause bound alpha beta eta tau r C other cause = (go (lt 0ᶠ tau) refl, λ x. runs-end bound alpha beta eta tau r (x .0) .1 (cause .1 (x .1)))
   where
-    go : (t : Bool) → lt 0ᶠ tau ≡ t → runFor t (fixed bound alpha eta) tau ≡ r → (lt 0ᶠ tau ≡ true) × C
-    go true e i = (e, cause .0 (reaches (fixed bound alpha eta) tau r i))
+    go : (t : Bool) → lt 0ᶠ tau ≡ t → runFor t (fixed bound alpha beta eta) tau ≡ r → (lt 0ᶠ tau ≡ true) × C
+    go true e i = (e, cause .0 (reaches (fixed bound alpha beta eta) tau r i))
     go false e i = let z = other _ _ _ i in absurd (omega arith)
 
 pub runs-fail : RunsFail
-runs-fail bound alpha eta tau s =
-    let p = fixed bound alpha eta in by-cause bound alpha eta tau (failed s) (RunFails p tau s) (λ w o n e. cc) (λ h. caused p tau (h .1) .1, fails p tau)
+runs-fail bound alpha beta eta tau s =
+    let p = fixed bound alpha beta eta in by-cause bound alpha beta eta tau (failed s) (RunFails p tau s) (λ w o n e. cc) (λ h. caused p tau (h .1) .1, fails p tau)
 
 pub cap-reports : CapReports
-cap-reports bound alpha eta tau need b =
-    let p = fixed bound alpha eta in by-cause bound alpha eta tau (overCap need b) (CapReported p tau need b) (λ w o n e. cc) (λ h. caused p tau (h .1) .1, reports p tau)
+cap-reports bound alpha beta eta tau need b =
+    let p = fixed bound alpha beta eta in by-cause bound alpha beta eta tau (overCap need b) (CapReported p tau need b) (λ w o n e. cc) (λ h. caused p tau (h .1) .1, reports p tau)

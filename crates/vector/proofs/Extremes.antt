@@ -163,7 +163,7 @@ pub zero-gathered : Gathered binary64 0ᶠ
 zero-gathered = (rw (zero-is binary64) tt, ofBits-fits binary64 0)
 
 -- nothing that is gathered lies below it
-above-zero : (x : Float) → T (nonneg x) → lt x (fin false 0 (pos 0)) ≡ false
+pub above-zero : (x : Float) → T (nonneg x) → lt x (fin false 0 (pos 0)) ≡ false
 unfolding lt
 above-zero nan p = refl
 above-zero (inf true) p = absurd p

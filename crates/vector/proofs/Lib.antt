@@ -11,7 +11,8 @@ pub mod Mirror
 pub mod Lots
 pub mod Rows
 pub mod Ahead
-pub mod OwnMirror
+pub mod Drift
+pub mod Turned
 pub mod Turns
 pub mod Summing
 pub mod Causes

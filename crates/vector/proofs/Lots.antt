@@ -1,4 +1,4 @@
--- A row's lots, long or short: the diagonal turns on them alone. Assumes nothing.
+-- A row's lots, long or short: without a drift the diagonal turns on them alone. Assumes nothing.
 use mathlib.Core.Path.{_≡_, refl}
 use Prim.Native.Nat.{ℕ, suc, _+_, _-_}
 use native.Mathlib.Omega.{arith}
@@ -9,10 +9,14 @@ use lib.Dec.{leb}
 use lib.Ieee.{Float, binary64, minus}
 use Rattle.elementary.specs.Float.{_⊕_, _⊗_, whole, 2ᶠ}
 use Rattle.elementary.proofs.Signs.{mul-neg-right, mul-neg-neg, ofInt-neg}
-use Rattle.vector.specs.Series.{diagonalAt}
+use Rattle.vector.specs.Drift.{diagonalBefore}
 
 pub lots : ℕ → ℕ → ℕ
 lots b i = natAbs (minus i b)
+
+pub lots-of : (b i : ℕ) → lots b i ≡ natAbs (minus i b)
+unfolding lots
+lots-of b i = refl
 
 pub lots-are : (b i : ℕ) → lots b i ≡ i - b + (b - i)
 unfolding lots
@@ -26,6 +30,10 @@ square-of : (x : Float) (z : ℤ) → x ⊗ whole z ⊗ whole z ≡ x ⊗ whole 
 square-of x (pos n) = refl
 square-of x (negsuc n) = rw (ofInt-neg binary64 n, mul-neg-right binary64 x (whole (pos (suc n))), mul-neg-neg binary64 (x ⊗ whole (pos (suc n))) (whole (pos (suc n))))
 
-pub diagonal-is : (b : ℕ) (alpha eta : Float) (i : ℕ) → diagonalAt b alpha eta i ≡ alpha ⊗ whole (pos (lots b i)) ⊗ whole (pos (lots b i)) ⊕ 2ᶠ ⊗ eta
-unfolding diagonalAt lots
-diagonal-is b alpha eta i = rw (square-of alpha (minus i b))
+pub square-is : (b : ℕ) (x : Float) (i : ℕ) → x ⊗ whole (minus i b) ⊗ whole (minus i b) ≡ x ⊗ whole (pos (lots b i)) ⊗ whole (pos (lots b i))
+unfolding lots
+square-is b x i = square-of x (minus i b)
+
+pub diagonal-is : (b : ℕ) (alpha eta : Float) (i : ℕ) → diagonalBefore b alpha eta i ≡ alpha ⊗ whole (pos (lots b i)) ⊗ whole (pos (lots b i)) ⊕ 2ᶠ ⊗ eta
+unfolding diagonalBefore
+diagonal-is b alpha eta i = rw (square-is b alpha i)

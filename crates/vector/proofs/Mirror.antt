@@ -15,7 +15,7 @@ use Rattle.elementary.proofs.Signs.{add-comm-f}
 use Rattle.vector.specs.Refusals.{numerical}
 use Rattle.vector.specs.Vectors.{tab, at, fill, before, after, every, fold, larger, smaller}
 use Rattle.vector.specs.Series.{leftAt, rightAt, Operator, rowAt, applied, term, plus, bothFinite, converged, Sum, summing, summed, judge, nextTerm, series, taylorStep}
-use Rattle.vector.specs.Run.{cap, Ended, vector, overCap, failed, Fixed, Going, Turn, going, ended, norm, start, begin, divided, rebalances, rebalance, next, stepped, stepOperator, turn, runOn, runFor}
+use Rattle.vector.specs.Run.{cap, Ended, vector, overCap, failed, magnitudes, fixedOver, Going, Turn, going, ended, norm, start, begin, divided, rebalances, rebalance, next, stepped, stepOperator, turn, runOn, diagonalFinite, firstIf, runFor}
 use Rattle.vector.specs.Promises.{Mirror, MirrorEnd, MirrorRuns}
 use Rattle.vector.proofs.Lists.{Opposite, length-tab, at-tab, every-mirror}
 use Rattle.vector.proofs.Extremes.{largest-mirror, smallest-mirror}
@@ -150,9 +150,6 @@ pub data Ends (n : ℕ) : Ended → Ended → Type 0 where
 abbrev between : List Float → List Float → List Float → List Float → Float → Float → ℕ → Going
 between w o l r dt rest k = record { w = w; o = o; left = l; right = r; dt = dt; remaining = rest; steps = k }
 
-abbrev stays : ℕ → List Float → Float → Fixed
-stays n d eta = record { n = n; diagonal = d; eta = eta }
-
 data Turns (n : ℕ) : Turn → Turn → Type 0 where
   both-going : {w w′ o o′ l l′ r r′ : List Float} {dt rest : Float} {k : ℕ} → Facing n w w′ → Facing n o o′ → Mirror n l r′ → Mirror n r l′
       → Turns n (going (between w o l r dt rest k)) (going (between w′ o′ l′ r′ dt rest k))
@@ -160,11 +157,12 @@ data Turns (n : ℕ) : Turn → Turn → Type 0 where
 
 -- ---- a plan
 module _ (n : ℕ) (l l′ r r′ : List Float) (L : Mirror n l r′) (R : Mirror n r l′) where
-  norm-alike : (d d′ : List Float) → Mirror n d d′ → (eta : Float) → norm (stays n d eta) l r ≡ norm (stays n d′ eta) l′ r′
-  unfolding norm Mirror
+  norm-alike : (d d′ : List Float) → Mirror n d d′ → (eta : Float) → norm (fixedOver n d eta) l r ≡ norm (fixedOver n d′ eta) l′ r′
+  unfolding magnitudes norm Mirror
   norm-alike d d′ D eta =
-      largest-mirror n _ _ (λ i. add-fits binary64 (at d i) (eta ⊗ (at l i ⊕ at r i)))
-      (λ i j e. rw (D i j e, L i j e, R i j e, add-comm-f binary64 (at r′ j) (at l′ j)))
+      let S : Mirror n (magnitudes n d) (magnitudes n d′) = tab-mirror n _ _ (λ i j e. rw (D i j e)) in
+      largest-mirror n _ _ (λ i. add-fits binary64 _ (eta ⊗ (at l i ⊕ at r i)))
+      (λ i j e. rw (S i j e, L i j e, R i j e, add-comm-f binary64 (at r′ j) (at l′ j)))
 
   factors-alike : every n (λ i. finite (at l i) && finite (at r i)) ≡ every n (λ i. finite (at l′ i) && finite (at r′ i))
   unfolding Mirror
@@ -179,7 +177,7 @@ module _ (n : ℕ) (l l′ r r′ : List Float) (L : Mirror n l r′) (R : Mirro
 
 -- ---- a step, and the run
 module _ (n : ℕ) (d d′ : List Float) (D : Mirror n d d′) (eta : Float) where
-  begins : (b : ℕ) (w w′ o o′ : List Float) (rest : Float) → Facing n w w′ → Facing n o o′ → Turns n (begin (stays n d eta) b w o rest) (begin (stays n d′ eta) b w′ o′ rest)
+  begins : (b : ℕ) (w w′ o o′ : List Float) (rest : Float) → Facing n w w′ → Facing n o o′ → Turns n (begin (fixedOver n d eta) b w o rest) (begin (fixedOver n d′ eta) b w′ o′ rest)
   unfolding begin
   begins b w w′ o o′ rest W O =
       let l = tab n (leftAt o) in
@@ -191,14 +189,14 @@ module _ (n : ℕ) (d d′ : List Float) (D : Mirror n d d′) (eta : Float) whe
       rw (factors-alike n l l′ r r′ L R, norm-alike n l l′ r r′ L R d d′ D eta) (starts n l l′ r r′ L R _ _ b w w′ o o′ rest _ W O)
 
   rebalances-alike : (c : Bool) (b : ℕ) (w w′ o o′ : List Float) (rest : Float) → Facing n w w′ → Facing n o o′
-      → Turns n (rebalance c (stays n d eta) b w o rest) (rebalance c (stays n d′ eta) b w′ o′ rest)
+      → Turns n (rebalance c (fixedOver n d eta) b w o rest) (rebalance c (fixedOver n d′ eta) b w′ o′ rest)
   unfolding rebalance Mirror
   rebalances-alike false b w w′ o o′ rest W O = both-ended failures
   rebalances-alike true b w w′ o o′ rest W O =
       begins b (fill n 1ᶠ) (fill n 1ᶠ) _ _ rest (fill-facing n 1ᶠ) (tab-facing n _ _ (λ i j e. rw (O .same i j e, W .same i j e)))
 
   nexts : (k : ℕ) (c : Bool) (b : ℕ) (w w′ : List Float) (g g′ : Going) → Facing n w w′ → Turns n (going g) (going g′)
-      → Turns n (next k c (stays n d eta) b g w) (next k c (stays n d′ eta) b g′ w′)
+      → Turns n (next k c (fixedOver n d eta) b g w) (next k c (fixedOver n d′ eta) b g′ w′)
   unfolding next Mirror
   nexts zero c b w w′ g g′ W (both-going W₀ O L R) = both-ended (vectors W O)
   nexts (suc k) false b w w′ g g′ W (both-going W₀ O L R) = both-going W O L R
@@ -216,29 +214,38 @@ module _ (n : ℕ) (d d′ : List Float) (D : Mirror n d d′) (eta : Float) whe
     smallest-alike k = ap (λ (b : Bool). ltb 0 k && b) (smallest-mirror (hex 0x16687E92154EF7AC) n _ _ (λ i j e. rw (m i j e, h)))
 
   steps-alike : (b : ℕ) (g g′ : Going) {x y : Reply (List Float)} → Turns n (going g) (going g′) → Replies n x y
-      → Turns n (stepped (stays n d eta) b g x) (stepped (stays n d′ eta) b g′ y)
+      → Turns n (stepped (fixedOver n d eta) b g x) (stepped (fixedOver n d′ eta) b g′ y)
   unfolding stepped
   steps-alike b g g′ t refusals = both-ended failures
   steps-alike b g g′ (both-going {k = k} W O L R) (values {v} {v′} m h) =
       rw (smallest-alike v v′ m h (k - 1)) (nexts _ _ b (divided n v) (divided n v′) _ _ (divided-facing v v′ m h) (both-going W O L R))
 
-  turns : (b : ℕ) (g g′ : Going) → Turns n (going g) (going g′) → Turns n (turn (stays n d eta) b g) (turn (stays n d′ eta) b g′)
+  turns : (b : ℕ) (g g′ : Going) → Turns n (going g) (going g′) → Turns n (turn (fixedOver n d eta) b g) (turn (fixedOver n d′ eta) b g′)
   unfolding turn stepOperator Mirror
   turns b g g′ (both-going {w} {w′} {o} {o′} {l} {l′} {r} {r′} {dt} W O L R) =
       steps-alike b _ _ (both-going W O L R)
       (taylor-replies n _ _ l l′ r r′ (tab-mirror n _ _ (λ i j e. rw (D i j e))) L R (eta ⊗ dt) w w′ (W .same))
 
-  runs : (b : ℕ) {t t′ : Turn} → Turns n t t′ → Ends n (runOn b (stays n d eta) t) (runOn b (stays n d′ eta) t′)
+  runs : (b : ℕ) {t t′ : Turn} → Turns n t t′ → Ends n (runOn b (fixedOver n d eta) t) (runOn b (fixedOver n d′ eta) t′)
   unfolding runOn
   runs zero (both-ended e) = e
   runs (suc b) (both-ended e) = e
   runs zero (both-going W O L R) = failures
   runs (suc b) (both-going W O L R) = runs b (turns b _ _ (both-going W O L R))
 
-  pub ends : (later : Bool) (tau : Float) → Ends n (runFor later (stays n d eta) tau) (runFor later (stays n d′ eta) tau)
+  diagonals-alike : diagonalFinite (fixedOver n d eta) ≡ diagonalFinite (fixedOver n d′ eta)
+  unfolding Mirror
+  diagonals-alike = every-mirror n _ _ (λ i j e. ap finite (D i j e))
+
+  firsts : (t : Bool) (tau : Float) → Turns n (firstIf t (fixedOver n d eta) tau) (firstIf t (fixedOver n d′ eta) tau)
+  unfolding firstIf
+  firsts false tau = both-ended failures
+  firsts true tau = begins cap (fill n 1ᶠ) (fill n 1ᶠ) (fill n 0ᶠ) (fill n 0ᶠ) tau (fill-facing n 1ᶠ) (fill-facing n 0ᶠ)
+
+  pub ends : (later : Bool) (tau : Float) → Ends n (runFor later (fixedOver n d eta) tau) (runFor later (fixedOver n d′ eta) tau)
   unfolding runFor
   ends false tau = vectors (fill-facing n 1ᶠ) (fill-facing n 0ᶠ)
-  ends true tau = runs cap (begins cap (fill n 1ᶠ) (fill n 1ᶠ) (fill n 0ᶠ) (fill n 0ᶠ) tau (fill-facing n 1ᶠ) (fill-facing n 0ᶠ))
+  ends true tau = rw diagonals-alike (runs cap (firsts (diagonalFinite (fixedOver n d′ eta)) tau))
 
 pub mirror-end : (n : ℕ) {e e′ : Ended} → Ends n e e′ → MirrorEnd n e e′
 unfolding MirrorEnd

@@ -20,17 +20,17 @@ failed-by m (failed s) n i = (s, refl, cc)
 
 pub vector-refusals : VectorRefusals
 unfolding valueVector vectorIf vectorBy refusedVector
-vector-refusals alpha eta bound tau n = (to (ratesOk alpha eta tau) (boundOk bound) refl refl, from n)
+vector-refusals alpha beta eta bound tau n = (to (ratesOk alpha beta eta tau) (boundOk bound) refl refl, from n)
   where
-    to : (f b : Bool) → ratesOk alpha eta tau ≡ f → boundOk bound ≡ b → vectorIf f b alpha eta bound tau .outcome ≡ Outcome.Refused n → VectorRefused alpha eta bound tau n
-    to false b ef eb i = let z : outside ≡ n = cc in subst (λ (m : ℕ). VectorRefused alpha eta bound tau m) z (by-5 ef)
-    to true false ef eb i = let z : configuration ≡ n = cc in subst (λ (m : ℕ). VectorRefused alpha eta bound tau m) z (by-1 ef eb)
+    to : (f b : Bool) → ratesOk alpha beta eta tau ≡ f → boundOk bound ≡ b → vectorIf f b alpha beta eta bound tau .outcome ≡ Outcome.Refused n → VectorRefused alpha beta eta bound tau n
+    to false b ef eb i = let z : outside ≡ n = cc in subst (λ (m : ℕ). VectorRefused alpha beta eta bound tau m) z (by-5 ef)
+    to true false ef eb i = let z : configuration ≡ n = cc in subst (λ (m : ℕ). VectorRefused alpha beta eta bound tau m) z (by-1 ef eb)
     to true true ef eb i =
-        let (s, e, z) = failed-by (rows bound) (run bound alpha eta tau) n i in
-        let c = runs-fail bound alpha eta tau s .0 e in
+        let (s, e, z) = failed-by (rows bound) (run bound alpha beta eta tau) n i in
+        let c = runs-fail bound alpha beta eta tau s .0 e in
         rw z (by-11 ef eb (c .0) (c .1))
 
-    from : (m : ℕ) → VectorRefused alpha eta bound tau m → vectorIf (ratesOk alpha eta tau) (boundOk bound) alpha eta bound tau .outcome ≡ Outcome.Refused m
+    from : (m : ℕ) → VectorRefused alpha beta eta bound tau m → vectorIf (ratesOk alpha beta eta tau) (boundOk bound) alpha beta eta bound tau .outcome ≡ Outcome.Refused m
     from m (by-5 ef) = rw ef
     from m (by-1 ef eb) = rw (ef, eb)
-    from m (by-11 {s} ef eb l c) = rw (ef, eb, runs-fail bound alpha eta tau s .1 (l, c))
+    from m (by-11 {s} ef eb l c) = rw (ef, eb, runs-fail bound alpha beta eta tau s .1 (l, c))

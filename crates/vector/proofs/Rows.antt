@@ -1,29 +1,32 @@
--- Before any rebalancing each factor is 1.0. Then the row sums grow toward the ends, but an end row has one neighbour, so the end row or the one next to it has the largest. Assumes nothing.
-use mathlib.Core.Path.{_≡_, refl, ap, _∙_}
+-- Before any rebalancing each factor is 1.0. Then, without a drift, the row sums grow toward the ends, but an end row has one neighbour, so the end row or the one next to it has the largest. Assumes nothing.
+use mathlib.Core.Path.{_≡_, refl, sym, ap, _∙_, subst}
 use Prim.Native.Nat.{ℕ, zero, suc, _+_, _-_, _*_, _≤_, _<_}
+use native.Mathlib.Nat.{le-trans, le-of-eq}
 use native.Mathlib.Omega.{arith}
 use mathlib.Core.Logic.{_⊎_, inl, inr}
-use mathlib.Core.Bool.{Bool, true, false, not, _&&_}
+use mathlib.Core.Bool.{Bool, true, false, not, _&&_, cond}
 use mathlib.Core.List.{List}
 use borrow.Author.Tests.{lt-ltb, le-ltb, ltb-true, ltb-false}
-use lib.IntN.{pos}
+use lib.IntN.{pos, natAbs}
 use lib.Dec.{T, ltb}
 use lib.ListN.{getD-replicate}
-use lib.Ieee.{Float, nan, binary64, lt, le, isNan, fits, round, add, sub, mul, div, ofInt, ofBits, toSigned}
+use lib.Ieee.{Float, nan, binary64, minus, lt, le, isNan, fits, round, add, sub, mul, div, ofInt, ofBits, toSigned}
 use lib.Ieee.Fits.{add-fits}
+use lib.Ieee.Bits.{is-true}
 use Rattle.elementary.specs.Float.{_⊕_, _⊖_, _⊗_, whole, 0ᶠ, 1ᶠ, 2ᶠ, finite, positive, count}
 use Rattle.elementary.specs.Reply.{given}
 use Rattle.elementary.specs.Elementary.{horner, factorials, expSum, expN, expRest, expBy, expOf, EXP, orNan}
-use Rattle.elementary.proofs.Signs.{nonneg}
-use Rattle.elementary.proofs.Order.{ofInt-mono, le-refl-f, finite-below, add-nonneg, add-mono, mul-nonneg, mul-number, mul-twice-number, mul-mono, positive-nonneg}
+use Rattle.elementary.proofs.Signs.{nonneg, add-finite, mul-finite}
+use Rattle.elementary.proofs.Order.{ofInt-mono, le-refl-f, lt→le, finite-below, add-nonneg, add-mono, mul-nonneg, mul-number, mul-twice-number, mul-mono, positive-nonneg}
 use Rattle.vector.specs.Vectors.{tab, at, fill, every, larger}
-use Rattle.vector.specs.Series.{diagonalAt, leftAt, rightAt}
-use Rattle.vector.specs.Run.{rows, norm, fixed}
-use Rattle.vector.specs.Count.{rowSum, TwoRows}
+use Rattle.vector.specs.Series.{leftAt, rightAt}
+use Rattle.vector.specs.Run.{rows, norm, boundOk, diagonalFinite}
+use Rattle.vector.specs.Count.{firstNorm, rowSum}
+use Rattle.vector.specs.Drift.{diagonalBefore, fixedBefore}
 use Rattle.vector.proofs.Lists.{at-tab, every-ext, every-true}
 use Rattle.vector.proofs.Loops.{fold-at}
 use Rattle.vector.proofs.Extremes.{not-above, first-two}
-use Rattle.vector.proofs.Lots.{lots, lots-are, diagonal-is}
+use Rattle.vector.proofs.Lots.{lots, lots-of, lots-are, diagonal-is}
 use Rattle.vector.proofs.Plans.{whole-nonneg}
 use Rattle.vector.proofs.Bounds.{bound-range}
 
@@ -68,12 +71,12 @@ module _ (n : ℕ) where
 -- ---- the sum of each row
 module _ (b : ℕ) (alpha eta : Float) where
   row : ℕ → Float
-  row i = at (tab (rows b) (diagonalAt b alpha eta)) i ⊕ eta ⊗ (at (tab (rows b) (leftAt (none (rows b)))) i ⊕ at (tab (rows b) (rightAt (rows b) (none (rows b)))) i)
+  row i = at (tab (rows b) (diagonalBefore b alpha eta)) i ⊕ eta ⊗ (at (tab (rows b) (leftAt (none (rows b)))) i ⊕ at (tab (rows b) (rightAt (rows b) (none (rows b)))) i)
 
   row-is : (i : ℕ) (l r f : Float) → i < rows b → leftAt (none (rows b)) i ≡ l → rightAt (rows b) (none (rows b)) i ≡ r → l ⊕ r ≡ f → row i ≡ rowSum alpha eta (lots b i) f
   unfolding row rowSum
   row-is i l r f h el er ef =
-      rw (at-tab (rows b) (diagonalAt b alpha eta) i h, at-tab (rows b) (leftAt (none (rows b))) i h, at-tab (rows b) (rightAt (rows b) (none (rows b))) i h, diagonal-is b alpha eta i, el, er, ef)
+      rw (at-tab (rows b) (diagonalBefore b alpha eta) i h, at-tab (rows b) (leftAt (none (rows b))) i h, at-tab (rows b) (rightAt (rows b) (none (rows b))) i h, diagonal-is b alpha eta i, el, er, ef)
 
   -- the end rows, and those between them
   row-first : 1 ≤ b → row 0 ≡ rowSum alpha eta b 1ᶠ
@@ -89,7 +92,7 @@ module _ (b : ℕ) (alpha eta : Float) where
   row-inner i h = row-is (suc i) 1ᶠ 1ᶠ 2ᶠ (omega arith) (left-one (rows b) i (omega arith)) (right-one (rows b) (suc i) h) refl
 
 -- ---- the sums of rows with as many neighbours grow with the lots
-whole-finite : (m : ℕ) → m ≤ 200 → T (finite (whole (pos m)))
+pub whole-finite : (m : ℕ) → m ≤ 200 → T (finite (whole (pos m)))
 unfolding finite ofInt round
 whole-finite m h = finite-below (whole (pos m)) (whole (pos 200)) (whole-nonneg m) (ofInt-mono binary64 m 200 h) large
   where
@@ -132,9 +135,24 @@ module _ (alpha eta : Float) (a : T (positive alpha)) (e : T (positive eta)) whe
   two-etas = mul-nonneg binary64 2ᶠ eta tt (e+ .0) (mul-number binary64 2ᶠ eta tt (e+ .1))
 
   -- a row's diagonal, and its sum with factors that add up to f
-  diag-nonneg : (m : ℕ) → m ≤ 200 → T (nonneg (alpha ⊗ whole (pos m) ⊗ whole (pos m) ⊕ 2ᶠ ⊗ eta))
+  pub square-nonneg : (m : ℕ) → m ≤ 200 → T (nonneg (alpha ⊗ whole (pos m) ⊗ whole (pos m)))
   unfolding once
-  diag-nonneg m h = add-nonneg binary64 _ _ (twice-nonneg m h) two-etas
+  square-nonneg m h = twice-nonneg m h
+
+  abbrev diagonalOf : ℕ → Float
+  diagonalOf m = alpha ⊗ whole (pos m) ⊗ whole (pos m) ⊕ 2ᶠ ⊗ eta
+
+  pub diag-nonneg : (m : ℕ) → m ≤ 200 → T (nonneg (diagonalOf m))
+  diag-nonneg m h = add-nonneg binary64 _ _ (square-nonneg m h) two-etas
+
+  diag-grows : (m n : ℕ) → m ≤ n → n ≤ 200 → T (le (diagonalOf m) (diagonalOf n))
+  unfolding once
+  diag-grows m n h k =
+      let l : m ≤ 200 = omega arith in
+      let q = ofInt-mono binary64 m n h in
+      let first = mul-mono binary64 alpha alpha (whole (pos m)) (whole (pos n)) (a+ .0) (a+ .0) (whole-nonneg m) (whole-nonneg n) (once-number m l) (once-number n k) (le-refl-f alpha (a+ .0)) q in
+      let square = mul-mono binary64 (once m l) (once n k) (whole (pos m)) (whole (pos n)) (once-nonneg m l) (once-nonneg n k) (whole-nonneg m) (whole-nonneg n) (twice-number m l) (twice-number n k) first q in
+      add-mono binary64 _ _ _ _ (twice-nonneg m l) (twice-nonneg n k) two-etas two-etas square (le-refl-f _ two-etas)
 
   module _ (f : Float) (p : T (nonneg f)) (t : T (finite f)) where
     sum-nonneg : (m : ℕ) → m ≤ 200 → T (nonneg (rowSum alpha eta m f))
@@ -142,19 +160,15 @@ module _ (alpha eta : Float) (a : T (positive alpha)) (e : T (positive eta)) whe
     sum-nonneg m h = add-nonneg binary64 _ _ (diag-nonneg m h) (eta-times f p t)
 
     sum-grows : (m n : ℕ) → m ≤ n → n ≤ 200 → T (le (rowSum alpha eta m f) (rowSum alpha eta n f))
-    unfolding rowSum once
+    unfolding rowSum
     sum-grows m n h k =
-        let l : m ≤ 200 = omega arith in
-        let q = ofInt-mono binary64 m n h in
-        let first = mul-mono binary64 alpha alpha (whole (pos m)) (whole (pos n)) (a+ .0) (a+ .0) (whole-nonneg m) (whole-nonneg n) (once-number m l) (once-number n k) (le-refl-f alpha (a+ .0)) q in
-        let square = mul-mono binary64 (once m l) (once n k) (whole (pos m)) (whole (pos n)) (once-nonneg m l) (once-nonneg n k) (whole-nonneg m) (whole-nonneg n) (twice-number m l) (twice-number n k) first q in
-        let diag = add-mono binary64 _ _ _ _ (twice-nonneg m l) (twice-nonneg n k) two-etas two-etas square (le-refl-f _ two-etas) in
-        add-mono binary64 _ _ _ _ (diag-nonneg m l) (diag-nonneg n k) (eta-times f p t) (eta-times f p t) diag (le-refl-f _ (eta-times f p t))
+        add-mono binary64 _ _ _ _ (diag-nonneg m (omega arith)) (diag-nonneg n k) (eta-times f p t) (eta-times f p t) (diag-grows m n h k) (le-refl-f _ (eta-times f p t))
 
 -- ---- the largest of them
-pub two-rows : TwoRows
-unfolding norm fixed row rowSum finite ofBits
-two-rows b alpha eta ok pa pe =
+pub two-rows-before : (b : ℕ) (alpha eta : Float) → boundOk b ≡ true → positive alpha ≡ true → positive eta ≡ true
+    → firstNorm (fixedBefore b alpha eta) ≡ larger (rowSum alpha eta b 1ᶠ) (rowSum alpha eta (b - 1) 2ᶠ)
+unfolding norm fixedBefore row rowSum finite ofBits
+two-rows-before b alpha eta ok pa pe =
     fold-at larger 0ᶠ (rows b) (suc (suc (2 * b - 1))) f (omega (arith, low))
     ∙ first-two (2 * b - 1) f (rw first (x+, held)) below
     ∙ rw (first, second)
@@ -213,3 +227,45 @@ two-rows b alpha eta ok pa pe =
     below : (j : ℕ) → 2 ≤ j → j < 2 + (2 * b - 1) → lt (larger (f 0) (f 1)) (f j) ≡ false
     below zero h k = absurd (omega arith)
     below (suc i) h k = let (p, q) = other i (omega arith) (omega (arith, low)) in rw (first, second) (not-above x y (f (suc i)) x+ y+ p q)
+
+-- ---- where tau times it is finite and positive, so is the end row's sum finite, and with it every entry of the diagonal
+first-below : (x y : Float) → T (nonneg x) → T (nonneg y) → T (le x (larger x y))
+unfolding larger
+first-below x y p q = go (lt x y) refl
+  where
+    go : (t : Bool) → lt x y ≡ t → T (le x (cond t y x))
+    go true e = lt→le x y (rw e tt)
+    go false e = le-refl-f x p
+
+pub few-lots : (b i : ℕ) → i < rows b → lots b i ≤ b
+few-lots b i h = rw (lots-are b i) (omega arith)
+
+pub few-rows : (b i : ℕ) → i < rows b → natAbs (minus i b) ≤ b
+few-rows b i h = le-trans (le-of-eq (sym (lots-of b i))) (few-lots b i h)
+
+module _ (b : ℕ) (alpha eta : Float) (ok : boundOk b ≡ true) (pa : positive alpha ≡ true) (pe : positive eta ≡ true) where
+  -- every entry is at or above zero, and at most that of the end row
+  pub entry-nonneg : (i : ℕ) → i < rows b → T (nonneg (diagonalBefore b alpha eta i))
+  entry-nonneg i h = rw (diagonal-is b alpha eta i) (diag-nonneg alpha eta (rw pa tt) (rw pe tt) (lots b i) (le-trans (few-lots b i h) (bound-range b ok .1)))
+
+  entry-finite : T (finite (rowSum alpha eta b 1ᶠ)) → (i : ℕ) → i < rows b → finite (diagonalBefore b alpha eta i) ≡ true
+  unfolding rowSum
+  entry-finite t i h =
+      let few = few-lots b i h in
+      let high = bound-range b ok .1 in
+      rw (diagonal-is b alpha eta i)
+      (is-true _ (finite-below _ _ (diag-nonneg alpha eta (rw pa tt) (rw pe tt) (lots b i) (le-trans few high)) (diag-grows alpha eta (rw pa tt) (rw pe tt) (lots b i) b few high) (add-finite binary64 _ _ t .0)))
+
+  end-finite : (tau : Float) → positive (tau ⊗ firstNorm (fixedBefore b alpha eta)) ≡ true → T (finite (rowSum alpha eta b 1ᶠ))
+  unfolding finite ofBits
+  end-finite tau h =
+      let high = bound-range b ok .1 in
+      let x+ = sum-nonneg alpha eta (rw pa tt) (rw pe tt) 1ᶠ tt tt b high in
+      let y+ = sum-nonneg alpha eta (rw pa tt) (rw pe tt) 2ᶠ tt tt (b - 1) (omega (arith, high)) in
+      let norm-finite = mul-finite binary64 tau (firstNorm (fixedBefore b alpha eta)) (positive-nonneg (tau ⊗ firstNorm (fixedBefore b alpha eta)) (rw h tt) .1) .1 in
+      finite-below _ _ x+ (first-below _ _ x+ y+) (subst (λ (z : Float). T (finite z)) (two-rows-before b alpha eta ok pa pe) norm-finite)
+
+  pub sized-finite : (tau : Float) → positive (tau ⊗ firstNorm (fixedBefore b alpha eta)) ≡ true → diagonalFinite (fixedBefore b alpha eta) ≡ true
+  unfolding fixedBefore
+  sized-finite tau h =
+      every-ext (rows b) _ (λ i. true) (λ i k. rw (at-tab (rows b) (diagonalBefore b alpha eta) i k) (entry-finite (end-finite tau h) i k)) ∙ every-true (rows b)

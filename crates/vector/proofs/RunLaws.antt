@@ -14,9 +14,9 @@ use Rattle.elementary.specs.Reply.{Reply, value, refusal}
 use Rattle.elementary.specs.Elementary.{LN, orNan}
 use Rattle.vector.specs.Vectors.{tab, at, fill, every, fold, larger, smaller}
 use Rattle.vector.specs.Series.{diagonalAt, leftAt, rightAt, taylorStep}
-use Rattle.vector.specs.Run.{Ended, vector, overCap, failed, Fixed, Going, going, ended, cap, rows, start, begin, divided, floor, rebalances, rebalance, next, stepped, stepOperator, turn, runOn, fixed, runFor, run}
+use Rattle.vector.specs.Run.{Ended, vector, overCap, failed, Fixed, Going, going, ended, cap, rows, start, begin, divided, floor, rebalances, rebalance, next, stepped, stepOperator, turn, runOn, fixedOver, fixed, firstIf, runFor, run}
 use Rattle.vector.specs.Values.{padded, vectorOf, vectorBy}
-use Rattle.vector.specs.Inner.{operatorOver, fixedOver, goingOver, StepIs, planBy, planOf, pacedOf, askedOf, stoppedOf, endBy, AfterBy, AfterIs, Standing, weightBy, weight, BegunIs, PlanSpent, Between, EndIs, outcomeWith}
+use Rattle.vector.specs.Inner.{operatorOver, goingOver, StepIs, planBy, planOf, pacedOf, askedOf, stoppedOf, endBy, AfterBy, AfterIs, Standing, weightBy, weight, BegunIs, PlanSpent, Between, EndIs, outcomeWith}
 use Rattle.vector.specs.declared.Outcome.{Outcome}
 use Rattle.vector.specs.declared.Outcome.the-variants as Outcome
 use Rattle.vector.specs.declared.plan.Planned.{Planned}
@@ -230,11 +230,22 @@ pub between-next : (p : Fixed) (r : Ended) (w o w′ o′ : List Float) (a q : P
 between-next p r w o w′ o′ a q s e g = (rw (s .asks e .1) at (g .0), rw e (omega (arith, g .1)))
 
 -- ---- the whole run, and the answer that its end gives
-module _ (bound : ℕ) (alpha eta tau : Float) where
-  pub run-later : (d o : List Float) (q : Outcome) (w′ o′ : List Float) → lt 0ᶠ tau ≡ true → d ≡ tab (rows bound) (diagonalAt bound alpha eta) → o ≡ fill (rows bound) 0ᶠ
-      → EndIs (runOn cap (fixedOver (rows bound) d eta) (begin (fixedOver (rows bound) d eta) cap (fill (rows bound) 1ᶠ) o tau)) q w′ o′ → EndIs (run bound alpha eta tau) q w′ o′
-  unfolding run runFor fixed
-  run-later d o q w′ o′ e ed eo x = rw (e, ← ed, ← eo) x
+module _ (bound : ℕ) (alpha beta eta tau : Float) where
+  abbrev entries : List Float
+  entries = tab (rows bound) (diagonalAt bound alpha beta eta)
+
+  abbrev allFinite : Bool
+  allFinite = every (rows bound) (λ i. finite (at entries i))
+
+  pub run-later : (d o : List Float) (q : Outcome) (w′ o′ : List Float) → lt 0ᶠ tau ≡ true → d ≡ entries → o ≡ fill (rows bound) 0ᶠ → allFinite ≡ true
+      → EndIs (runOn cap (fixedOver (rows bound) d eta) (begin (fixedOver (rows bound) d eta) cap (fill (rows bound) 1ᶠ) o tau)) q w′ o′ → EndIs (run bound alpha beta eta tau) q w′ o′
+  unfolding run runFor fixed firstIf
+  run-later d o q w′ o′ e ed eo f x = rw (e, f, ← ed, ← eo) x
+
+  -- where an entry of the diagonal is not finite
+  pub run-refused : lt 0ᶠ tau ≡ true → allFinite ≡ false → run bound alpha beta eta tau ≡ failed 0
+  unfolding run runFor runOn fixed firstIf
+  run-refused e f = rw (e, f)
 
 pub answered : (n : ℕ) (r : Ended) (q : Outcome) (w o : List Float) (q′ : Outcome) (a b : List Float) → EndIs r q w o → q′ ≡ q → a ≡ padded n w → b ≡ padded n o
     → outcomeWith (record { w = a; «log_offset» = b; n = n }) q′ ≡ vectorBy n r

@@ -7,7 +7,7 @@ use mathlib.Core.Bool.{Bool, true, false}
 use mathlib.Core.List.{List}
 use lib.Ieee.{Float, lt}
 use Rattle.elementary.specs.Float.{0ᶠ}
-use Rattle.vector.specs.Run.{Ended, vector, overCap, failed, Fixed, Turn, going, ended, cap, turn, runOn, fixed, runFor, run, spent}
+use Rattle.vector.specs.Run.{Ended, vector, overCap, failed, Fixed, Turn, going, ended, cap, turn, runOn, fixed, firstIf, runFor, run, spent}
 use Rattle.vector.specs.Promises.{StepsWithin, BudgetWithin, SumOf}
 use Rattle.vector.proofs.Turns.{Any, EndOk, TurnOk, begin-ok, turn-ok}
 
@@ -24,13 +24,19 @@ on-ok P (suc b) p (ended r) h e = end-any P (suc b) r h e
 on-ok P zero p (going g) h e = le-refl cap
 on-ok P (suc b) p (going g) h e = on-ok (SumOf p g) b p (turn p b g) (omega arith) (turn-ok p b g)
 
-run-ok : (bound : ℕ) (alpha eta tau : Float) → EndOk cap Any (run bound alpha eta tau)
+-- a first turn, whatever the diagonal
+first-ok : (d : Bool) (p : Fixed) (tau : Float) → TurnOk cap Any (firstIf d p tau)
+unfolding firstIf
+first-ok false p tau = omega arith
+first-ok true p tau = begin-ok Any p cap _ _ tau tt
+
+run-ok : (bound : ℕ) (alpha beta eta tau : Float) → EndOk cap Any (run bound alpha beta eta tau)
 unfolding run runFor
-run-ok bound alpha eta tau = go (lt 0ᶠ tau)
+run-ok bound alpha beta eta tau = go (lt 0ᶠ tau)
   where
-    go : (later : Bool) → EndOk cap Any (runFor later (fixed bound alpha eta) tau)
+    go : (later : Bool) → EndOk cap Any (runFor later (fixed bound alpha beta eta) tau)
     go false = (tt, omega arith)
-    go true = on-ok Any cap _ _ (le-refl cap) (begin-ok Any _ cap _ _ tau tt)
+    go true = on-ok Any cap _ _ (le-refl cap) (first-ok _ _ tau)
 
 spent-within : (r : Ended) → EndOk cap Any r → spent r ≤ cap
 unfolding spent
@@ -39,7 +45,7 @@ spent-within (overCap need b) e = omega arith
 spent-within (failed s) e = e
 
 pub steps-within : StepsWithin
-steps-within bound alpha eta tau = spent-within (run bound alpha eta tau) (run-ok bound alpha eta tau)
+steps-within bound alpha beta eta tau = spent-within (run bound alpha beta eta tau) (run-ok bound alpha beta eta tau)
 
 pub budget-within : BudgetWithin
-budget-within bound alpha eta tau need b e = subst (EndOk cap Any) e (run-ok bound alpha eta tau) .0
+budget-within bound alpha beta eta tau need b e = subst (EndOk cap Any) e (run-ok bound alpha beta eta tau) .0

@@ -13,7 +13,7 @@ use Rattle.elementary.specs.Elementary.{LN, orNan}
 use Rattle.vector.specs.Refusals.{numerical}
 use Rattle.vector.specs.Vectors.{tab, at, fill, every, fold, smaller}
 use Rattle.vector.specs.Series.{Operator, leftAt, rightAt, term, plus, bothFinite, converged, mostTerms, taylorStep}
-use Rattle.vector.specs.Run.{Ended, overCap, failed, Fixed, Going, Turn, going, ended, cap, norm, needed, divided, rebalances, stepOperator, turn, firstTurn, fixed, run}
+use Rattle.vector.specs.Run.{Ended, overCap, failed, Fixed, Going, Turn, going, ended, cap, norm, needed, divided, rebalances, stepOperator, turn, diagonalFinite, firstTurn, fixed, run}
 
 -- ==== a Taylor step
 -- From the last term t and the sum s before term j: the sum with term j; are term and sum finite; has every entry converged; is every entry of the sum above zero.
@@ -58,8 +58,8 @@ GoingKeeps = (p : Fixed) (tau : Float) (b : ℕ) (g : Going) → Reached p tau b
 
 -- the result of a run is the end that it meets
 abbrev pub RunsEnd : Type 0
-RunsEnd = (bound : ℕ) (alpha eta tau : Float) (r : Ended) → lt 0ᶠ tau ≡ true
-    → (run bound alpha eta tau ≡ r) ↔ ((b : ℕ) × Reached (fixed bound alpha eta) tau b (ended r))
+RunsEnd = (bound : ℕ) (alpha beta eta tau : Float) (r : Ended) → lt 0ᶠ tau ≡ true
+    → (run bound alpha beta eta tau ≡ r) ↔ ((b : ℕ) × Reached (fixed bound alpha beta eta) tau b (ended r))
 
 -- ---- a step of a run: its sum, or why there is none
 abbrev pub stepSum : Fixed → Going → Reply (List Float)
@@ -81,9 +81,9 @@ weightsPositive p v = every (p .n) (λ i. positive (at (divided (p .n) v) i))
 abbrev pub newOffsets : Fixed → List Float → List Float → List Float
 newOffsets p o v = tab (p .n) (λ i. at o i ⊕ orNan (LN (at (divided (p .n) v) i)))
 
--- ---- the plans of a run: the budget left, the offsets and the time that remains, at first and at each rebalancing
+-- ---- the plans of a run: the budget left, the offsets and the time that remains, at first, where the diagonal is finite, and at each rebalancing
 pub data Planning (p : Fixed) (tau : Float) : ℕ → List Float → Float → Type 0 where
-  at-first : Planning p tau cap (fill (p .n) 0ᶠ) tau
+  at-first : diagonalFinite p ≡ true → Planning p tau cap (fill (p .n) 0ᶠ) tau
   again : {b : ℕ} {g : Going} {v : List Float} → Rebalancing p tau b g v → weightsPositive p v ≡ true → Planning p tau b (newOffsets p (g .o) v) (g .remaining ⊖ g .dt)
 
 -- over offsets o: is every factor finite; time × norm
@@ -98,14 +98,15 @@ pub data PlanFails (p : Fixed) (o : List Float) (rest : Float) : Type 0 where
   by-factor : factorsFinite p o ≡ false → PlanFails p o rest
   by-norm : factorsFinite p o ≡ true → positive (timesNorm p o rest) ≡ false → PlanFails p o rest
 
--- ---- why a run fails, after so many finished steps: a plan, a step's series, or a weight at a rebalancing does
+-- ---- why a run fails, after so many finished steps: an entry of the diagonal is not finite; or a plan, a step's series, or a weight at a rebalancing does
 pub data RunFails (p : Fixed) (tau : Float) : ℕ → Type 0 where
+  by-diagonal : diagonalFinite p ≡ false → RunFails p tau 0
   by-plan : {b : ℕ} {o : List Float} {rest : Float} → Planning p tau b o rest → PlanFails p o rest → RunFails p tau (cap - b)
   by-series : {b : ℕ} {g : Going} → Reached p tau (suc b) (going g) → StepFails p g → RunFails p tau (cap - suc b)
   by-weight : {b : ℕ} {g : Going} {v : List Float} → Rebalancing p tau b g v → weightsPositive p v ≡ false → RunFails p tau (cap - b)
 
 abbrev pub RunsFail : Type 0
-RunsFail = (bound : ℕ) (alpha eta tau : Float) (s : ℕ) → (run bound alpha eta tau ≡ failed s) ↔ ((lt 0ᶠ tau ≡ true) × RunFails (fixed bound alpha eta) tau s)
+RunsFail = (bound : ℕ) (alpha beta eta tau : Float) (s : ℕ) → (run bound alpha beta eta tau ≡ failed s) ↔ ((lt 0ᶠ tau ≡ true) × RunFails (fixed bound alpha beta eta) tau s)
 
 -- ---- why a run reports the cap: a plan does not fail, and the steps that it needs, those reported, are above the budget left
 pub record CapReported (p : Fixed) (tau need : Float) (b : ℕ) : Type 0 where
@@ -118,5 +119,5 @@ pub record CapReported (p : Fixed) (tau need : Float) (b : ℕ) : Type 0 where
   pub above : T (lt (whole (pos b)) need)
 
 abbrev pub CapReports : Type 0
-CapReports = (bound : ℕ) (alpha eta tau need : Float) (b : ℕ)
-    → (run bound alpha eta tau ≡ overCap need b) ↔ ((lt 0ᶠ tau ≡ true) × CapReported (fixed bound alpha eta) tau need b)
+CapReports = (bound : ℕ) (alpha beta eta tau need : Float) (b : ℕ)
+    → (run bound alpha beta eta tau ≡ overCap need b) ↔ ((lt 0ᶠ tau ≡ true) × CapReported (fixed bound alpha beta eta) tau need b)

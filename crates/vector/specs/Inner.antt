@@ -13,7 +13,7 @@ use Rattle.elementary.specs.Elementary.{LN, orNan}
 use Rattle.vector.specs.Refusals.{numerical}
 use Rattle.vector.specs.Vectors.{tab, at, fill, every, fold, smaller}
 use Rattle.vector.specs.Series.{Operator, term, plus, converged}
-use Rattle.vector.specs.Run.{Ended, vector, overCap, failed, Fixed, Going, going, cap, norm, needed, begin, rebalances, runOn}
+use Rattle.vector.specs.Run.{Ended, vector, overCap, failed, Fixed, fixedOver, Going, going, cap, norm, needed, begin, rebalances, runOn}
 use Rattle.vector.specs.Values.{blankVector, refusedVector}
 use Rattle.vector.specs.declared.ValueVector.{ValueVector}
 use Rattle.vector.specs.declared.VectorAnswer.{VectorAnswer}
@@ -27,9 +27,6 @@ use Rattle.vector.specs.declared.run.Pace.{Pace}
 
 abbrev pub operatorOver : ℕ → List Float → List Float → List Float → Operator
 operatorOver n d l r = record { n = n; diagonal = d; left = l; right = r }
-
-abbrev pub fixedOver : ℕ → List Float → Float → Fixed
-fixedOver n d eta = record { n = n; diagonal = d; eta = eta }
 
 abbrev pub goingOver : List Float → List Float → List Float → List Float → Float → Float → ℕ → Going
 goingOver w o left right dt remaining steps = record { w = w; o = o; left = left; right = right; dt = dt; remaining = remaining; steps = steps }

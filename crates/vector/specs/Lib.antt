@@ -5,6 +5,7 @@ pub mod Late
 pub mod Run
 pub mod Values
 pub mod Count
+pub mod Drift
 pub mod Inner
 pub mod Promises
 pub mod Causes

@@ -1,28 +1,29 @@
 -- What holds of every run, as named statements. Each is proved once, in proofs/. Definitions only.
 use mathlib.Core.Path.{_≡_}
 use Prim.Native.Nat.{ℕ, suc, _+_, _≤_}
-use mathlib.Core.Bool.{Bool}
+use mathlib.Core.Bool.{Bool, true}
 use mathlib.Core.List.{List}
 use lib.ListN.{length}
-use lib.Ieee.{Float}
+use lib.Ieee.{Float, neg}
 use Rattle.elementary.specs.Float.{_⊕_, _⊗_, 1ᶠ}
 use Rattle.elementary.specs.Reply.{value}
 use Rattle.elementary.specs.Elementary.{LN, orNan}
 use Rattle.vector.specs.Vectors.{at, tab, fill}
 use Rattle.vector.specs.Series.{taylorStep}
-use Rattle.vector.specs.Run.{Ended, vector, overCap, failed, Fixed, Going, going, ended, cap, rows, run, runFor, turn, stepOperator, divided, spent}
+use Rattle.vector.specs.Run.{Ended, vector, overCap, failed, Fixed, fixedOver, Going, going, ended, cap, boundOk, rows, run, runFor, turn, stepOperator, divided, spent}
+use Rattle.vector.specs.Values.{ratesOk}
 
 -- ---- the steps: never more than 11,000
 abbrev pub StepsWithin : Type 0
-StepsWithin = (bound : ℕ) (alpha eta tau : Float) → spent (run bound alpha eta tau) ≤ cap
+StepsWithin = (bound : ℕ) (alpha beta eta tau : Float) → spent (run bound alpha beta eta tau) ≤ cap
 
 -- a report leaves no more than the whole budget
 abbrev pub BudgetWithin : Type 0
-BudgetWithin = (bound : ℕ) (alpha eta tau need : Float) (b : ℕ) → run bound alpha eta tau ≡ overCap need b → b ≤ cap
+BudgetWithin = (bound : ℕ) (alpha beta eta tau need : Float) (b : ℕ) → run bound alpha beta eta tau ≡ overCap need b → b ≤ cap
 
 -- ---- a finished run has a weight and an offset for each row
 abbrev pub FullLength : Type 0
-FullLength = (bound : ℕ) (alpha eta tau : Float) (w o : List Float) (s : ℕ) → run bound alpha eta tau ≡ vector w o s → (length w ≡ rows bound) × (length o ≡ rows bound)
+FullLength = (bound : ℕ) (alpha beta eta tau : Float) (w o : List Float) (s : ℕ) → run bound alpha beta eta tau ≡ vector w o s → (length w ≡ rows bound) × (length o ≡ rows bound)
 
 -- ---- each step is the Taylor sum of the weights before it, divided by its largest entry
 -- the weights and offsets after a step whose sum is v: as divided, or rebalanced
@@ -55,8 +56,9 @@ MirrorEnd n (failed s) (failed s′) = s ≡ s′
 -- two runs whose diagonals mirror each other end alike: weights and offsets mirrored, steps, reports and refusals equal
 abbrev pub MirrorRuns : Type 0
 MirrorRuns = (n : ℕ) (d d′ : List Float) (eta : Float) → Mirror n d d′ → (later : Bool) (tau : Float)
-    → MirrorEnd n (runFor later (record { n = n; diagonal = d; eta = eta }) tau) (runFor later (record { n = n; diagonal = d′; eta = eta }) tau)
+    → MirrorEnd n (runFor later (fixedOver n d eta) tau) (runFor later (fixedOver n d′ eta) tau)
 
--- the diagonal at q lots is that at minus q, so every run is its own mirror image
-abbrev pub OwnMirror : Type 0
-OwnMirror = (bound : ℕ) (alpha eta tau : Float) → MirrorEnd (rows bound) (run bound alpha eta tau) (run bound alpha eta tau)
+-- the diagonal at q lots and beta is that at minus q and minus beta, so a run and the one with the drift turned are mirror images
+abbrev pub TurnedMirror : Type 0
+TurnedMirror = (bound : ℕ) (alpha beta eta tau : Float) → boundOk bound ≡ true → ratesOk alpha beta eta tau ≡ true
+    → MirrorEnd (rows bound) (run bound alpha beta eta tau) (run bound alpha (neg beta) eta tau)

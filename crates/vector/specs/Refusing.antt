@@ -13,10 +13,10 @@ use Rattle.vector.specs.Causes.{RunFails}
 use Rattle.vector.specs.declared.Outcome.the-variants as Outcome
 
 -- in order: the floats, the bound, and a run that fails
-pub data VectorRefused (alpha eta : Float) (bound : ℕ) (tau : Float) : ℕ → Type 0 where
-  by-5 : ratesOk alpha eta tau ≡ false → VectorRefused alpha eta bound tau outside
-  by-1 : ratesOk alpha eta tau ≡ true → boundOk bound ≡ false → VectorRefused alpha eta bound tau configuration
-  by-11 : {s : ℕ} → ratesOk alpha eta tau ≡ true → boundOk bound ≡ true → lt 0ᶠ tau ≡ true → RunFails (fixed bound alpha eta) tau s → VectorRefused alpha eta bound tau numerical
+pub data VectorRefused (alpha beta eta : Float) (bound : ℕ) (tau : Float) : ℕ → Type 0 where
+  by-5 : ratesOk alpha beta eta tau ≡ false → VectorRefused alpha beta eta bound tau outside
+  by-1 : ratesOk alpha beta eta tau ≡ true → boundOk bound ≡ false → VectorRefused alpha beta eta bound tau configuration
+  by-11 : {s : ℕ} → ratesOk alpha beta eta tau ≡ true → boundOk bound ≡ true → lt 0ᶠ tau ≡ true → RunFails (fixed bound alpha beta eta) tau s → VectorRefused alpha beta eta bound tau numerical
 
 abbrev pub VectorRefusals : Type 0
-VectorRefusals = (alpha eta : Float) (bound : ℕ) (tau : Float) (n : ℕ) → (valueVector alpha eta bound tau .outcome ≡ Outcome.Refused n) ↔ VectorRefused alpha eta bound tau n
+VectorRefusals = (alpha beta eta : Float) (bound : ℕ) (tau : Float) (n : ℕ) → (valueVector alpha beta eta bound tau .outcome ≡ Outcome.Refused n) ↔ VectorRefused alpha beta eta bound tau n

@@ -8,7 +8,7 @@ use lib.Ieee.{Float, inf, lt, le, toUnsigned}
 use Rattle.elementary.specs.Float.{_⊕_, _⊖_, _⊗_, _⊘_, hex, whole, 0ᶠ, 1ᶠ, 2ᶠ, finite, positive}
 use Rattle.elementary.specs.Reply.{Reply, value, refusal}
 use Rattle.elementary.specs.Elementary.{LN, CEIL, orNan}
-use Rattle.vector.specs.Vectors.{tab, at, fill, every, fold, larger, smaller}
+use Rattle.vector.specs.Vectors.{tab, at, fill, every, fold, larger, smaller, abs}
 use Rattle.vector.specs.Series.{Operator, diagonalAt, leftAt, rightAt, taylorStep}
 
 -- the step budget, and the largest bound
@@ -30,11 +30,19 @@ pub data Ended : Type 0 where
   overCap : Float → ℕ → Ended
   failed : ℕ → Ended
 
--- what stays through a run
+-- what stays through a run; the sizes are what the norm takes of the diagonal
 pub record Fixed : Type 0 where
   pub n : ℕ
   pub diagonal : List Float
+  pub sizes : List Float
   pub eta : Float
+
+-- over n rows: the magnitude of each entry of the diagonal
+unfoldable pub magnitudes : ℕ → List Float → List Float
+magnitudes n d = tab n (λ i. abs (at d i))
+
+abbrev pub fixedOver : ℕ → List Float → Float → Fixed
+fixedOver n d eta = record { n = n; diagonal = d; sizes = magnitudes n d; eta = eta }
 
 -- a run between two steps: so many of length dt are planned for the time that remains
 pub record Going : Type 0 where
@@ -51,9 +59,9 @@ pub data Turn : Type 0 where
   ended : Ended → Turn
 
 -- ---- the plan
--- the largest over all rows of diagonal + eta × (left + right)
+-- the largest over all rows of the diagonal's magnitude + eta × (left + right)
 unfoldable pub norm : Fixed → List Float → List Float → Float
-norm p left right = fold larger 0ᶠ (tab (p .n) (λ i. at (p .diagonal) i ⊕ p .eta ⊗ (at left i ⊕ at right i)))
+norm p left right = fold larger 0ᶠ (tab (p .n) (λ i. at (p .sizes) i ⊕ p .eta ⊗ (at left i ⊕ at right i)))
 
 -- time × norm / 2.0, rounded up, at least 1.0
 unfoldable pub needed : Float → Float
@@ -118,20 +126,31 @@ runOn (suc b) p (ended r) = r
 runOn zero p (going g) = failed cap
 runOn (suc b) p (going g) = runOn b p (turn p b g)
 
-unfoldable pub fixed : ℕ → Float → Float → Fixed
-fixed bound alpha eta = record { n = rows bound; diagonal = tab (rows bound) (diagonalAt bound alpha eta); eta = eta }
+unfoldable pub fixed : ℕ → Float → Float → Float → Fixed
+fixed bound alpha beta eta = fixedOver (rows bound) (tab (rows bound) (diagonalAt bound alpha beta eta)) eta
 
 -- where a run begins: the first plan, over all rows and with the whole budget
+abbrev pub wholePlan : Fixed → Float → Turn
+wholePlan p tau = begin p cap (fill (p .n) 1ᶠ) (fill (p .n) 0ᶠ) tau
+
+-- is every entry of the diagonal finite
+abbrev pub diagonalFinite : Fixed → Bool
+diagonalFinite p = every (p .n) (λ i. finite (at (p .diagonal) i))
+
+unfoldable pub firstIf : Bool → Fixed → Float → Turn
+firstIf false p tau = ended (failed 0)
+firstIf true p tau = wholePlan p tau
+
 abbrev pub firstTurn : Fixed → Float → Turn
-firstTurn p tau = begin p cap (fill (p .n) 1ᶠ) (fill (p .n) 0ᶠ) tau
+firstTurn p tau = firstIf (diagonalFinite p) p tau
 
 -- is tau above zero
 unfoldable pub runFor : Bool → Fixed → Float → Ended
 runFor false p tau = vector (fill (p .n) 1ᶠ) (fill (p .n) 0ᶠ) 0
 runFor true p tau = runOn cap p (firstTurn p tau)
 
-unfoldable pub run : ℕ → Float → Float → Float → Ended
-run bound alpha eta tau = runFor (lt 0ᶠ tau) (fixed bound alpha eta) tau
+unfoldable pub run : ℕ → Float → Float → Float → Float → Ended
+run bound alpha beta eta tau = runFor (lt 0ᶠ tau) (fixed bound alpha beta eta) tau
 
 -- the finished steps, under a report and a refusal too
 unfoldable pub spent : Ended → ℕ

@@ -12,9 +12,9 @@ use Rattle.vector.specs.Refusals.{numerical}
 use Rattle.vector.specs.Vectors.{tab, at, before, after, every, abs}
 
 -- ---- row i is the holding of i - bound lots
--- (alpha × q) × q + 2 × eta
-unfoldable pub diagonalAt : ℕ → Float → Float → ℕ → Float
-diagonalAt bound alpha eta i = let q = whole (minus i bound) in alpha ⊗ q ⊗ q ⊕ 2ᶠ ⊗ eta
+-- ((alpha × q) × q - beta × q) + 2 × eta
+unfoldable pub diagonalAt : ℕ → Float → Float → Float → ℕ → Float
+diagonalAt bound alpha beta eta i = let q = whole (minus i bound) in alpha ⊗ q ⊗ q ⊖ beta ⊗ q ⊕ 2ᶠ ⊗ eta
 
 -- EXP of the neighbour's offset minus one's own; 0.0 past an end. A NaN where EXP refuses.
 unfoldable pub leftAt : List Float → ℕ → Float

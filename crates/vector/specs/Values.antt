@@ -37,14 +37,14 @@ vectorBy n (overCap need b) = record { outcome = Outcome.OverCap need b (cap - b
 vectorBy n (failed s) = refusedVector numerical
 
 -- are the floats fine, is the bound
-unfoldable pub vectorIf : Bool → Bool → Float → Float → ℕ → Float → VectorAnswer
-vectorIf false b alpha eta bound tau = refusedVector outside
-vectorIf true false alpha eta bound tau = refusedVector configuration
-vectorIf true true alpha eta bound tau = vectorBy (rows bound) (run bound alpha eta tau)
+unfoldable pub vectorIf : Bool → Bool → Float → Float → Float → ℕ → Float → VectorAnswer
+vectorIf false b alpha beta eta bound tau = refusedVector outside
+vectorIf true false alpha beta eta bound tau = refusedVector configuration
+vectorIf true true alpha beta eta bound tau = vectorBy (rows bound) (run bound alpha beta eta tau)
 
--- alpha and eta finite and above zero, tau finite
-unfoldable pub ratesOk : Float → Float → Float → Bool
-ratesOk alpha eta tau = positive alpha && positive eta && finite tau
+-- alpha and eta finite and above zero, beta and tau finite
+unfoldable pub ratesOk : Float → Float → Float → Float → Bool
+ratesOk alpha beta eta tau = positive alpha && finite beta && positive eta && finite tau
 
-unfoldable pub valueVector : Float → Float → ℕ → Float → VectorAnswer
-valueVector alpha eta bound tau = vectorIf (ratesOk alpha eta tau) (boundOk bound) alpha eta bound tau
+unfoldable pub valueVector : Float → Float → Float → ℕ → Float → VectorAnswer
+valueVector alpha beta eta bound tau = vectorIf (ratesOk alpha beta eta tau) (boundOk bound) alpha beta eta bound tau

@@ -1,11 +1,15 @@
-// The first plan of a run, from two of its rows: nothing is filled and nothing is run.
+// The first plan of a run, before anything runs: from two of its rows where there is no drift, and
+// from all of them else.
 ghost use mathlib.Core.Path.{_≡_};
+ghost use Prim.Native.Nat.{_-_, _≤_};
 ghost use mathlib.Core.Bool.{true};
-ghost use lib.Ieee.{lt};
-ghost use Rattle.elementary.specs.Float.{0ᶠ, positive};
-ghost use Rattle.vector.specs.Run.{cap, boundOk, fixed};
-ghost use Rattle.vector.specs.Count.{planWhen, firstNorm, rowSum};
-ghost use Rattle.vector.specs.Inner.{planFor, aheadOf};
+ghost use lib.ListN.{length};
+ghost use lib.Ieee.{eq, lt};
+ghost use Rattle.elementary.specs.Float.{0ᶠ, 1ᶠ, 2ᶠ, positive};
+ghost use Rattle.vector.specs.Vectors.{larger};
+ghost use Rattle.vector.specs.Run.{boundOk, fixedOver, fixed, wholePlan, firstTurn};
+ghost use Rattle.vector.specs.Count.{planIn, planWhen, rowSum};
+ghost use Rattle.vector.specs.Inner.{aheadOf};
 use crate::FirstPlan;
 use crate::MAX_EXPM_STEPS;
 use crate::plan::Planned;
@@ -22,36 +26,81 @@ fn row_sum(alpha: f64, eta: f64, lots: u32, factors: f64) -> f64
 // The largest row sum: that of the end row, which has one neighbour, or of the row next to it, which
 // has two.
 fn norm_at_first(alpha: f64, eta: f64, bound: u32) -> f64
-    requires { ⌜ (boundOk bound ≡ true) × (positive alpha ≡ true) × (positive eta ≡ true) ⌝ }
-    ensures { λ r. ⌜ r ≡ firstNorm (fixed bound alpha eta) ⌝ }
+    requires { ⌜ 1 ≤ bound ⌝ }
+    ensures { λ r. ⌜ r ≡ larger (rowSum alpha eta bound 1ᶠ) (rowSum alpha eta (bound - 1) 2ᶠ) ⌝ }
 {
     let end = row_sum(alpha, eta, bound, 1.0);
     let next = row_sum(alpha, eta, bound - 1, 2.0);
     crate::reals::larger_of(end, next)
 }
 
-// The plan for a norm times a time, with the whole budget.
-fn whole_plan(size: f64, tau: f64) -> FirstPlan
-    ensures { λ r. ⌜ r ≡ aheadOf (planFor size tau cap) ⌝ }
+// A plan with the whole budget, as a first plan.
+fn ahead(plan: Planned) -> FirstPlan
+    ensures { λ r. ⌜ r ≡ aheadOf plan ⌝ }
 {
-    match crate::plan::plan_for(size, tau, MAX_EXPM_STEPS) {
+    match plan {
         Planned::Steps(steps, _) => FirstPlan::Steps(steps),
         Planned::OverCap(need) => FirstPlan::OverCap(need, MAX_EXPM_STEPS),
         Planned::Refused => FirstPlan::Refused(NUMERICAL),
     }
 }
 
+// The first plan without a drift, over a time above zero, from two rows.
+fn plan_of_two(alpha: f64, beta: f64, eta: f64, bound: u32, tau: f64) -> FirstPlan
+    requires { ⌜ (boundOk bound ≡ true) × (positive alpha ≡ true) × (eq beta 0ᶠ ≡ true) × (positive eta ≡ true) ⌝ }
+    ensures { λ r. ⌜ r ≡ planIn (firstTurn (fixed bound alpha beta eta) tau) ⌝ }
+{
+    let size = tau * norm_at_first(alpha, eta, bound);
+    if elementary::is_positive_finite(size) {
+        return ahead(crate::plan::plan_for(size, tau, MAX_EXPM_STEPS));
+    }
+    FirstPlan::Refused(NUMERICAL)
+}
+
+// The first plan over n rows of a diagonal that is finite.
+fn plan_of_rows(diag: &[f64], eta: f64, tau: f64, n: usize) -> FirstPlan
+    requires { ⌜ (n ≤ 401) × (length (now diag) ≡ n) ⌝ }
+    ensures { λ r. ⌜ r ≡ planIn (wholePlan (fixedOver n (now (diag .entry)) eta) tau) ⌝ }
+{
+    let o = crate::run::zeros();
+    let mut left = crate::run::zeros();
+    let mut right = crate::run::zeros();
+    if crate::operator::set_factors(&o[..n], &mut left[..n], &mut right[..n]) {
+        return ahead(crate::plan::plan_over(
+            tau,
+            diag,
+            eta,
+            &left[..n],
+            &right[..n],
+            MAX_EXPM_STEPS,
+        ));
+    }
+    FirstPlan::Refused(NUMERICAL)
+}
+
+// The first plan over a time above zero, from all rows.
+fn plan_of_all(alpha: f64, beta: f64, eta: f64, bound: u32, tau: f64) -> FirstPlan
+    requires { ⌜ (1 ≤ bound) × (bound ≤ 200) ⌝ }
+    ensures { λ r. ⌜ r ≡ planIn (firstTurn (fixed bound alpha beta eta) tau) ⌝ }
+{
+    let n = (2 * bound + 1) as usize;
+    let mut diag = crate::run::zeros();
+    if crate::operator::fill_shifted_diagonal(alpha, beta, eta, bound, &mut diag[..n]) {
+        return plan_of_rows(&diag[..n], eta, tau, n);
+    }
+    FirstPlan::Refused(NUMERICAL)
+}
+
 // The first plan where the numbers pass the checks.
-pub(crate) fn plan_within(alpha: f64, eta: f64, bound: u32, tau: f64) -> FirstPlan
+pub(crate) fn plan_within(alpha: f64, beta: f64, eta: f64, bound: u32, tau: f64) -> FirstPlan
     requires { ⌜ (boundOk bound ≡ true) × (positive alpha ≡ true) × (positive eta ≡ true) ⌝ }
-    ensures { λ r. ⌜ r ≡ planWhen (lt 0ᶠ tau) (fixed bound alpha eta) tau ⌝ }
+    ensures { λ r. ⌜ r ≡ planWhen (lt 0ᶠ tau) (fixed bound alpha beta eta) tau ⌝ }
 {
     if 0.0 < tau {
-        let size = tau * norm_at_first(alpha, eta, bound);
-        if elementary::is_positive_finite(size) {
-            return whole_plan(size, tau);
+        if beta == 0.0 {
+            return plan_of_two(alpha, beta, eta, bound, tau);
         }
-        return FirstPlan::Refused(NUMERICAL);
+        return plan_of_all(alpha, beta, eta, bound, tau);
     }
     FirstPlan::Steps(0)
 }

@@ -63,13 +63,14 @@ pub fn must_rebalance(smallest: f64, steps: u32) -> bool
     (0 < steps) & (smallest < REBALANCE_FLOOR)
 }
 
-// The value vector at tau seconds before the end: refused by 5, then 1, then 11.
-pub fn value_vector(alpha: f64, eta: f64, bound: u32, tau: f64) -> VectorAnswer
-    ensures { λ r. ⌜ r ≡ valueVector alpha eta bound tau ⌝ }
+// The value vector at tau seconds before the end, beta being what the drift makes a second: refused
+// by 5, then 1, then 11.
+pub fn value_vector(alpha: f64, beta: f64, eta: f64, bound: u32, tau: f64) -> VectorAnswer
+    ensures { λ r. ⌜ r ≡ valueVector alpha beta eta bound tau ⌝ }
 {
-    if run::floats_fit(alpha, eta, tau) {
+    if run::floats_fit(alpha, beta, eta, tau) {
         if run::bound_fits(bound) {
-            return run::run_vector(run::blank(), alpha, eta, bound, tau);
+            return run::run_vector(run::blank(), alpha, beta, eta, bound, tau);
         }
         return run::refused_vector(refusals::CONFIGURATION);
     }
@@ -78,12 +79,12 @@ pub fn value_vector(alpha: f64, eta: f64, bound: u32, tau: f64) -> VectorAnswer
 
 // The first plan of the run that `value_vector` makes, before anything runs; 0 steps where no time is
 // left. Refused by 5, then 1, then 11.
-pub fn first_plan(alpha: f64, eta: f64, bound: u32, tau: f64) -> FirstPlan
-    ensures { λ r. ⌜ r ≡ firstPlan alpha eta bound tau ⌝ }
+pub fn first_plan(alpha: f64, beta: f64, eta: f64, bound: u32, tau: f64) -> FirstPlan
+    ensures { λ r. ⌜ r ≡ firstPlan alpha beta eta bound tau ⌝ }
 {
-    if run::floats_fit(alpha, eta, tau) {
+    if run::floats_fit(alpha, beta, eta, tau) {
         if run::bound_fits(bound) {
-            return count::plan_within(alpha, eta, bound, tau);
+            return count::plan_within(alpha, beta, eta, bound, tau);
         }
         return FirstPlan::Refused(refusals::CONFIGURATION);
     }

@@ -12,18 +12,30 @@ ghost use Rattle.vector.specs.Series.{diagonalAt, leftAt, rightAt};
 ghost use Rattle.vector.specs.Run.{rows};
 ghost use Rattle.vector.specs.Inner.{OneAt, Ones};
 
-// The diagonal a second: alpha q^2 + 2 eta, for q from -bound to bound.
-pub(crate) fn fill_shifted_diagonal(alpha: f64, eta: f64, bound: u32, diag: &mut [f64])
+// The diagonal a second: alpha q^2 - beta q + 2 eta, for q from -bound to bound; and whether all of
+// it is finite.
+pub(crate) fn fill_shifted_diagonal(
+    alpha: f64,
+    beta: f64,
+    eta: f64,
+    bound: u32,
+    diag: &mut [f64],
+) -> bool
     requires { ⌜ (bound ≤ 200) × (length (now diag) ≡ rows bound) ⌝ }
-    ensures { λ _. ⌜ now (diag .exit) ≡ tab (rows bound) (diagonalAt bound alpha eta) ⌝ }
+    ensures { λ _. ⌜ now (diag .exit) ≡ tab (rows bound) (diagonalAt bound alpha beta eta) ⌝ }
+    ensures { λ r. ⌜ r ≡ every (rows bound) (λ i. finite (at (now (diag .exit)) i)) ⌝ }
 {
+    let mut all = true;
     let mut q = 0.0 - (bound as f64);
     let mut i: usize = 0;
     while i < diag.len() {
-        diag[i] = (alpha * q) * q + 2.0 * eta;
+        let d = ((alpha * q) * q - beta * q) + 2.0 * eta;
+        diag[i] = d;
+        all = all & elementary::is_finite(d);
         q = q + 1.0;
         i += 1;
     }
+    all
 }
 
 // The diagonal of one step.

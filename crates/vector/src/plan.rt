@@ -4,8 +4,8 @@ ghost use Prim.Native.Nat.{_≤_};
 ghost use lib.ListN.{length};
 ghost use lib.Dec.{T};
 ghost use Rattle.elementary.specs.Float.{positive};
-ghost use Rattle.vector.specs.Run.{norm, needed};
-ghost use Rattle.vector.specs.Inner.{fixedOver, planFor, planOf};
+ghost use Rattle.vector.specs.Run.{norm, needed, fixedOver};
+ghost use Rattle.vector.specs.Inner.{planFor, planOf};
 
 const STEP_NORM: f64 = 2.0;
 
@@ -22,7 +22,7 @@ pub(crate) struct Factors<'a> {
     pub(crate) right: &'a [f64],
 }
 
-// The largest row sum.
+// The largest row sum, of the diagonal's magnitude and what its neighbours take.
 fn norm_of(diag_s: &[f64], eta: f64, left: &[f64], right: &[f64]) -> f64
     requires { ⌜ (length (now left) ≡ length (now «diag_s»)) × (length (now right) ≡ length (now «diag_s»)) ⌝ }
     ensures { λ r. ⌜ r ≡ norm (fixedOver (length (now («diag_s» .entry))) (now («diag_s» .entry)) eta) (now (left .entry)) (now (right .entry)) ⌝ }
@@ -30,7 +30,8 @@ fn norm_of(diag_s: &[f64], eta: f64, left: &[f64], right: &[f64]) -> f64
     let mut norm = 0.0;
     let mut i: usize = 0;
     while i < diag_s.len() {
-        let sum = diag_s[i] + eta * (left[i] + right[i]);
+        let d = diag_s[i];
+        let sum = crate::reals::magnitude(d) + eta * (left[i] + right[i]);
         if norm < sum {
             norm = sum;
         }
@@ -60,7 +61,7 @@ pub(crate) fn plan_for(size: f64, tau: f64, budget: u32) -> Planned
 }
 
 // The work of `plan`, over the factors' slices.
-fn plan_over<'a>(
+pub(crate) fn plan_over<'a>(
     tau: f64,
     diag_s: &[f64],
     eta: f64,

@@ -1,13 +1,19 @@
-// Single floats: the larger of two, and the elementary functions with a NaN for a refusal, which
-// what reads it tests for later.
+// Single floats: the larger of two, the magnitude of one, and the elementary functions with a NaN
+// for a refusal, which what reads it tests for later.
 ghost use mathlib.Core.Path.{_≡_};
 ghost use Rattle.elementary.specs.Elementary.{LN, EXP, CEIL, orNan};
-ghost use Rattle.vector.specs.Vectors.{larger};
+ghost use Rattle.vector.specs.Vectors.{larger, abs};
 
 pub(crate) fn larger_of(x: f64, y: f64) -> f64
     ensures { λ r. ⌜ r ≡ larger x y ⌝ }
 {
     if x < y { y } else { x }
+}
+
+pub(crate) fn magnitude(x: f64) -> f64
+    ensures { λ r. ⌜ r ≡ abs x ⌝ }
+{
+    if x < 0.0 { -x } else { x }
 }
 
 pub(crate) fn exp_or_nan(x: f64) -> f64

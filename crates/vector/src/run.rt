@@ -8,9 +8,9 @@ ghost use mathlib.Core.Bool.{true, false, not};
 ghost use Rattle.elementary.specs.Float.{_⊕_, _⊗_, _⊘_, 0ᶠ, 1ᶠ, positive};
 ghost use Rattle.elementary.specs.Elementary.{LN, orNan};
 ghost use Rattle.vector.specs.Vectors.{tab, at, fill, every, fold, larger, smaller};
-ghost use Rattle.vector.specs.Run.{boundOk, rows, cap, run, runOn, begin, divided, rebalances};
+ghost use Rattle.vector.specs.Run.{boundOk, rows, cap, run, runOn, begin, divided, rebalances, fixedOver};
 ghost use Rattle.vector.specs.Values.{blankVector, vectorOf, refusedVector, vectorBy, ratesOk};
-ghost use Rattle.vector.specs.Inner.{fixedOver, outcomeWith, pacedOf, askedOf, stoppedOf, refusedPace, endBy, Sizes, Fit, AfterIs, BegunIs, PlanSpent, Between, weight, EndIs};
+ghost use Rattle.vector.specs.Inner.{outcomeWith, pacedOf, askedOf, stoppedOf, refusedPace, endBy, Sizes, Fit, AfterIs, BegunIs, PlanSpent, Between, weight, EndIs};
 use crate::MAX_DIM;
 use crate::MAX_EXPM_STEPS;
 use crate::MAX_INVENTORY_LOTS;
@@ -286,7 +286,7 @@ fn run_plans(w: &mut [f64], o: &mut [f64], diag_s: &[f64], eta: f64, tau: f64, n
 }
 
 // A name for the array keeps its 401 entries out of the goals.
-fn zeros() -> [f64; MAX_DIM]
+pub(crate) fn zeros() -> [f64; MAX_DIM]
     ensures { λ r. ⌜ r ≡ fill 401 0ᶠ ⌝ }
 {
     [0.0; MAX_DIM]
@@ -330,11 +330,12 @@ fn answer_of(outcome: Outcome, vector: ValueVector) -> VectorAnswer
     }
 }
 
-// Whether alpha and eta are finite and above zero, and tau is finite.
-pub(crate) fn floats_fit(alpha: f64, eta: f64, tau: f64) -> bool
-    ensures { λ r. ⌜ r ≡ ratesOk alpha eta tau ⌝ }
+// Whether alpha and eta are finite and above zero, and beta and tau are finite.
+pub(crate) fn floats_fit(alpha: f64, beta: f64, eta: f64, tau: f64) -> bool
+    ensures { λ r. ⌜ r ≡ ratesOk alpha beta eta tau ⌝ }
 {
     elementary::is_positive_finite(alpha)
+        & elementary::is_finite(beta)
         & elementary::is_positive_finite(eta)
         & elementary::is_finite(tau)
 }
@@ -361,42 +362,46 @@ fn at_end(blank: ValueVector, n: usize) -> ValueVector
     v
 }
 
-// Takes a vector from the end of the time back over tau seconds, above zero.
-fn run_back(v: ValueVector, alpha: f64, eta: f64, bound: u32, tau: f64) -> VectorAnswer
+// Takes a vector from the end of the time back over tau seconds, above zero: refused by 11 at once
+// where an entry of the diagonal is not finite.
+fn run_back(v: ValueVector, alpha: f64, beta: f64, eta: f64, bound: u32, tau: f64) -> VectorAnswer
     requires { ⌜ (1 ≤ bound) × (bound ≤ 200) × (lt 0ᶠ tau ≡ true) ⌝ }
     requires { ⌜ v ≡ vectorOf (rows bound) (fill (rows bound) 1ᶠ) (fill (rows bound) 0ᶠ) ⌝ }
-    ensures { λ r. ⌜ r ≡ vectorBy (rows bound) (run bound alpha eta tau) ⌝ }
+    ensures { λ r. ⌜ r ≡ vectorBy (rows bound) (run bound alpha beta eta tau) ⌝ }
 {
     let n = (2 * bound + 1) as usize;
     let mut w = v.w;
     let mut o = v.log_offset;
     let mut diag_s = zeros();
-    crate::operator::fill_shifted_diagonal(alpha, eta, bound, &mut diag_s[..n]);
-    let outcome = run_plans(&mut w[..n], &mut o[..n], &diag_s[..n], eta, tau, n);
-    answer_of(
-        outcome,
-        ValueVector {
-            w,
-            log_offset: o,
-            n,
-        },
-    )
+    if crate::operator::fill_shifted_diagonal(alpha, beta, eta, bound, &mut diag_s[..n]) {
+        let outcome = run_plans(&mut w[..n], &mut o[..n], &diag_s[..n], eta, tau, n);
+        return answer_of(
+            outcome,
+            ValueVector {
+                w,
+                log_offset: o,
+                n,
+            },
+        );
+    }
+    refused_vector(NUMERICAL)
 }
 
 // Takes a blank vector to tau seconds before the end and hands it back filled.
 pub(crate) fn run_vector(
     blank: ValueVector,
     alpha: f64,
+    beta: f64,
     eta: f64,
     bound: u32,
     tau: f64,
 ) -> VectorAnswer
     requires { ⌜ (blank ≡ blankVector) × (1 ≤ bound) × (bound ≤ 200) ⌝ }
-    ensures { λ r. ⌜ r ≡ vectorBy (rows bound) (run bound alpha eta tau) ⌝ }
+    ensures { λ r. ⌜ r ≡ vectorBy (rows bound) (run bound alpha beta eta tau) ⌝ }
 {
     let v = at_end(blank, (2 * bound + 1) as usize);
     if 0.0 < tau {
-        return run_back(v, alpha, eta, bound, tau);
+        return run_back(v, alpha, beta, eta, bound, tau);
     }
     VectorAnswer {
         outcome: Outcome::Done(0),

@@ -4,7 +4,7 @@ ghost use Prim.Native.Nat.{_≤_};
 ghost use mathlib.Core.Bool.{true};
 ghost use lib.ListN.{length};
 ghost use Rattle.elementary.specs.Float.{positive};
-ghost use Rattle.vector.specs.Vectors.{at, every, abs};
+ghost use Rattle.vector.specs.Vectors.{at, every};
 ghost use Rattle.vector.specs.Series.{small, converged, taylorStep};
 ghost use Rattle.vector.specs.Inner.{operatorOver, Made, Sizes, Fit, Ones, StepIs};
 
@@ -12,17 +12,11 @@ const TAYLOR_TOL: f64 = 1e-16;
 
 const MAX_TAYLOR_ORDER: u32 = 100;
 
-fn magnitude(x: f64) -> f64
-    ensures { λ r. ⌜ r ≡ abs x ⌝ }
-{
-    if x < 0.0 { -x } else { x }
-}
-
 // Whether t is at most 1e-16 of s in magnitude.
 fn is_small(t: f64, s: f64) -> bool
     ensures { λ r. ⌜ r ≡ small s t ⌝ }
 {
-    magnitude(t) <= TAYLOR_TOL * magnitude(s)
+    crate::reals::magnitude(t) <= TAYLOR_TOL * crate::reals::magnitude(s)
 }
 
 // Whether every entry of a term is small beside its sum.

@@ -38,7 +38,7 @@ fn put_outcome(out: &mut [u8], start: usize, outcome: Outcome) -> usize {
 }
 
 fn put_run(out: &mut [u8], start: usize, alpha: f64, eta: f64, bound: u32, tau: f64) -> usize {
-    let a = vector::value_vector(alpha, eta, bound, tau);
+    let a = vector::value_vector(alpha, 0.0, eta, bound, tau);
     let outcome = a.outcome;
     let at = put_outcome(out, start, outcome);
     put(out, at, b"\n")

@@ -29,17 +29,21 @@ word-at-requires-2 c κs = search needs
 amount-at-requires-5 : tie.Need-amount-at-requires-5
 amount-at-requires-5 c κs = search needs
 
+amount-at-requires-6 : tie.Need-amount-at-requires-6
+amount-at-requires-6 c κs = search needs
+
 returns : tie.Need-returns
 unfolding configAt
 returns c =
-    let w2 = c .before in
+    let a5 = c .before in
+    let w2 = a5 .before in
     let a4 = w2 .before in
     let b = a4 .before in
     let w = b .before in
     let a3 = w .before in
     let a2 = a3 .before in
     let a1 = a2 .before in
-    rw (kept _ (a1 .amount-at .ok), kept _ (a2 .amount-at2 .ok), kept _ (a3 .amount-at3 .ok), kept _ (a4 .amount-at4 .ok), kept _ (c .amount-at5 .ok), a1 .amount-at .ensures, a2 .amount-at2 .ensures, a3 .amount-at3 .ensures, b .bound-of .ensures, w .word-at .ensures, a4 .amount-at4 .ensures, w2 .word-at2 .ensures, c .amount-at5 .ensures)
+    rw (kept _ (a1 .amount-at .ok), kept _ (a2 .amount-at2 .ok), kept _ (a3 .amount-at3 .ok), kept _ (a4 .amount-at4 .ok), kept _ (a5 .amount-at5 .ok), kept _ (c .amount-at6 .ok), a1 .amount-at .ensures, a2 .amount-at2 .ensures, a3 .amount-at3 .ensures, b .bound-of .ensures, w .word-at .ensures, a4 .amount-at4 .ensures, w2 .word-at2 .ensures, a5 .amount-at5 .ensures, c .amount-at6 .ensures)
 
 pub config-at-spec : {M : Type 1} → statement M
 config-at-spec =
@@ -53,4 +57,5 @@ config-at-spec =
     amount-at-requires-4
     word-at-requires-2
     amount-at-requires-5
+    amount-at-requires-6
     returns)

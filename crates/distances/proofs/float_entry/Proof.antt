@@ -24,7 +24,7 @@ within-requires : tie.Need-within-requires
 within-requires c κs = search needs
 
 -- the floats pass
-passed : (c : tie.Then1) → let a = c .before .before .args in floatsOk (a .k) (a .alpha) (a .eta) (a .base) (a .tau) ≡ true
+passed : (c : tie.Then1) → let a = c .before .before .args in floatsOk (a .k) (a .alpha) (a .beta) (a .eta) (a .base) (a .tau) ≡ true
 passed c = sym (c .before .floats-fit .ensures) ∙ c .if1 .taken
 
 entry-within-requires : tie.Need-entry-within-requires

@@ -25,7 +25,7 @@ first-plan-requires : tie.Need-first-plan-requires
 first-plan-requires c κs = search needs
 
 -- the floats pass, and so does the holding
-passed : (c : tie.Then1) → let a = c .before .before .args in floatsOk (a .k) (a .alpha) (a .eta) (a .base) (a .tau) ≡ true
+passed : (c : tie.Then1) → let a = c .before .before .args in floatsOk (a .k) (a .alpha) (a .beta) (a .eta) (a .base) (a .tau) ≡ true
 passed c = sym (c .before .floats-fit .ensures) ∙ c .if1 .taken
 
 held : (c : tie.After-within) → let a = c .before .before .before .before .before .args in leb (natAbs (a .q)) (a .bound) ≡ c .within .result
@@ -42,7 +42,7 @@ returns c =
     let fine = passed (b .before) in
     let bound-ok = sym (b .bound-fits .ensures) ∙ w .before .if2 .taken in
     rw (fine, bound-ok, held w, c .before .if3 .taken)
-    (rw (rates-pass (a .k) (a .alpha) (a .eta) (a .base) (a .tau) fine, bound-ok) at (c .first-plan .ensures))
+    (rw (rates-pass (a .k) (a .alpha) (a .beta) (a .eta) (a .base) (a .tau) fine, bound-ok) at (c .first-plan .ensures))
 
 returns-2 : tie.Need-returns-2
 unfolding stepCount countIf

@@ -1,22 +1,10 @@
 -- The checks in the definition's order; past them alpha and eta are above zero. Assumes nothing.
-use mathlib.Core.Path.{_≡_, sym, _∙_}
-use mathlib.Core.Bool.{true, _&&_}
-use lib.Dec.{T}
-use lib.Ieee.{Float}
-use lib.Ieee.Bits.{is-true}
-use lib.Ieee.Fits.{and-l, and-r}
+use mathlib.Core.Path.{sym, _∙_}
 use borrow.Author.Needs.{needs}
-use Rattle.elementary.specs.Float.{finite, positive}
-use Rattle.vector.specs.Values.{ratesOk}
 use Rattle.vector.specs.Count.{firstPlan, planIf}
+use Rattle.vector.proofs.Bounds.{rates-above}
 use Rattle.vector.proofs.first_plan.Statement.{statement}
 use Rattle.vector.proofs.first_plan.Tie as tie
-
-rates-above : (alpha eta tau : Float) → ratesOk alpha eta tau ≡ true → (positive alpha ≡ true) × (positive eta ≡ true)
-unfolding ratesOk
-rates-above alpha eta tau h =
-    let both : T (positive alpha && positive eta) = and-l (positive alpha && positive eta) (finite tau) (rw h tt) in
-    (is-true (positive alpha) (and-l (positive alpha) (positive eta) both), is-true (positive eta) (and-r (positive alpha) (positive eta) both))
 
 floats-fit-requires : tie.Need-floats-fit-requires
 floats-fit-requires c κs = search needs
@@ -28,8 +16,8 @@ plan-within-requires : tie.Need-plan-within-requires
 plan-within-requires c κs =
     let b = c .before in
     let f = b .before .before in
-    let r = rates-above _ _ _ (sym (f .floats-fit .ensures) ∙ b .before .if1 .taken) in
-    (sym (b .bound-fits .ensures) ∙ c .if2 .taken, r .0, r .1)
+    let r = rates-above _ _ _ _ (sym (f .floats-fit .ensures) ∙ b .before .if1 .taken) in
+    (sym (b .bound-fits .ensures) ∙ c .if2 .taken, r .0, r .2)
 
 returns : tie.Need-returns
 unfolding firstPlan planIf

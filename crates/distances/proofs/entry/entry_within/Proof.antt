@@ -33,14 +33,14 @@ module _ (b : ℕ) (k base : Float) (q : ℤ) where
   entry-is (overCap need l) = refl
   entry-is (failed s) = refl
 
-come : (c : tie.After-value-vector) → let a = c .before .args in c .value-vector .result ≡ vectorBy (rows (a .bound)) (run (a .bound) (a .alpha) (a .eta) (a .tau))
-come c = let s = c .before in c .value-vector .ensures ∙ vector-is (s .args .k) (s .args .alpha) (s .args .eta) (s .args .base) (s .args .bound) (s .args .tau) (s .pre .0) (s .pre .1)
+come : (c : tie.After-value-vector) → let a = c .before .args in c .value-vector .result ≡ vectorBy (rows (a .bound)) (run (a .bound) (a .alpha) (a .beta) (a .eta) (a .tau))
+come c = let s = c .before in c .value-vector .ensures ∙ vector-is (s .args .k) (s .args .alpha) (s .args .beta) (s .args .eta) (s .args .base) (s .args .bound) (s .args .tau) (s .pre .0) (s .pre .1)
 
 ended : (c : tie.After-value-vector) → let a = c .before .args in
-    answerBy (a .bound) (a .k) (a .base) (a .q) (run (a .bound) (a .alpha) (a .eta) (a .tau)) ≡ entry (a .bound) (a .k) (a .base) (a .q) (c .value-vector .result .outcome) (c .value-vector .result .vector)
+    answerBy (a .bound) (a .k) (a .base) (a .q) (run (a .bound) (a .alpha) (a .beta) (a .eta) (a .tau)) ≡ entry (a .bound) (a .k) (a .base) (a .q) (c .value-vector .result .outcome) (c .value-vector .result .vector)
 ended c =
     let a = c .before .args in
-    rw (come c) (entry-is (a .bound) (a .k) (a .base) (a .q) (run (a .bound) (a .alpha) (a .eta) (a .tau)))
+    rw (come c) (entry-is (a .bound) (a .k) (a .base) (a .q) (run (a .bound) (a .alpha) (a .beta) (a .eta) (a .tau)))
 
 -- a run that is done has a vector of full length
 done-length : (n s : ℕ) (e : Ended) → vectorBy n e .outcome ≡ Outcome.Done s → vectorBy n e .vector .n ≡ n
@@ -52,7 +52,7 @@ done-length n s (failed t) h = cc
 full : (c : tie.After-value-vector) (s : ℕ) → c .value-vector .result .outcome ≡ Outcome.Done s → c .value-vector .result .vector .n ≡ rows (c .before .args .bound)
 full c s h =
     let a = c .before .args in
-    rw (come c) (done-length (rows (a .bound)) s (run (a .bound) (a .alpha) (a .eta) (a .tau)) (rw (come c) at h))
+    rw (come c) (done-length (rows (a .bound)) s (run (a .bound) (a .alpha) (a .beta) (a .eta) (a .tau)) (rw (come c) at h))
 
 value-vector-requires : tie.Need-value-vector-requires
 value-vector-requires c κs = search needs

@@ -35,10 +35,14 @@ word-at-requires-2 c κs = search needs
 signed-of-requires : tie.Need-signed-of-requires
 signed-of-requires c κs = search needs
 
+float-at-requires-6 : tie.Need-float-at-requires-6
+float-at-requires-6 c κs = search needs
+
 returns : tie.Need-returns
 unfolding entryAt
 returns c =
-    let w2 = c .before in
+    let s = c .before in
+    let w2 = s .before in
     let t = w2 .before in
     let b = t .before in
     let w = b .before in
@@ -46,9 +50,9 @@ returns c =
     let f3 = f4 .before in
     let f2 = f3 .before in
     let f1 = f2 .before in
-    let z = c .signed-of .result in
-    let held : toZ w64 (ofZ w64 z) ≡ z = toZ-ofZ (record { sfits = c .signed-of .ok }) in
-    rw (f1 .float-at .ensures, f2 .float-at2 .ensures, f3 .float-at3 .ensures, f4 .float-at4 .ensures, b .bound-of .ensures, w .word-at .ensures, t .float-at5 .ensures, held, c .signed-of .ensures, w2 .word-at2 .ensures)
+    let z = s .signed-of .result in
+    let held : toZ w64 (ofZ w64 z) ≡ z = toZ-ofZ (record { sfits = s .signed-of .ok }) in
+    rw (f1 .float-at .ensures, f2 .float-at2 .ensures, f3 .float-at3 .ensures, f4 .float-at4 .ensures, b .bound-of .ensures, w .word-at .ensures, t .float-at5 .ensures, held, s .signed-of .ensures, w2 .word-at2 .ensures, c .float-at6 .ensures)
 
 pub entry-at-spec : {M : Type 1} → statement M
 entry-at-spec =
@@ -63,4 +67,5 @@ entry-at-spec =
     float-at-requires-5
     word-at-requires-2
     signed-of-requires
+    float-at-requires-6
     returns)

@@ -22,13 +22,14 @@ given f c =
       «lot_size» = f (a .lot-size);
       «terminal_time» = a .terminal-time;
       «min_spread» = f (a .min-spread);
+      drift = f (a .drift);
     }
 
 -- the configuration that the code makes
 same : (c : tie.Start) → given (λ z. toZ w64 (ofZ w64 z)) c ≡ given (λ z. z) c
 same c =
     let r = c .fits in
-    rw (toZ-ofZ (r .risk-aversion), toZ-ofZ (r .order-intensity-k), toZ-ofZ (r .intensity-scale-a), toZ-ofZ (r .lot-size), toZ-ofZ (r .min-spread))
+    rw (toZ-ofZ (r .risk-aversion), toZ-ofZ (r .order-intensity-k), toZ-ofZ (r .intensity-scale-a), toZ-ofZ (r .lot-size), toZ-ofZ (r .min-spread), toZ-ofZ (r .drift))
 
 limits-are : (c : tie.After-within-limits) → configLimits (given (λ z. z) (c .before)) ≡ c .within-limits .result
 limits-are c = rw (c .within-limits .ensures) (ap configLimits (sym (same (c .before))))

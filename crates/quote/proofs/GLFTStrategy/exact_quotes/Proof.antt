@@ -34,13 +34,14 @@ seconds-to-terminal-requires : tie.Need-seconds-to-terminal-requires
 seconds-to-terminal-requires c κs = search needs
 
 exact-of-requires : tie.Need-exact-of-requires
+unfolding newModel
 exact-of-requires c κs =
     let m = c .before .before in
     let n = m .before .before in
     let s = n .before .before .before in
     let a = s .args in
     rw (toZ-ofZ (s .fits .mid-price), kept (a .config .«min_spread») (n .before .struct-told .given .1 .1 .1 .1 .1 .1 .0 .1))
-    (made-amounts (a .mid-price) (a .inventory) (a .config) (a .volatility) _ _ (model-is n ∙ m .m .given .1))
+    (made-amounts true (a .mid-price) (a .inventory) (a .config) (a .volatility) _ _ (model-is n ∙ m .m .given .1))
 
 enum-known-number : tie.Need-enum-known-number
 enum-known-number c = search needs

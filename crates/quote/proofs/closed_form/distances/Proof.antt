@@ -26,10 +26,10 @@ nearest-i64-to-f64-requires c κs = search needs
 
 -- the bound as the code has it, and its opposite
 bound-is : (c : tie.After-struct-known) → let b = c .before .before .before .before .args .m .«q_max» in toZ w64 b ≡ pos b
-bound-is c = toZ-pos w64 (omega (arith, c .struct-known .given .1 .1 .1 .1 .1 .1 .1 .0))
+bound-is c = toZ-pos w64 (omega (arith, c .struct-known .given .1 .1 .1 .1 .1 .1 .1 .1 .0))
 
 minus-fits : (c : tie.After-struct-known) → SFits w64 (pos 0 -ℤ pos (c .before .before .before .before .args .m .«q_max»))
-minus-fits c = omega (arith, minus-mag (c .before .before .before .before .args .m .«q_max»), c .struct-known .given .1 .1 .1 .1 .1 .1 .1 .0)
+minus-fits c = omega (arith, minus-mag (c .before .before .before .before .args .m .«q_max»), c .struct-known .given .1 .1 .1 .1 .1 .1 .1 .1 .0)
 
 bid-of-requires : tie.Need-bid-of-requires
 bid-of-requires c κs = search needs

@@ -24,16 +24,20 @@ is-positive-finite-requires-6 c κs = search needs
 is-positive-finite-requires-7 : tie.Need-is-positive-finite-requires-7
 is-positive-finite-requires-7 c κs = search needs
 
+is-finite-requires : tie.Need-is-finite-requires
+is-finite-requires c κs = search needs
+
 returns : tie.Need-returns
 unfolding modelOk
 returns c =
-    let c6 = c .before in
+    let c7 = c .before in
+    let c6 = c7 .before in
     let c5 = c6 .before in
     let c4 = c5 .before in
     let c3 = c4 .before in
     let c2 = c3 .before in
     let c1 = c2 .before in
-    rw (c1 .is-positive-finite .ensures, c2 .is-positive-finite2 .ensures, c3 .is-positive-finite3 .ensures, c4 .is-positive-finite4 .ensures, c5 .is-positive-finite5 .ensures, c6 .is-positive-finite6 .ensures, c .is-positive-finite7 .ensures)
+    rw (c1 .is-positive-finite .ensures, c2 .is-positive-finite2 .ensures, c3 .is-positive-finite3 .ensures, c4 .is-positive-finite4 .ensures, c5 .is-positive-finite5 .ensures, c6 .is-positive-finite6 .ensures, c7 .is-positive-finite7 .ensures, c .is-finite .ensures)
 
 pub floats-fit-spec : {M : Type 1} → statement M
 floats-fit-spec =
@@ -46,4 +50,5 @@ floats-fit-spec =
     is-positive-finite-requires-5
     is-positive-finite-requires-6
     is-positive-finite-requires-7
+    is-finite-requires
     returns)

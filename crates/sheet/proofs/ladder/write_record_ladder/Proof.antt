@@ -6,6 +6,7 @@ use lib.ListN.{length}
 use denote.Ref.{now}
 use borrow.Author.Needs.{needs}
 use Rattle.quote.proofs.Limits.{kept}
+use Rattle.sheet.specs.Record.{configOf}
 use Rattle.sheet.specs.Lines.{refusalLine, over}
 use Rattle.sheet.specs.Ladder.{laddered, ladderedIn, recordLadder}
 use Rattle.sheet.specs.declared.ladder.LadderAnswer.the-variants as LadderAnswer
@@ -16,18 +17,21 @@ use Rattle.sheet.proofs.ladder.write_record_ladder.Tie as tie
 
 -- what was answered, and what was left
 answered : (c : tie.After-write-ladder) → let a = c .before .before .before .before .before .before .args in let r = a .r in
-    (c .write-ladder .result ≡ laddered (r .«mid_price») (r .config) (r .volatility) (r .«current_time») (now (a .out)))
-    × (c .write-ladder .last .1 .1 .1 .1 .0 ≡ ladderedIn (r .«mid_price») (r .config) (r .volatility) (r .«current_time») (now (a .out)))
+    (c .write-ladder .result ≡ laddered (r .«mid_price») (configOf r) (r .volatility) (r .«current_time») (now (a .out)))
+    × (c .write-ladder .last .1 .1 .1 .1 .0 ≡ ladderedIn (r .«mid_price») (configOf r) (r .volatility) (r .«current_time») (now (a .out)))
 answered c =
     let r = c .before .before .before .before .before .before .args .r in
     let g = c .before .struct-told2 .given in
-    rw (kept (r .«mid_price») (g .0 .1), kept (r .volatility) (g .1 .1 .0 .1)) at (c .write-ladder .ensures)
+    rw (c .before .before .before .before .config-of .ensures, kept (r .«mid_price») (g .0 .1), kept (r .volatility) (g .1 .1 .0 .1)) at (c .write-ladder .ensures)
 
 -- a refusal leaves the buffer as it was, and its line is the record's text
 unchanged : (c : tie.After-write-ladder) (n : ℕ) → c .write-ladder .result ≡ LadderAnswer.Refused n → let a = c .before .before .before .before .before .before .args in
     (c .write-ladder .last .1 .1 .1 .1 .0 ≡ now (a .out)) × (recordLadder (length (now (a .out))) (a .r) ≡ refusalLine n)
 unfolding recordLadder
 unchanged c n e = let o = answered c in left-refused _ _ _ n (sym e ∙ o .0) (o .1)
+
+config-of-requires : tie.Need-config-of-requires
+config-of-requires c κs = search needs
 
 write-ladder-requires : tie.Need-write-ladder-requires
 write-ladder-requires c κs = search needs
@@ -69,6 +73,7 @@ pub write-record-ladder-spec : {M : Type 1} → statement M
 write-record-ladder-spec =
     tie.close
     (tie.spec
+    config-of-requires
     write-ladder-requires
     enum-known-n
     enum-known-number

@@ -9,6 +9,7 @@ use mir.Facts.{toZ-ofZ}
 use borrow.Author.Needs.{needs}
 use Rattle.quote.specs.Quotes.{exactQuotes}
 use Rattle.quote.proofs.Replies.{replies-kept}
+use Rattle.sheet.specs.Record.{configOf}
 use Rattle.sheet.specs.Sheet.{recordLine}
 use Rattle.sheet.proofs.line.write_record.Statement.{statement}
 use Rattle.sheet.proofs.line.write_record.Tie as tie
@@ -18,11 +19,14 @@ passed : (z : ℤ) → mag z < 2 ^ 63 → toZ w64 (ofZ w64 z) ≡ z
 passed z h = let f : SFits w64 z = record { sfits = h } in toZ-ofZ f
 
 reply : (c : tie.After-exact-quotes) → let r = c .before .before .before .before .before .before .args .r in
-    c .exact-quotes .result ≡ exactQuotes (r .«mid_price») (r .inventory) (r .config) (r .volatility) (r .«current_time»)
+    c .exact-quotes .result ≡ exactQuotes (r .«mid_price») (r .inventory) (configOf r) (r .volatility) (r .«current_time»)
 reply c =
     let r = c .before .before .before .before .before .before .args .r in
     let g = c .before .struct-told3 .given in
-    rw (← passed (r .«mid_price») (g .0 .1), ← passed (r .inventory) (g .1 .0 .1), ← passed (r .volatility) (g .1 .1 .0 .1)) (c .exact-quotes .ensures)
+    rw (c .before .before .before .before .config-of .ensures, passed (r .«mid_price») (g .0 .1), passed (r .inventory) (g .1 .0 .1), passed (r .volatility) (g .1 .1 .0 .1)) at (c .exact-quotes .ensures)
+
+config-of-requires : tie.Need-config-of-requires
+config-of-requires c κs = search needs
 
 exact-quotes-requires : tie.Need-exact-quotes-requires
 exact-quotes-requires c κs = search needs
@@ -42,4 +46,4 @@ returns c = rw (← reply (c .before .before .before .before)) (c .before .befor
 
 pub write-record-spec : {M : Type 1} → statement M
 write-record-spec =
-    tie.close (tie.spec exact-quotes-requires write-answer-requires same-length returns)
+    tie.close (tie.spec config-of-requires exact-quotes-requires write-answer-requires same-length returns)

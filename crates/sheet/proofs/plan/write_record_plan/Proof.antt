@@ -11,7 +11,10 @@ reply : (c : tie.After-first-plan) → c .first-plan .result ≡ planOf (c .befo
 reply c =
     let r = c .before .before .before .before .before .before .args .r in
     let g = c .before .struct-told3 .given in
-    rw (← kept (r .«mid_price») (g .0 .1), ← kept (r .inventory) (g .1 .0 .1), ← kept (r .volatility) (g .1 .1 .0 .1)) (c .first-plan .ensures)
+    rw (c .before .before .before .before .config-of .ensures, kept (r .«mid_price») (g .0 .1), kept (r .inventory) (g .1 .0 .1), kept (r .volatility) (g .1 .1 .0 .1)) at (c .first-plan .ensures)
+
+config-of-requires : tie.Need-config-of-requires
+config-of-requires c κs = search needs
 
 first-plan-requires : tie.Need-first-plan-requires
 first-plan-requires c κs = search needs
@@ -31,4 +34,4 @@ returns c = rw (← reply (c .before .before .before .before)) (c .before .befor
 
 pub write-record-plan-spec : {M : Type 1} → statement M
 write-record-plan-spec =
-    tie.close (tie.spec first-plan-requires write-plan-requires same-length returns)
+    tie.close (tie.spec config-of-requires first-plan-requires write-plan-requires same-length returns)

@@ -22,50 +22,11 @@ read-back n h = toZ-pos w64 (omega arith)
 kept : (c : tie.Start) → Bounds (c .args .t1)
 kept c = bounds (c .args .t1) (c .pre)
 
-array-read-t6 : tie.Need-array-read-t6
-array-read-t6 c = search needs
+array-read-t5 : tie.Need-array-read-t5
+array-read-t5 c = search needs
 
-cast-t7 : tie.Need-cast-t7
-cast-t7 c = amount-fits _ (kept c .risk)
-
-array-read-t10 : tie.Need-array-read-t10
-array-read-t10 c = search needs
-
-cast-t11 : tie.Need-cast-t11
-cast-t11 c = amount-fits _ (kept c .k)
-
-array-read-t14 : tie.Need-array-read-t14
-array-read-t14 c = search needs
-
-cast-t15 : tie.Need-cast-t15
-cast-t15 c = amount-fits _ (kept c .scale)
-
-array-read-t18 : tie.Need-array-read-t18
-array-read-t18 c = search needs
-
-cast-t19 : tie.Need-cast-t19
-cast-t19 c = omega (arith, kept c .bound)
-
-array-read-t22 : tie.Need-array-read-t22
-array-read-t22 c = search needs
-
-cast-t23 : tie.Need-cast-t23
-cast-t23 c = amount-fits _ (kept c .lot)
-
-array-read-t26 : tie.Need-array-read-t26
-array-read-t26 c = search needs
-
-array-read-t29 : tie.Need-array-read-t29
-array-read-t29 c = search needs
-
-cast-t30 : tie.Need-cast-t30
-cast-t30 c = amount-fits _ (kept c .spread)
-
-array-read-t6-2 : tie.Need-array-read-t6-2
-array-read-t6-2 c = search needs
-
-cast-t30-2 : tie.Need-cast-t30-2
-cast-t30-2 c = amount-fits _ (kept c .mid)
+cast-t6 : tie.Need-cast-t6
+cast-t6 c = amount-fits _ (kept c .mid)
 
 array-read-holding-of : tie.Need-array-read-holding-of
 array-read-holding-of c = search needs
@@ -73,14 +34,53 @@ array-read-holding-of c = search needs
 holding-of-requires : tie.Need-holding-of-requires
 holding-of-requires c κs = kept c .holds
 
-array-read-t26-2 : tie.Need-array-read-t26-2
-array-read-t26-2 c = search needs
+array-read-t13 : tie.Need-array-read-t13
+array-read-t13 c = search needs
 
-cast-t23-2 : tie.Need-cast-t23-2
-cast-t23-2 c = amount-fits _ (kept (c .before) .volatility)
+cast-t14 : tie.Need-cast-t14
+cast-t14 c = amount-fits _ (kept (c .before) .volatility)
 
-array-read-t22-2 : tie.Need-array-read-t22-2
-array-read-t22-2 c = search needs
+array-read-t17 : tie.Need-array-read-t17
+array-read-t17 c = search needs
+
+cast-t18 : tie.Need-cast-t18
+cast-t18 c = amount-fits _ (kept (c .before) .risk)
+
+array-read-t21 : tie.Need-array-read-t21
+array-read-t21 c = search needs
+
+cast-t22 : tie.Need-cast-t22
+cast-t22 c = amount-fits _ (kept (c .before) .k)
+
+array-read-t25 : tie.Need-array-read-t25
+array-read-t25 c = search needs
+
+cast-t26 : tie.Need-cast-t26
+cast-t26 c = amount-fits _ (kept (c .before) .scale)
+
+array-read-t29 : tie.Need-array-read-t29
+array-read-t29 c = search needs
+
+cast-t30 : tie.Need-cast-t30
+cast-t30 c = omega (arith, kept (c .before) .bound)
+
+array-read-t33 : tie.Need-array-read-t33
+array-read-t33 c = search needs
+
+cast-t34 : tie.Need-cast-t34
+cast-t34 c = amount-fits _ (kept (c .before) .lot)
+
+array-read-t37 : tie.Need-array-read-t37
+array-read-t37 c = search needs
+
+array-read-t40 : tie.Need-array-read-t40
+array-read-t40 c = search needs
+
+array-read-t43 : tie.Need-array-read-t43
+array-read-t43 c = search needs
+
+cast-t44 : tie.Need-cast-t44
+cast-t44 c = amount-fits _ (kept (c .before) .spread)
 
 returns : tie.Need-returns
 unfolding recordOf
@@ -93,24 +93,24 @@ pub record-of-spec : {M : Type 1} → statement M
 record-of-spec =
     tie.close
     (tie.spec
-    array-read-t6
-    cast-t7
-    array-read-t10
-    cast-t11
-    array-read-t14
-    cast-t15
-    array-read-t18
-    cast-t19
-    array-read-t22
-    cast-t23
-    array-read-t26
-    array-read-t29
-    cast-t30
-    array-read-t6-2
-    cast-t30-2
+    array-read-t5
+    cast-t6
     array-read-holding-of
     holding-of-requires
-    array-read-t26-2
-    cast-t23-2
-    array-read-t22-2
+    array-read-t13
+    cast-t14
+    array-read-t17
+    cast-t18
+    array-read-t21
+    cast-t22
+    array-read-t25
+    cast-t26
+    array-read-t29
+    cast-t30
+    array-read-t33
+    cast-t34
+    array-read-t37
+    array-read-t40
+    array-read-t43
+    cast-t44
     returns)

@@ -1,8 +1,9 @@
 -- `sheet::record::within_limits` meets its contract: a stored holding is within twice the limit where the holding is within it. Assumes nothing.
+use mathlib.Core.Bool.{and-true}
 use lib.ListN.{getD}
 use Rattle.quote.specs.Configuration.{amountLimit, amountOk, timeOk, configLimits}
 use Rattle.quote.specs.Model.{modelLimits}
-use Rattle.sheet.specs.Record.{recordOf, recordOk}
+use Rattle.sheet.specs.Record.{recordOf, configOf, recordOk}
 use Rattle.sheet.proofs.Limits.{holding-limit}
 use borrow.Author.Needs.{needs}
 use Rattle.sheet.proofs.record.within_limits.Statement.{statement}
@@ -45,8 +46,8 @@ array-read-result-5 : tie.Need-array-read-result-5
 array-read-result-5 c = search needs
 
 returns : tie.Need-returns
-unfolding recordOk recordOf modelLimits amountOk timeOk configLimits
-returns c = rw (holding-limit (getD (c .args .t1) 1 0) amountLimit)
+unfolding recordOk recordOf configOf modelLimits amountOk timeOk configLimits
+returns c = rw (holding-limit (getD (c .args .t1) 1 0) amountLimit, and-true)
 
 pub within-limits-spec : {M : Type 1} → statement M
 within-limits-spec =

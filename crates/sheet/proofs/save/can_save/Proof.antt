@@ -10,6 +10,9 @@ use Rattle.sheet.specs.Save.{saveOk}
 use Rattle.sheet.proofs.save.can_save.Statement.{statement}
 use Rattle.sheet.proofs.save.can_save.Tie as tie
 
+config-of-requires : tie.Need-config-of-requires
+config-of-requires c κs = search needs
+
 limits-fit-requires : tie.Need-limits-fit-requires
 limits-fit-requires c κs = search needs
 
@@ -22,7 +25,7 @@ returns c =
     let l = c .before .before in
     let r = l .before .before .before .before .before .args .r in
     let g = l .before .struct-told3 .given in
-    rw (l .limits-fit .ensures, c .none-below .ensures, kept (r .«mid_price») (g .0 .1), kept (r .inventory) (g .1 .0 .1), kept (r .volatility) (g .1 .1 .0 .1), le-leb (r .config .«max_inventory_lots») mostBound (omega (arith, c .before .struct-known .given .1 .1 .1 .0 .1 .1 .1 .0)), and-true)
+    rw (l .limits-fit .ensures, l .before .before .before .before .config-of .ensures, c .none-below .ensures, kept (r .«mid_price») (g .0 .1), kept (r .inventory) (g .1 .0 .1), kept (r .volatility) (g .1 .1 .0 .1), le-leb (r .«max_inventory_lots») mostBound (omega (arith, c .before .struct-known .given .1 .1 .1 .1 .1 .1 .0)), and-true)
 
 pub can-save-spec : {M : Type 1} → statement M
-can-save-spec = tie.close (tie.spec limits-fit-requires none-below-requires returns)
+can-save-spec = tie.close (tie.spec config-of-requires limits-fit-requires none-below-requires returns)

@@ -1,8 +1,5 @@
--- The two sums are those of `TwoRows`. Assumes nothing.
-use mathlib.Core.Path.{sym, _∙_}
+-- The two sums of `TwoRows`. Assumes nothing.
 use borrow.Author.Needs.{needs}
-use Rattle.vector.proofs.Bounds.{bound-range}
-use Rattle.vector.proofs.Rows.{two-rows}
 use Rattle.vector.proofs.count.norm_at_first.Statement.{statement}
 use Rattle.vector.proofs.count.norm_at_first.Tie as tie
 
@@ -10,7 +7,7 @@ row-sum-requires : tie.Need-row-sum-requires
 row-sum-requires c κs = search needs
 
 sub-row-sum : tie.Need-sub-row-sum
-sub-row-sum c = let s = c .before in bound-range (s .args .bound) (s .pre .0) .0
+sub-row-sum c = c .before .pre
 
 row-sum-requires-2 : tie.Need-row-sum-requires-2
 row-sum-requires-2 c κs = search needs
@@ -19,11 +16,7 @@ larger-of-requires : tie.Need-larger-of-requires
 larger-of-requires c κs = search needs
 
 returns : tie.Need-returns
-returns c =
-    let s = c .before .before .before in
-    let p = s .pre in
-    rw (c .larger-of .ensures, c .before .row-sum2 .ensures, c .before .before .row-sum .ensures)
-    (sym (two-rows (s .args .bound) (s .args .alpha) (s .args .eta) (p .0) (p .1) (p .2)))
+returns c = rw (c .larger-of .ensures, c .before .row-sum2 .ensures, c .before .before .row-sum .ensures)
 
 pub norm-at-first-spec : {M : Type 1} → statement M
 norm-at-first-spec =

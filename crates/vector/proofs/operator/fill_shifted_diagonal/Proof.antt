@@ -5,14 +5,18 @@ use native.Mathlib.Omega.{arith}
 use native.Mathlib.Nat.{le-trans}
 use native.Mathlib.Numerals.{add-one}
 use mathlib.Core.Bool.{Bool, true, false, not, cond}
+use mathlib.Core.List.{List}
 use lib.IntN.{pos, negsuc, natAbs}
 use lib.Dec.{T, lit≤, leb, nleb→lt}
 use lib.ListN.{length, length-set}
 use lib.Ieee.{Float, binary64, minus, ofBits, ofInt, round}
-use Rattle.elementary.specs.Float.{_⊕_, _⊖_, whole, 0ᶠ, 1ᶠ}
+use Rattle.elementary.specs.Float.{_⊕_, _⊖_, whole, 0ᶠ, 1ᶠ, finite}
 use Rattle.elementary.proofs.Exact.{one-whole, sub-whole, add-ints, minus-suc}
+use Rattle.vector.specs.Vectors.{tab, at, every}
 use Rattle.vector.specs.Series.{diagonalAt}
-use Rattle.vector.proofs.Loops.{filled, filled-zero, stored, filled-all}
+use Rattle.vector.specs.Run.{rows}
+use Rattle.vector.proofs.Loops.{filled, filled-zero, stored, filled-all, at-stored, every-zero, every-suc, every-at}
+use Rattle.vector.proofs.Lists.{every-ext}
 use Rattle.vector.proofs.operator.fill_shifted_diagonal.Statement.{statement}
 use Rattle.vector.proofs.operator.fill_shifted_diagonal.Tie as tie
 
@@ -38,22 +42,27 @@ next i b h l =
     ap (λ (z : Float). whole (minus i b) ⊕ z) one-whole ∙ add-ints binary64 (minus i b) (pos 1) (le-trans k (lit≤ tt)) (lit≤ tt) ∙ ap whole (rw (add-one i) (minus-suc i b))
 
 abbrev Inv-loop : tie.InvT-loop
-Inv-loop alpha eta bound diag₀ q₀ i₀ diag q i = (i ≤ length diag₀) × (length diag ≡ length diag₀) × (q ≡ whole (minus i bound)) × (diag ≡ filled (diagonalAt bound alpha eta) diag₀ i)
+Inv-loop alpha beta eta bound diag₀ all₀ q₀ i₀ diag all q i =
+    (i ≤ length diag₀) × (length diag ≡ length diag₀) × (q ≡ whole (minus i bound)) × (diag ≡ filled (diagonalAt bound alpha beta eta) diag₀ i)
+    × (all ≡ every i (λ k. finite (diagonalAt bound alpha beta eta k)))
 
 abbrev μ-loop : tie.MeasureT-loop
-μ-loop alpha eta bound diag₀ q₀ i₀ diag q i = length diag₀ - i
+μ-loop alpha beta eta bound diag₀ all₀ q₀ i₀ diag all q i = length diag₀ - i
 
 int-to-float-q : tie.Need-int-to-float-q Inv-loop μ-loop
 int-to-float-q c = tt
 
 loop-holds : tie.Need-loop-holds Inv-loop μ-loop
-loop-holds c = (omega arith, omega arith, first _ (omega arith), filled-zero _ _)
+loop-holds c = (omega arith, omega arith, first _ (omega arith), filled-zero _ _, every-zero _)
 
 mul-diag : tie.Need-mul-diag Inv-loop μ-loop
 mul-diag c = omega arith
 
 slice-write-diag : tie.Need-slice-write-diag Inv-loop μ-loop
 slice-write-diag c = omega arith
+
+is-finite-requires : tie.Need-is-finite-requires Inv-loop μ-loop
+is-finite-requires c κs = tt
 
 add-i : tie.Need-add-i Inv-loop μ-loop
 add-i c = omega arith
@@ -64,14 +73,30 @@ loop-less c = omega arith
 loop-again : tie.Need-loop-again Inv-loop μ-loop
 unfolding diagonalAt
 loop-again c =
-    let i = c .before .loop .inv in
-    (omega arith, simp length-set (i .1), rw (i .2) (next (c .before .loop .i) (c .before .before .before .args .bound) (omega arith) (omega arith)), stored _ _ _ _ _ (omega arith) (i .3) (rw (i .2)))
+    let at-loop = c .before .before in
+    let b = at-loop .before .before .before .args .bound in
+    let i = at-loop .loop .inv in (
+      omega arith,
+      simp length-set (i .1),
+      rw (i .2) (next (at-loop .loop .i) b (omega arith) (omega arith)),
+      stored _ _ _ _ _ (omega arith) (i .3) (rw (i .2)),
+      rw (i .4, c .is-finite .ensures, i .2) (every-suc (at-loop .loop .i) _),
+    )
 
 same-length : tie.Need-same-length Inv-loop μ-loop
 same-length c = omega arith
 
+-- the same test of what is stored
+tested : (n : ℕ) (f : ℕ → Float) (l : List Float) → l ≡ tab n f → every n (λ i. finite (f i)) ≡ every n (λ i. finite (at l i))
+tested n f l e = every-ext n _ _ (λ k h. rw (at-stored l n f k e h))
+
 returns : tie.Need-returns Inv-loop μ-loop
-returns c = filled-all _ _ _ (c .before .loop .i) _ (omega arith) (omega arith) (c .before .loop .inv .3)
+returns c =
+    let k = c .before .loop .i in
+    let i = c .before .loop .inv in
+    let a = c .before .before .before .before .args in
+    let d : c .before .loop .diag ≡ tab (rows (a .bound)) (diagonalAt (a .bound) (a .alpha) (a .beta) (a .eta)) = filled-all _ _ _ k _ (omega arith) (omega arith) (i .3) in
+    (d, i .4 ∙ every-at _ _ _ (omega arith) ∙ tested _ _ _ d)
 
 pub fill-shifted-diagonal-spec : {M : Type 1} → statement M
 fill-shifted-diagonal-spec =
@@ -83,6 +108,7 @@ fill-shifted-diagonal-spec =
     loop-holds
     mul-diag
     slice-write-diag
+    is-finite-requires
     add-i
     loop-less
     loop-again

@@ -42,7 +42,8 @@ use denote.Triple.Spec.{Meets, tripleOf}
 use denote.Triple.Table.{entered, cited}
 use denote.Triple.Walked.{says, needs, Stays, stay-dropped, walkOf, AllGo, goes-dropped, Walks, ends-at, walked, walk-meets}
 use denote.Triple.Clauses.{ensured, lasts}
-use Rattle.vector.specs.Inner.{fixedOver, planOf}
+use Rattle.vector.specs.Run.{fixedOver}
+use Rattle.vector.specs.Inner.{planOf}
 use Rattle.vector.specs.declared.plan.Planned.{Planned}
 use Rattle.vector.specs.declared.plan.Factors.{Factors}
 use Rattle.vector.proofs.plan.Planned as P

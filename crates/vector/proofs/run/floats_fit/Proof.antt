@@ -12,11 +12,19 @@ is-positive-finite-requires-2 c κs = search needs
 is-finite-requires : tie.Need-is-finite-requires
 is-finite-requires c κs = search needs
 
+is-finite-requires-2 : tie.Need-is-finite-requires-2
+is-finite-requires-2 c κs = search needs
+
 returns : tie.Need-returns
 unfolding ratesOk
-returns c = rw (c .before .before .is-positive-finite .ensures, c .before .is-positive-finite2 .ensures, c .is-finite .ensures)
+returns c = rw (c .before .before .before .is-positive-finite .ensures, c .before .before .is-finite .ensures, c .before .is-positive-finite2 .ensures, c .is-finite2 .ensures)
 
 pub floats-fit-spec : {M : Type 1} → statement M
 floats-fit-spec =
     tie.close
-    (tie.spec is-positive-finite-requires is-positive-finite-requires-2 is-finite-requires returns)
+    (tie.spec
+    is-positive-finite-requires
+    is-finite-requires
+    is-positive-finite-requires-2
+    is-finite-requires-2
+    returns)

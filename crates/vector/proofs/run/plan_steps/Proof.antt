@@ -6,8 +6,8 @@ use native.Mathlib.Omega.{arith}
 use native.Mathlib.Nat.{le-refl, le-trans}
 use lib.ListN.{length}
 use lib.Ieee.{Float}
-use Rattle.vector.specs.Run.{Ended, cap}
-use Rattle.vector.specs.Inner.{fixedOver, Standing, weight}
+use Rattle.vector.specs.Run.{Ended, cap, fixedOver}
+use Rattle.vector.specs.Inner.{Standing, weight}
 use Rattle.vector.proofs.RunLaws.{stands-on, after-less, weighs, both-some, one-none}
 use Rattle.vector.proofs.run.plan_steps.Statement.{statement}
 use Rattle.vector.proofs.run.plan_steps.Tie as tie

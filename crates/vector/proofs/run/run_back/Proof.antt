@@ -1,13 +1,13 @@
-use mathlib.Core.Path.{_≡_, refl, sym, _∙_}
+use mathlib.Core.Path.{_≡_, refl, sym, ap, _∙_}
 use native.Mathlib.Omega.{arith}
 use lib.ListN.{length-replicate}
 use borrow.Author.Needs.{needs}
 use Rattle.elementary.specs.Float.{0ᶠ, 1ᶠ}
 use Rattle.vector.specs.Vectors.{fill}
 use Rattle.vector.specs.Run.{rows}
-use Rattle.vector.specs.Values.{padded}
+use Rattle.vector.specs.Values.{padded, vectorBy}
 use Rattle.vector.proofs.Room.{lent, length-lent, back, lent-room, own-w, own-o, blank-length, stored-part, stored-length, stored-room}
-use Rattle.vector.proofs.RunLaws.{run-later, answered}
+use Rattle.vector.proofs.RunLaws.{run-later, run-refused, answered}
 use Rattle.vector.proofs.run.run_back.Statement.{statement}
 use Rattle.vector.proofs.run.run_back.Tie as tie
 
@@ -40,33 +40,33 @@ fill-shifted-diagonal-requires : tie.Need-fill-shifted-diagonal-requires
 fill-shifted-diagonal-requires c κs = let b = c .before .before .before .before .pre .0 .1 in (b, blank-length _ _ (c .before .zeros .ensures) (omega (arith, b)))
 
 array-borrow-prefix-w : tie.Need-array-borrow-prefix-w
-array-borrow-prefix-w c = let s = c .before .before .before .before .before .before in lent-room _ _ _ (weights s) (length-replicate (rows (s .args .bound)) 1ᶠ)
+array-borrow-prefix-w c = let s = c .before .before .before .before .before .before .before in lent-room _ _ _ (weights s) (length-replicate (rows (s .args .bound)) 1ᶠ)
 
 slice-aggregate-run-plans : tie.Need-slice-aggregate-run-plans
-slice-aggregate-run-plans c = let s = c .before .before .before .before .before .before .before in sym (length-lent _ _ _ (weights s) (length-replicate (rows (s .args .bound)) 1ᶠ))
+slice-aggregate-run-plans c = let s = c .before .before .before .before .before .before .before .before in sym (length-lent _ _ _ (weights s) (length-replicate (rows (s .args .bound)) 1ᶠ))
 
 array-borrow-prefix-o : tie.Need-array-borrow-prefix-o
-array-borrow-prefix-o c = let s = c .before .before .before .before .before .before .before in lent-room _ _ _ (offsets s) (length-replicate (rows (s .args .bound)) 0ᶠ)
+array-borrow-prefix-o c = let s = c .before .before .before .before .before .before .before .before in lent-room _ _ _ (offsets s) (length-replicate (rows (s .args .bound)) 0ᶠ)
 
 slice-aggregate-run-plans-2 : tie.Need-slice-aggregate-run-plans-2
-slice-aggregate-run-plans-2 c = let s = c .before .before .before .before .before .before .before .before in sym (length-lent _ _ _ (offsets s) (length-replicate (rows (s .args .bound)) 0ᶠ))
+slice-aggregate-run-plans-2 c = let s = c .before .before .before .before .before .before .before .before .before in sym (length-lent _ _ _ (offsets s) (length-replicate (rows (s .args .bound)) 0ᶠ))
 
 array-share-prefix-diag-s : tie.Need-array-share-prefix-diag-s
-array-share-prefix-diag-s c = stored-room _ _ _ _ (c .before .before .before .fill-shifted-diagonal .ensures)
+array-share-prefix-diag-s c = stored-room _ _ _ _ (c .before .before .before .before .fill-shifted-diagonal .ensures .0)
 
 slice-aggregate-run-plans-3 : tie.Need-slice-aggregate-run-plans-3
-slice-aggregate-run-plans-3 c = sym (stored-length _ _ _ _ (c .before .before .before .before .fill-shifted-diagonal .ensures))
+slice-aggregate-run-plans-3 c = sym (stored-length _ _ _ _ (c .before .before .before .before .before .fill-shifted-diagonal .ensures .0))
 
 run-plans-requires : tie.Need-run-plans-requires
 run-plans-requires c κs =
-    let s = c .before .before .before .before .before .before .before .before .before in
+    let s = c .before .before .before .before .before .before .before .before .before .before in
     let l = s .pre .0 .0 in
     let h = s .pre .0 .1 in (
       omega (arith, l),
       omega (arith, h),
       lent _ _ _ (weights s) (length-replicate (rows (s .args .bound)) 1ᶠ),
       length-lent _ _ _ (offsets s) (length-replicate (rows (s .args .bound)) 0ᶠ),
-      stored-length _ _ _ _ (c .before .before .before .before .fill-shifted-diagonal .ensures),
+      stored-length _ _ _ _ (c .before .before .before .before .before .fill-shifted-diagonal .ensures .0),
     )
 
 answer-of-requires : tie.Need-answer-of-requires
@@ -75,14 +75,25 @@ answer-of-requires c κs = search needs
 returns : tie.Need-returns
 returns c =
     let l = c .before .before .before in
-    let s = l .before .before .before .before .before .before .before .before .before .before in
+    let s = l .before .before .before .before .before .before .before .before .before .before .before in
+    let f = l .before .before .before .before .before .before .fill-shifted-diagonal .ensures in
     let n = rows (s .args .bound) in
     let ones = length-replicate n 1ᶠ in
     let zeros = length-replicate n 0ᶠ in
     c .answer-of .ensures
     ∙ answered _ _ _ _ _ _ _ _
-    (run-later _ _ _ _ _ _ _ _ _ (s .pre .0 .2) (stored-part _ _ _ _ (l .before .before .before .before .before .fill-shifted-diagonal .ensures)) (lent _ _ _ (offsets s) zeros) (l .run-plans .ensures))
+    (run-later _ _ _ _ _ _ _ _ _ _ (s .pre .0 .2) (stored-part _ _ _ _ (f .0)) (lent _ _ _ (offsets s) zeros) (rw (f .0) at (sym (f .1) ∙ l .before .before .before .before .if1 .taken)) (l .run-plans .ensures))
     refl (back _ _ _ (weights s) ones _) (back _ _ _ (offsets s) zeros _)
+
+refused-vector-requires : tie.Need-refused-vector-requires
+refused-vector-requires c κs = search needs
+
+returns-2 : tie.Need-returns-2
+unfolding vectorBy
+returns-2 c =
+    let s = c .before .before .before .before .before .before .before .before in
+    let f = c .before .before .before .fill-shifted-diagonal .ensures in
+    c .refused-vector .ensures ∙ sym (ap (vectorBy (rows (s .args .bound))) (run-refused _ _ _ _ _ (s .pre .0 .2) (rw (f .0) at (sym (f .1) ∙ c .before .if1 .left))))
 
 pub run-back-spec : {M : Type 1} → statement M
 run-back-spec =
@@ -103,4 +114,6 @@ run-back-spec =
     slice-aggregate-run-plans-3
     run-plans-requires
     answer-of-requires
-    returns)
+    returns
+    refused-vector-requires
+    returns-2)

@@ -3,8 +3,8 @@ use mathlib.Core.Path.{_≡_, refl, _∙_}
 use lib.ListN.{length}
 use Rattle.elementary.specs.Float.{1ᶠ}
 use Rattle.vector.specs.Vectors.{fill}
-use Rattle.vector.specs.Run.{cap, begin, runOn}
-use Rattle.vector.specs.Inner.{fixedOver, Between, weight}
+use Rattle.vector.specs.Run.{cap, begin, runOn, fixedOver}
+use Rattle.vector.specs.Inner.{Between, weight}
 use Rattle.vector.proofs.RunLaws.{between-first, between-next}
 use Rattle.vector.proofs.run.run_plans.Statement.{statement}
 use Rattle.vector.proofs.run.run_plans.Tie as tie

@@ -14,10 +14,10 @@ use Rattle.vector.proofs.run.run_vector.Statement.{statement}
 use Rattle.vector.proofs.run.run_vector.Tie as tie
 
 -- no time is left
-at-once : (bound : ℕ) (alpha eta tau : Float) (v : ValueVector) → lt 0ᶠ tau ≡ false → v ≡ vectorOf (rows bound) (fill (rows bound) 1ᶠ) (fill (rows bound) 0ᶠ)
-    → record { outcome = Outcome.Done 0; vector = v } ≡ vectorBy (rows bound) (run bound alpha eta tau)
+at-once : (bound : ℕ) (alpha beta eta tau : Float) (v : ValueVector) → lt 0ᶠ tau ≡ false → v ≡ vectorOf (rows bound) (fill (rows bound) 1ᶠ) (fill (rows bound) 0ᶠ)
+    → record { outcome = Outcome.Done 0; vector = v } ≡ vectorBy (rows bound) (run bound alpha beta eta tau)
 unfolding run runFor fixed vectorBy
-at-once bound alpha eta tau v h e = rw (h, e)
+at-once bound alpha beta eta tau v h e = rw (h, e)
 
 mul-at-end : tie.Need-mul-at-end
 mul-at-end c = search needs
@@ -40,7 +40,7 @@ returns c = search needs
 returns-2 : tie.Need-returns-2
 returns-2 c =
     let a = c .before .before .args in
-    at-once (a .bound) (a .alpha) (a .eta) (a .tau) _ (c .if1 .left) (c .before .at-end .ensures)
+    at-once (a .bound) (a .alpha) (a .beta) (a .eta) (a .tau) _ (c .if1 .left) (c .before .at-end .ensures)
 
 pub run-vector-spec : {M : Type 1} → statement M
 run-vector-spec =

@@ -1,7 +1,7 @@
 -- The magnitude by the sign. Assumes nothing.
 use Rattle.vector.specs.Vectors.{abs}
-use Rattle.vector.proofs.series.magnitude.Statement.{statement}
-use Rattle.vector.proofs.series.magnitude.Tie as tie
+use Rattle.vector.proofs.reals.magnitude.Statement.{statement}
+use Rattle.vector.proofs.reals.magnitude.Tie as tie
 
 returns : tie.Need-returns
 unfolding abs
