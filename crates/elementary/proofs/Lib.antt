@@ -7,6 +7,7 @@ pub mod Bits
 pub mod Grid
 pub mod Parts
 pub mod Exps
+pub mod ExpZero
 pub mod WholeRoot
 pub mod SquareRoot
 pub mod NearestRoot

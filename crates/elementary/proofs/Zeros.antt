@@ -1,4 +1,4 @@
--- A zero, of either sign: times what is finite it is a zero, and taken away from what is not below +0 it changes nothing. Assumes nothing.
+-- A zero, of either sign: times what is finite it is a zero, as is a zero less a zero, and taken away from what is not below +0 it changes nothing. Assumes nothing.
 use mathlib.Core.Path.{_≡_, refl, sym, ap, _∙_, subst}
 use Prim.Native.Nat.{ℕ, zero, suc, _*_, _<_}
 use native.Mathlib.Nat.{zero-mul, mul-pos, zero-lt-suc}
@@ -11,7 +11,7 @@ use lib.Ieee.Fits.{up-pos, down-pos, and-l}
 use lib.Ieee.Exact.{HasValue}
 use Rattle.elementary.specs.Float.{finite}
 use Rattle.elementary.proofs.Signs.{nonneg, round-zero, mul-comm-f}
-use Rattle.elementary.proofs.Exact.{own-value-f, sub-over, sum-zero, less-zero, round-own, zero-is}
+use Rattle.elementary.proofs.Exact.{own-value-f, value-unique, sub-over, sum-zero, less-zero, round-own, zero-is}
 
 pub data Zero : Float → Type 0 where
   zero-of : (s : Bool) (e : ℤ) → Zero (fin s 0 e)
@@ -61,6 +61,17 @@ times-zero f x {y} h z = subst Zero (mul-comm-f f y x) (zero-times f x z h)
 none-of : (s : Bool) (e : ℤ) (c : ℕ) → HasValue (fin s 0 e) s 0 c
 none-of s e c = (refl, ap (λ (z : ℕ). z * c) (zero-mul (up e)) ∙ zero-mul c ∙ sym (zero-mul (down e)))
 
+pub zero-less : (f : Format) {x y : Float} → Zero x → Zero y → Zero (sub f x y)
+unfolding sum
+zero-less f (zero-of s e) (zero-of t d) =
+    rw (sub-over f (fin s 0 e) (fin t 0 d) s 0 t 0 1 (zero-lt-suc 0) (none-of s e 1) (none-of t d 1), go s t, round-zero f (s && not t) 1 (zero-lt-suc 0)) (zero-of (s && not t) (pos 0))
+  where
+    go : (s t : Bool) → sum f s 0 (not t) 0 1 ≡ round f (s && not t) 0 1
+    go true true = refl
+    go true false = refl
+    go false true = refl
+    go false false = refl
+
 pub sub-nothing : (f : Format) (x : Float) {z : Float} → Zero z → T (nonneg x) → T (fits f x) → sub f x z ≡ x
 unfolding sub add neg
 sub-nothing f nan (zero-of s e) p t = refl
@@ -74,3 +85,8 @@ sub-nothing f (fin false m d) (zero-of s e) p t =
     go : (s : Bool) → sum f false (m * up d) (not s) 0 (down d) ≡ round f false (m * up d) (down d)
     go true = sum-zero f false (m * up d) (down d) (λ b. absurd b)
     go false = less-zero f false (m * up d) (down d)
+
+-- ---- of those that a format holds there are two
+pub zero-held : (f : Format) {x : Float} → Zero x → T (fits f x) → (s : Bool) × (x ≡ fin s 0 (pos 0))
+unfolding fits
+zero-held f (zero-of s e) t = (s, value-unique f (fin s 0 e) (fin s 0 (pos 0)) s 0 1 (zero-lt-suc 0) t tt (none-of s e 1) (none-of s (pos 0) 1))

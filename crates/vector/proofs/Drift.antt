@@ -48,7 +48,7 @@ module _ (b : ℕ) (alpha eta : Float) (ok : boundOk b ≡ true) (pa : positive 
   row-finite i h = lots-finite (minus i b) (le-trans (few-rows b i h) (bound-range b ok .1))
 
   module _ (beta : Float) (z : eq beta 0ᶠ ≡ true) where
-    entry-before : (i : ℕ) → i < rows b → diagonalAt b alpha beta eta i ≡ diagonalBefore b alpha eta i
+    pub entry-before : (i : ℕ) → i < rows b → diagonalAt b alpha beta eta i ≡ diagonalBefore b alpha eta i
     unfolding diagonalAt diagonalBefore
     entry-before i h =
         let q = whole (minus i b) in

@@ -1,13 +1,14 @@
 -- From either end a vector has the same largest entry, and a smallest entry on the same side of a limit; the first two may hold the largest. NaNs, infinities and both zeros may be among the entries. Assumes nothing.
-use mathlib.Core.Path.{_≡_, refl, sym, ap, _∙_}
+use mathlib.Core.Path.{_≡_, refl, sym, ap, subst, _∙_}
 use Prim.Native.Nat.{ℕ, zero, suc, _+_, _*_, _≤_, _<_}
 use native.Mathlib.Nat.{le-refl, le-antisymm}
+use native.Mathlib.Numerals.{add-one}
 use native.Mathlib.Omega.{arith}
 use mathlib.Core.Logic.{_⊎_, inl, inr}
 use mathlib.Core.Bool.{Bool, true, false, not, _&&_, cond, and-assoc, and-true, true≢false, false≢true, Bool·not-not}
-use borrow.Author.Tests.{ltb-false, le-ltb}
+use borrow.Author.Tests.{ltb-true, ltb-false, le-ltb}
 use lib.IntN.{pos}
-use lib.Dec.{T, not-T}
+use lib.Dec.{T, not-T, ltb}
 use lib.Ieee.{Float, nan, inf, fin, Format, binary64, up, down, below, lt, le, fits, isNan}
 use lib.Ieee.Fits.{down-pos}
 use lib.Ieee.Bits.{is-false, ofBits-fits}
@@ -17,7 +18,7 @@ use Rattle.elementary.proofs.Signs.{nonneg}
 use Rattle.elementary.proofs.Order.{le-trans-f, not-lt→le, lt→le, lt→not-ge}
 use Rattle.elementary.proofs.Exact.{value-unique, zero-is}
 use Rattle.vector.specs.Vectors.{from, tab, everyFrom, every, fold, larger, smaller}
-use Rattle.vector.proofs.Loops.{larger-left}
+use Rattle.vector.proofs.Loops.{fold-zero, fold-suc, larger-left}
 use Rattle.vector.proofs.Lists.{Opposite, every-mirror, fold-mirror}
 
 -- ---- `not below` goes from one value to the next, and to a third, where the middle one is no NaN
@@ -205,6 +206,33 @@ not-above x y z p q r h = is-false (lt (larger x y) z) (not-T (lt (larger x y) z
     go true e (inr u) = u
     go false e (inl u) = u
     go false e (inr u) = le-trans-f z y x r q p u (not-lt→le x y p q e)
+
+-- ---- no entry is above the largest
+module _ (f : ℕ → Float) (v : (i : ℕ) → T (fits binary64 (f i))) where
+  one-more : (n : ℕ) → larger (fold larger 0ᶠ (tab n f)) (f n) ≡ fold larger 0ᶠ (tab (suc n) f)
+  one-more n = sym (ap (λ (k : ℕ). fold larger 0ᶠ (tab k f)) (sym (add-one n)) ∙ fold-suc larger 0ᶠ n f)
+
+  largest-gathered : (n : ℕ) → Gathered binary64 (fold larger 0ᶠ (tab n f))
+  largest-gathered zero = subst (Gathered binary64) (fold-zero larger 0ᶠ f) zero-gathered
+  largest-gathered (suc n) = subst (Gathered binary64) (one-more n) (larger-keeps binary64 _ (f n) (largest-gathered n) (v n))
+
+  pub largest-above : (n j : ℕ) → j < n → lt (fold larger 0ᶠ (tab n f)) (f j) ≡ false
+  unfolding larger
+  largest-above zero j h = absurd (omega arith)
+  largest-above (suc n) j h = subst (λ (x : Float). lt x (f j) ≡ false) (one-more n) (go (lt m (f n)) (ltb j n) refl refl (largest-above n j))
+    where
+      m : Float
+      m = fold larger 0ᶠ (tab n f)
+
+      itself : (x : Float) → (b : Bool) → lt x x ≡ b → b ≡ false
+      itself x true e = sym e ∙ asymmetric x x e
+      itself x false e = refl
+
+      go : (b c : Bool) → lt m (f n) ≡ b → ltb j n ≡ c → (j < n → lt m (f j) ≡ false) → lt (cond b (f n) m) (f j) ≡ false
+      go true true e k r = not-below (f n) m (f j) (nonneg-no-nan m (largest-gathered n .0)) (asymmetric m (f n) e) (r (ltb-true j n k))
+      go true false e k r = let x : j ≡ n = omega (arith, ltb-false j n k) in rw x (itself (f n) (lt (f n) (f n)) refl)
+      go false true e k r = r (ltb-true j n k)
+      go false false e k r = let x : j ≡ n = omega (arith, ltb-false j n k) in rw x e
 
 -- ---- from either end
 pub largest-mirror : (n : ℕ) (f g : ℕ → Float) → ((i : ℕ) → T (fits binary64 (f i))) → Opposite n f g

@@ -3,8 +3,10 @@ use mathlib.Core.Path.{_≡_, refl, sym, ap, _∙_}
 use Prim.Native.Nat.{ℕ, zero, suc, _+_, _-_, _<_, _≤_}
 use native.Mathlib.Numerals.{add-one}
 use native.Mathlib.Omega.{arith}
-use mathlib.Core.Bool.{Bool, true, false, _&&_}
+use mathlib.Core.Bool.{Bool, true, false, not, _&&_, false≢true}
 use mathlib.Core.List.{List}
+use borrow.Author.Tests.{leb-true, leb-false}
+use lib.Dec.{leb}
 use lib.Ieee.{Float, binary64, lt}
 use Rattle.elementary.specs.Float.{_⊕_, 0ᶠ, finite, positive}
 use Rattle.elementary.specs.Reply.{Reply, value, refusal, given}
@@ -13,7 +15,8 @@ use Rattle.vector.specs.Refusals.{numerical}
 use Rattle.vector.specs.Vectors.{at, every}
 use Rattle.vector.specs.Series.{Operator, term, plus, bothFinite, converged, summing, summed, judge, nextTerm, series, taylorStep}
 use Rattle.vector.specs.Late.{late, lateTerm, lateSeries, AskedOnce}
-use Rattle.vector.specs.Inner.{operatorOver, Made, StepIs}
+use Rattle.vector.specs.Inner.{Made, StepIs}
+use Rattle.vector.specs.Half.{fullSize, full, fullOperator}
 use Rattle.vector.proofs.Lists.{at-tab, every-ext, every-both}
 use Rattle.vector.proofs.Terms.{finite-term, at-end}
 
@@ -107,7 +110,30 @@ module _ (p : Operator) (eta : Float) where
   spent j c t s l r h e i = let z : 101 - j ≡ 0 = omega arith in rw (← (rw (z, e) at i)) refl
 
 -- the same where the slices' length is written in another way
-pub from-first : (n m : ℕ) (diag left right : List Float) (eta : Float) (v t s : List Float) (c : Bool) (k j : ℕ) (c′ : Bool) (t′ s′ : List Float) → m ≡ n → Made (operatorOver n diag left right) eta 1 v v t s c
-    → lateSeries k (operatorOver m diag left right) eta j (late c′ m t′ s′) ≡ lateSeries 99 (operatorOver m diag left right) eta 2 (late c m t s)
-    → lateSeries k (operatorOver n diag left right) eta j (late c′ n t′ s′) ≡ taylorStep (operatorOver n diag left right) eta v
-from-first n m diag left right eta v t s c k j c′ t′ s′ e f h = rw e at h ∙ first-made (operatorOver n diag left right) eta v t s c f
+pub from-first : (h : Bool) (n m : ℕ) (diag left right : List Float) (eta : Float) (v t s : List Float) (c : Bool) (k j : ℕ) (c′ : Bool) (t′ s′ : List Float) → m ≡ n
+    → Made (fullOperator h n diag left right) eta 1 (full h n v) (full h n v) (full h n t) (full h n s) c
+    → lateSeries k (fullOperator h m diag left right) eta j (late c′ (fullSize h m) (full h m t′) (full h m s′)) ≡ lateSeries 99 (fullOperator h m diag left right) eta 2 (late c (fullSize h m) (full h m t) (full h m s))
+    → lateSeries k (fullOperator h n diag left right) eta j (late c′ (fullSize h n) (full h n t′) (full h n s′)) ≡ taylorStep (fullOperator h n diag left right) eta (full h n v)
+from-first h n m diag left right eta v t s c k j c′ t′ s′ e f g = rw e at g ∙ first-made (fullOperator h n diag left right) eta (full h n v) (full h n t) (full h n s) c f
+
+-- ---- the loop's test
+pub goes-on : (j : ℕ) (c : Bool) → (leb j 100 && not c) ≡ true → (j ≤ 100) × (c ≡ false)
+goes-on j c e = go (leb j 100) c refl e
+  where
+    go : (a c : Bool) → leb j 100 ≡ a → (a && not c) ≡ true → (j ≤ 100) × (c ≡ false)
+    go true true h e = absurd (false≢true e)
+    go true false h e = (leb-true j 100 h, refl)
+    go false c h e = absurd (false≢true e)
+
+pub is-over : (j : ℕ) (c : Bool) → (leb j 100 && not c) ≡ false → c ≡ false → 100 < j
+is-over j c e f = go (leb j 100) refl (rw f at e)
+  where
+    go : (a : Bool) → leb j 100 ≡ a → (a && true) ≡ false → 100 < j
+    go true h e = absurd (false≢true (sym e))
+    go false h e = leb-false j 100 h
+
+-- after the loop: has the series converged, and is every sum positive
+pub ended : (p : Operator) (eta : Float) (v t₁ s₁ : List Float) (c₁ : Bool) (j : ℕ) (b c : Bool) (t s : List Float) → Made p eta 1 v v t₁ s₁ c₁ → (leb j 100 && not c) ≡ false → b ≡ every (p .n) (λ i. positive (at s i))
+    → lateSeries (101 - j) p eta j (late c (p .n) t s) ≡ lateSeries 99 p eta 2 (late c₁ (p .n) t₁ s₁) → StepIs (c && b) s (taylorStep p eta v)
+ended p eta v t₁ s₁ c₁ j b true t s m e g h = settled p eta (101 - j) j b true t s _ refl g (h ∙ first-made p eta v t₁ s₁ c₁ m)
+ended p eta v t₁ s₁ c₁ j b false t s m e g h = spent p eta j false t s s _ (is-over j false e refl) refl (h ∙ first-made p eta v t₁ s₁ c₁ m)

@@ -8,10 +8,15 @@ pub mod RunLaws
 pub mod Bounds
 pub mod Extremes
 pub mod Mirror
+pub mod Half
+pub mod Full
+pub mod Pairs
+pub mod FullRun
 pub mod Lots
 pub mod Rows
 pub mod Ahead
 pub mod Drift
+pub mod Stands
 pub mod Turned
 pub mod Turns
 pub mod Summing

@@ -7,8 +7,8 @@ use native.Mathlib.Numerals.{add-one}
 use native.Mathlib.Omega.{arith}
 use mathlib.Core.Bool.{Bool, true, false, _&&_}
 use borrow.Author.Tests.{lt-ltb, le-ltb}
-use lib.ListN.{length, set, take, drop}
-use lib.Seq.{drop-cons, set-at, append-snoc, drop-length, take-suc, getD-append-add, getD-drop}
+use lib.ListN.{length, set, take, drop, List·getD-append}
+use lib.Seq.{drop-cons, set-at, set-getD, append-snoc, drop-length, take-suc, getD-append-add, getD-drop}
 use lib.Ieee.{Float, nan, lt}
 use Rattle.elementary.specs.Float.{0ᶠ}
 use Rattle.vector.specs.Vectors.{from, tab, fill, at, before, after, everyFrom, every, fold, larger}
@@ -44,7 +44,17 @@ pub filled-all : (f : ℕ → Float) (l out : List Float) (i n : ℕ) → i ≡ 
 unfolding filled
 filled-all f l out i n h k e = e ∙ rw (← k, h, drop-length l, append-nil)
 
--- what has not been stored yet
+-- where the first entries are f's already, nothing has to be stored
+pub filled-kept : (f : ℕ → Float) (l : List Float) (n : ℕ) → n ≤ length l → ((k : ℕ) → k < n → at l k ≡ f k) → l ≡ filled f l n
+filled-kept f l zero h e = filled-zero f l
+filled-kept f l (suc n) h e =
+    sym (set-getD l n nan) ∙ stored f l l n (at l n) (omega arith) (filled-kept f l n (omega arith) (λ k j. e k (omega arith))) (e n (omega arith)) ∙ ap (filled f l) (add-one n)
+
+-- what has been stored, and what has not yet
+pub at-filled-before : (f : ℕ → Float) (l : List Float) (i j : ℕ) → j < i → at (filled f l i) j ≡ f j
+unfolding filled
+at-filled-before f l i j h = List·getD-append (tab i f) (drop i l) nan j (rw (length-tab i f) h) ∙ at-tab i f j h
+
 pub at-filled : (f : ℕ → Float) (l : List Float) (i j : ℕ) → i ≤ j → at (filled f l i) j ≡ at l j
 unfolding filled
 at-filled f l i j h =

@@ -89,11 +89,11 @@ unfolding before after Mirror
 neighbours n x y m zero j e = rw (le-ltb (suc j) n (omega arith))
 neighbours n x y m (suc i) j e = rw (lt-ltb (suc j) n (omega arith)) (m i (suc j) (omega arith))
 
-abbrev operator : ℕ → List Float → List Float → List Float → Operator
+abbrev pub operator : ℕ → List Float → List Float → List Float → Operator
 operator n d l r = record { n = n; diagonal = d; left = l; right = r }
 
 module _ (n : ℕ) (d d′ l l′ r r′ : List Float) (D : Mirror n d d′) (L : Mirror n l r′) (R : Mirror n r l′) (eta : Float) where
-  row-alike : (x y : List Float) → Mirror n x y → (i j : ℕ) → suc (i + j) ≡ n → rowAt (operator n d l r) eta x i ≡ rowAt (operator n d′ l′ r′) eta y j
+  pub row-alike : (x y : List Float) → Mirror n x y → (i j : ℕ) → suc (i + j) ≡ n → rowAt (operator n d l r) eta x i ≡ rowAt (operator n d′ l′ r′) eta y j
   unfolding rowAt Mirror
   row-alike x y m i j e =
       let a : at d i ≡ at d′ j = D i j e in
@@ -133,13 +133,13 @@ module _ (n : ℕ) (d d′ l l′ r r′ : List Float) (D : Mirror n d d′) (L 
   taylor-replies x y m = series-replies 100 1 (terms m m)
 
 -- ---- the factors
-factors : (n : ℕ) (o o′ : List Float) → Mirror n o o′ → Mirror n (tab n (leftAt o)) (tab n (rightAt n o′))
+pub factors-opposite : (n : ℕ) (o o′ : List Float) → Mirror n o o′ → Opposite n (leftAt o) (rightAt n o′)
 unfolding leftAt rightAt Mirror
-factors n o o′ m = tab-mirror n (leftAt o) (rightAt n o′) go
-  where
-    go : (i j : ℕ) → suc (i + j) ≡ n → leftAt o i ≡ rightAt n o′ j
-    go zero j e = rw (le-ltb (suc j) n (omega arith))
-    go (suc i) j e = rw (lt-ltb (suc j) n (omega arith), m i (suc j) (omega arith), m (suc i) j e)
+factors-opposite n o o′ m zero j e = rw (le-ltb (suc j) n (omega arith))
+factors-opposite n o o′ m (suc i) j e = rw (lt-ltb (suc j) n (omega arith), m i (suc j) (omega arith), m (suc i) j e)
+
+factors : (n : ℕ) (o o′ : List Float) → Mirror n o o′ → Mirror n (tab n (leftAt o)) (tab n (rightAt n o′))
+factors n o o′ m = tab-mirror n (leftAt o) (rightAt n o′) (factors-opposite n o o′ m)
 
 -- ---- a run of each: at its end, and between two steps
 pub data Ends (n : ℕ) : Ended → Ended → Type 0 where

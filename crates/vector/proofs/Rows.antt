@@ -10,14 +10,14 @@ use borrow.Author.Tests.{lt-ltb, le-ltb, ltb-true, ltb-false}
 use lib.IntN.{pos, natAbs}
 use lib.Dec.{T, ltb}
 use lib.ListN.{getD-replicate}
-use lib.Ieee.{Float, nan, binary64, minus, lt, le, isNan, fits, round, add, sub, mul, div, ofInt, ofBits, toSigned}
+use lib.Ieee.{Float, nan, binary64, minus, lt, le, eq, isNan, fits, round, add, sub, ofInt, ofBits}
 use lib.Ieee.Fits.{add-fits}
 use lib.Ieee.Bits.{is-true}
-use Rattle.elementary.specs.Float.{_⊕_, _⊖_, _⊗_, whole, 0ᶠ, 1ᶠ, 2ᶠ, finite, positive, count}
-use Rattle.elementary.specs.Reply.{given}
-use Rattle.elementary.specs.Elementary.{horner, factorials, expSum, expN, expRest, expBy, expOf, EXP, orNan}
+use Rattle.elementary.specs.Float.{_⊕_, _⊖_, _⊗_, whole, 0ᶠ, 1ᶠ, 2ᶠ, finite, positive}
+use Rattle.elementary.specs.Elementary.{EXP, orNan}
 use Rattle.elementary.proofs.Signs.{nonneg, add-finite, mul-finite}
 use Rattle.elementary.proofs.Order.{ofInt-mono, le-refl-f, lt→le, finite-below, add-nonneg, add-mono, mul-nonneg, mul-number, mul-twice-number, mul-mono, positive-nonneg}
+use Rattle.elementary.proofs.ExpZero.{exp-at-zero}
 use Rattle.vector.specs.Vectors.{tab, at, fill, every, larger}
 use Rattle.vector.specs.Series.{leftAt, rightAt}
 use Rattle.vector.specs.Run.{rows, norm, boundOk, diagonalFinite}
@@ -32,8 +32,8 @@ use Rattle.vector.proofs.Bounds.{bound-range}
 
 -- ---- the factors
 exp-zero : orNan (EXP (0ᶠ ⊖ 0ᶠ)) ≡ 1ᶠ
-unfolding orNan EXP given finite lt horner factorials expSum expN expRest expBy expOf count ofBits ofInt toSigned round add sub mul div
-exp-zero = refl
+unfolding orNan eq sub ofBits
+exp-zero = ap orNan (exp-at-zero (0ᶠ ⊖ 0ᶠ) refl)
 
 module _ (n : ℕ) where
   abbrev none : List Float

@@ -16,7 +16,7 @@ use Rattle.vector.specs.Vectors.{tab, at, fill, every, fold, larger, sma
 use Rattle.vector.specs.Series.{diagonalAt, leftAt, rightAt, taylorStep}
 use Rattle.vector.specs.Run.{Ended, vector, overCap, failed, Fixed, Going, going, ended, cap, rows, start, begin, divided, floor, rebalances, rebalance, next, stepped, stepOperator, turn, runOn, fixedOver, fixed, firstIf, runFor, run}
 use Rattle.vector.specs.Values.{padded, vectorOf, vectorBy}
-use Rattle.vector.specs.Inner.{operatorOver, goingOver, StepIs, planBy, planOf, pacedOf, askedOf, stoppedOf, endBy, AfterBy, AfterIs, Standing, weightBy, weight, BegunIs, PlanSpent, Between, EndIs, outcomeWith}
+use Rattle.vector.specs.Inner.{operatorOver, goingOver, StepIs, planBy, planOf, pacedOf, askedOf, stoppedOf, endBy, AfterBy, AfterIs, Standing, weightBy, weight, BegunIs, PlanSpent, Between, EndIs}
 use Rattle.vector.specs.declared.Outcome.{Outcome}
 use Rattle.vector.specs.declared.Outcome.the-variants as Outcome
 use Rattle.vector.specs.declared.plan.Planned.{Planned}
@@ -215,13 +215,12 @@ between-first p w o a tau e ew = rw e (record { within = omega arith; asks = λ 
 
 -- a plan and its steps
 pub planned : (n : ℕ) (d : List Float) (eta : Float) (b : ℕ) (rest : Float) (w o left right diag w′ o′ : List Float) (q a : Pace) → w ≡ fill n 1ᶠ → BegunIs (fixedOver n d eta) b rest o left right diag q
-    → PlanSpent eta w o left right diag q w′ o′ a
+    → PlanSpent n eta w o left right diag q w′ o′ a
     → Between (fixedOver n d eta) (runOn b (fixedOver n d eta) (begin (fixedOver n d eta) b (fill n 1ᶠ) o rest)) w′ o′ a × (weight a ≤ b)
 planned n d eta b rest w o left right diag w′ o′ q a e g t =
-    let k : length w ≡ n = ap length e ∙ length-replicate n 1ᶠ in
     let p = fixedOver n d eta in
     let r = runOn b p (begin p b (fill n 1ᶠ) o rest) in
-    let s : Standing p r w′ o′ left right diag a = rw k at (t .keeps d r (rw (k, e) (g .stands))) in
+    let s : Standing p r w′ o′ left right diag a = t .keeps d r (rw e (g .stands)) in
     (record { within = s .within; asks = s .asks; over = λ f. ends p r w′ o′ left right diag a s f (t .spent) }, le-trans (t .less) (g .less))
 
 -- the next one, as the last asked for
@@ -247,9 +246,10 @@ module _ (bound : ℕ) (alpha beta eta tau : Float) where
   unfolding run runFor runOn fixed firstIf
   run-refused e f = rw (e, f)
 
-pub answered : (n : ℕ) (r : Ended) (q : Outcome) (w o : List Float) (q′ : Outcome) (a b : List Float) → EndIs r q w o → q′ ≡ q → a ≡ padded n w → b ≡ padded n o
-    → outcomeWith (record { w = a; «log_offset» = b; n = n }) q′ ≡ vectorBy n r
-unfolding EndIs outcomeWith vectorBy vectorOf
-answered n (vector w′ o′ s) q w o q′ a b h e ea eb = rw (e, h .0, ea, eb, h .1, h .2)
-answered n (overCap need c) q w o q′ a b h e ea eb = rw (e, h)
-answered n (failed s) q w o q′ a b h e ea eb = rw (e, h)
+-- where it is done, with the vector that it left
+pub done : (n : ℕ) (r : Ended) (q : Outcome) (w o : List Float) (s : ℕ) (a b : List Float) → EndIs r q w o → q ≡ Outcome.Done s → a ≡ padded n w → b ≡ padded n o
+    → record { outcome = Outcome.Done s; vector = record { w = a; «log_offset» = b; n = n } } ≡ vectorBy n r
+unfolding EndIs vectorBy vectorOf
+done n (vector w′ o′ t) q w o s a b h e ea eb = rw (← e, h .0, ea, eb, h .1, h .2)
+done n (overCap need c) q w o s a b h e ea eb = never (cc)
+done n (failed t) q w o s a b h e ea eb = never (cc)

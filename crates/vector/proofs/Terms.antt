@@ -28,7 +28,7 @@ unfolding rowAt
 row-is p eta x i v lower upper l u e = rw (← l, ← u) e
 
 -- a factor of 1.0 gives the entry back
-times-one : (l x : Float) → eq l 1ᶠ ≡ true → T (fits binary64 x) → l ⊗ x ≡ x
+pub times-one : (l x : Float) → eq l 1ᶠ ≡ true → T (fits binary64 x) → l ⊗ x ≡ x
 times-one l x h t = one-mul-f binary64 l x (ap (eq l) (sym one-whole) ∙ h) t
 
 -- what the rows beside give through factors of 1.0, without their products

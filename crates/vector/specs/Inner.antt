@@ -14,9 +14,6 @@ use Rattle.vector.specs.Refusals.{numerical}
 use Rattle.vector.specs.Vectors.{tab, at, fill, every, fold, smaller}
 use Rattle.vector.specs.Series.{Operator, term, plus, converged}
 use Rattle.vector.specs.Run.{Ended, vector, overCap, failed, Fixed, fixedOver, Going, going, cap, norm, needed, begin, rebalances, runOn}
-use Rattle.vector.specs.Values.{blankVector, refusedVector}
-use Rattle.vector.specs.declared.ValueVector.{ValueVector}
-use Rattle.vector.specs.declared.VectorAnswer.{VectorAnswer}
 use Rattle.vector.specs.declared.Outcome.{Outcome}
 use Rattle.vector.specs.declared.Outcome.the-variants as Outcome
 use Rattle.vector.specs.declared.FirstPlan.{FirstPlan}
@@ -135,9 +132,9 @@ pub record BegunIs (p : Fixed) (b : ℕ) (rest : Float) (o left right diag : Lis
   pub stands : Standing p (runOn b p (begin p b (fill (p .n) 1ᶠ) o rest)) (fill (p .n) 1ᶠ) o left right diag a
   pub less : weight a ≤ b
 
--- after the steps of a plan, whatever the diagonal and the run's end
-pub record PlanSpent (eta : Float) (w o left right diag : List Float) (a : Pace) (w′ o′ : List Float) (a′ : Pace) : Type 0 where
-  pub keeps : (d : List Float) (r : Ended) → Standing (fixedOver (length w) d eta) r w o left right diag a → Standing (fixedOver (length w) d eta) r w′ o′ left right diag a′
+-- after the steps of a plan over n rows, whatever the diagonal and the run's end
+pub record PlanSpent (n : ℕ) (eta : Float) (w o left right diag : List Float) (a : Pace) (w′ o′ : List Float) (a′ : Pace) : Type 0 where
+  pub keeps : (d : List Float) (r : Ended) → Standing (fixedOver n d eta) r w o left right diag a → Standing (fixedOver n d eta) r w′ o′ left right diag a′
   pub spent : 1 ≤ a′ .steps → a′ .budget ≡ 0
   pub less : weight a′ ≤ weight a
 
@@ -146,9 +143,3 @@ pub record Between (p : Fixed) (r : Ended) (w o : List Float) (a : Pace) : Type 
   pub within : a .budget ≤ cap
   pub asks : a .ask ≡ true → (w ≡ fill (p .n) 1ᶠ) × (runOn (a .budget) p (begin p (a .budget) (fill (p .n) 1ᶠ) o (a .remaining)) ≡ r)
   pub over : a .ask ≡ false → EndIs r (endBy (a .steps) (a .stop)) w o
-
--- ---- an outcome with the vector that its run left
-unfoldable pub outcomeWith : ValueVector → Outcome → VectorAnswer
-outcomeWith v (Outcome.Done s) = record { outcome = Outcome.Done s; vector = v }
-outcomeWith v (Outcome.OverCap need b s) = record { outcome = Outcome.OverCap need b s; vector = blankVector }
-outcomeWith v (Outcome.Refused r) = refusedVector r

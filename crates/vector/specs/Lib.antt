@@ -7,6 +7,8 @@ pub mod Values
 pub mod Count
 pub mod Drift
 pub mod Inner
+pub mod Half
+pub mod Pairs
 pub mod Promises
 pub mod Causes
 pub mod Refusing

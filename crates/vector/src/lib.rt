@@ -2,6 +2,7 @@
 // steps, and the run that gives the value vector.
 mod count;
 mod operator;
+mod pair;
 mod plan;
 mod reals;
 pub mod refusals;

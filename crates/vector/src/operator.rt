@@ -1,34 +1,37 @@
 // The operator of the value vector's equation, scaled by the offsets. Every slice has an entry for
-// each row.
+// each row, or, where `half` is true, for each row up to the centre: the others mirror them.
 ghost use mathlib.Core.Path.{_≡_};
-ghost use Prim.Native.Nat.{_<_, _≤_};
-ghost use mathlib.Core.Bool.{true, _&&_};
-ghost use lib.Dec.{T};
+ghost use Prim.Native.Nat.{suc, _<_, _≤_};
+ghost use mathlib.Core.Bool.{true, _&&_, cond};
+ghost use lib.Dec.{T, ltb};
 ghost use lib.ListN.{length};
 ghost use lib.Ieee.{binary64, fits};
 ghost use Rattle.elementary.specs.Float.{_⊕_, _⊖_, _⊗_, finite};
+ghost use Rattle.elementary.specs.Elementary.{EXP, orNan};
 ghost use Rattle.vector.specs.Vectors.{tab, at, every};
-ghost use Rattle.vector.specs.Series.{diagonalAt, leftAt, rightAt};
+ghost use Rattle.vector.specs.Series.{diagonalAt, leftAt};
 ghost use Rattle.vector.specs.Run.{rows};
 ghost use Rattle.vector.specs.Inner.{OneAt, Ones};
+ghost use Rattle.vector.specs.Half.{past, rightBy};
 
-// The diagonal a second: alpha q^2 - beta q + 2 eta, for q from -bound to bound; and whether all of
-// it is finite.
+// The diagonal a second: alpha q^2 - beta q + 2 eta, for n values of q from -bound up; and whether all
+// of it is finite.
 pub(crate) fn fill_shifted_diagonal(
     alpha: f64,
     beta: f64,
     eta: f64,
     bound: u32,
+    n: usize,
     diag: &mut [f64],
 ) -> bool
-    requires { ⌜ (bound ≤ 200) × (length (now diag) ≡ rows bound) ⌝ }
-    ensures { λ _. ⌜ now (diag .exit) ≡ tab (rows bound) (diagonalAt bound alpha beta eta) ⌝ }
-    ensures { λ r. ⌜ r ≡ every (rows bound) (λ i. finite (at (now (diag .exit)) i)) ⌝ }
+    requires { ⌜ (bound ≤ 200) × (n ≤ rows bound) × (length (now diag) ≡ n) ⌝ }
+    ensures { λ _. ⌜ now (diag .exit) ≡ tab n (diagonalAt bound alpha beta eta) ⌝ }
+    ensures { λ r. ⌜ r ≡ every n (λ i. finite (at (now (diag .exit)) i)) ⌝ }
 {
     let mut all = true;
     let mut q = 0.0 - (bound as f64);
     let mut i: usize = 0;
-    while i < diag.len() {
+    while i < n {
         let d = ((alpha * q) * q - beta * q) + 2.0 * eta;
         diag[i] = d;
         all = all & elementary::is_finite(d);
@@ -58,32 +61,39 @@ fn left_factor(o: &[f64], i: usize) -> f64
     if i == 0 {
         return 0.0;
     }
-    crate::reals::exp_or_nan(o[i - 1] - o[i])
+    crate::reals::factor(o[i - 1], o[i])
 }
 
-// The right factor of row i.
-fn right_factor(o: &[f64], i: usize) -> f64
+// The right factor of row i: `last` for the last row.
+fn right_factor(o: &[f64], i: usize, last: f64) -> f64
     requires { ⌜ i < length (now o) ⌝ }
-    ensures { λ r. ⌜ r ≡ rightAt (length (now (o .entry))) (now (o .entry)) i ⌝ }
+    ensures { λ r. ⌜ r ≡ cond (ltb (suc i) (length (now (o .entry)))) (orNan (EXP (at (now (o .entry)) (suc i) ⊖ at (now (o .entry)) i))) last ⌝ }
 {
     if i + 1 < o.len() {
-        return crate::reals::exp_or_nan(o[i + 1] - o[i]);
+        return crate::reals::factor(o[i + 1], o[i]);
     }
-    0.0
+    last
+}
+
+// What stands past the last row: 0.0 past the end, and past the centre what stands before it.
+pub(crate) fn past_last(half: bool, lower: f64) -> f64
+    ensures { λ r. ⌜ r ≡ past half lower ⌝ }
+{
+    if half { lower } else { 0.0 }
 }
 
 // The factors of every row, and whether all are finite.
-pub(crate) fn set_factors(o: &[f64], left: &mut [f64], right: &mut [f64]) -> bool
+pub(crate) fn set_factors(o: &[f64], left: &mut [f64], right: &mut [f64], half: bool) -> bool
     requires { ⌜ (length (now left) ≡ length (now o)) × (length (now right) ≡ length (now o)) ⌝ }
     ensures { λ _. ⌜ now (left .exit) ≡ tab (length (now (o .entry))) (leftAt (now (o .entry))) ⌝ }
-    ensures { λ _. ⌜ now (right .exit) ≡ tab (length (now (o .entry))) (rightAt (length (now (o .entry))) (now (o .entry))) ⌝ }
+    ensures { λ _. ⌜ now (right .exit) ≡ tab (length (now (o .entry))) (rightBy half (length (now (o .entry))) (now (o .entry))) ⌝ }
     ensures { λ r. ⌜ r ≡ every (length (now (o .entry))) (λ i. finite (at (now (left .exit)) i) && finite (at (now (right .exit)) i)) ⌝ }
 {
     let mut all = true;
     let mut i: usize = 0;
     while i < o.len() {
         let lf = left_factor(o, i);
-        let rf = right_factor(o, i);
+        let rf = right_factor(o, i, past_last(half, lf));
         left[i] = lf;
         right[i] = rf;
         all = all & (elementary::is_finite(lf) & elementary::is_finite(rf));

@@ -1,6 +1,7 @@
-// Single floats: the larger of two, the magnitude of one, and the elementary functions with a NaN
-// for a refusal, which what reads it tests for later.
+// Single floats: the larger of two, the magnitude of one, the elementary functions with a NaN for a
+// refusal, which what reads it tests for later, and the factor that two offsets make.
 ghost use mathlib.Core.Path.{_≡_};
+ghost use Rattle.elementary.specs.Float.{_⊖_};
 ghost use Rattle.elementary.specs.Elementary.{LN, EXP, CEIL, orNan};
 ghost use Rattle.vector.specs.Vectors.{larger, abs};
 
@@ -20,6 +21,19 @@ pub(crate) fn exp_or_nan(x: f64) -> f64
     ensures { λ r. ⌜ r ≡ orNan (EXP x) ⌝ }
 {
     elementary::or_nan(elementary::exp(x))
+}
+
+// A row's factor for a neighbour, by their offsets. Where these are equal, as all are before the first
+// rebalancing, EXP of their difference is 1.0, and none is made. The difference is tested and not the
+// offsets: two equal infinities make a NaN.
+pub(crate) fn factor(neighbour: f64, own: f64) -> f64
+    ensures { λ r. ⌜ r ≡ orNan (EXP (neighbour ⊖ own)) ⌝ }
+{
+    let d = neighbour - own;
+    if d == 0.0 {
+        return 1.0;
+    }
+    exp_or_nan(d)
 }
 
 pub(crate) fn ln_or_nan(x: f64) -> f64

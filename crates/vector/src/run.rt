@@ -1,16 +1,18 @@
 // The run that gives the value vector: steps of the series, the division by the largest weight, and
-// rebalancing. Every slice has an entry for each row.
+// rebalancing. Every slice has an entry for each row, or, where `half` is true, for each row up to the
+// centre: the others mirror them.
 ghost use mathlib.Core.Path.{_≡_};
-ghost use Prim.Native.Nat.{_-_, _≤_};
+ghost use Prim.Native.Nat.{_+_, _-_, _≤_};
 ghost use lib.ListN.{length};
 ghost use lib.Ieee.{inf, lt};
 ghost use mathlib.Core.Bool.{true, false, not};
 ghost use Rattle.elementary.specs.Float.{_⊕_, _⊗_, _⊘_, 0ᶠ, 1ᶠ, positive};
 ghost use Rattle.elementary.specs.Elementary.{LN, orNan};
 ghost use Rattle.vector.specs.Vectors.{tab, at, fill, every, fold, larger, smaller};
-ghost use Rattle.vector.specs.Run.{boundOk, rows, cap, run, runOn, begin, divided, rebalances, fixedOver};
+ghost use Rattle.vector.specs.Run.{boundOk, rows, cap, run, runOn, begin, divided, rebalances};
 ghost use Rattle.vector.specs.Values.{blankVector, vectorOf, refusedVector, vectorBy, ratesOk};
-ghost use Rattle.vector.specs.Inner.{outcomeWith, pacedOf, askedOf, stoppedOf, refusedPace, endBy, Sizes, Fit, AfterIs, BegunIs, PlanSpent, Between, weight, EndIs};
+ghost use Rattle.vector.specs.Inner.{pacedOf, askedOf, stoppedOf, refusedPace, endBy, Sizes, Fit, AfterIs, BegunIs, PlanSpent, Between, weight, EndIs};
+ghost use Rattle.vector.specs.Half.{fullSize, fullFactors, full, fullFixed, Centred, RowsStand, filledOut};
 use crate::MAX_DIM;
 use crate::MAX_EXPM_STEPS;
 use crate::MAX_INVENTORY_LOTS;
@@ -186,12 +188,15 @@ fn start(
     eta: f64,
     rest: f64,
     budget: u32,
+    half: bool,
 ) -> Pace
-    requires { ⌜ budget ≤ cap ⌝ }
+    requires { ⌜ (2 ≤ length (now o)) × (budget ≤ cap) ⌝ }
     requires { ⌜ Sizes (length (now o)) (now «diag_s») (now diag) (now left) (now right) ⌝ }
-    ensures { λ r. ⌜ BegunIs (fixedOver (length (now (o .entry))) (now («diag_s» .entry)) eta) budget rest (now (o .entry)) (now (left .exit)) (now (right .exit)) (now (diag .exit)) r ⌝ }
+    ensures { λ r. ⌜ BegunIs (fullFixed half (length (now (o .entry))) (now («diag_s» .entry)) eta) budget rest (full half (length (now (o .entry))) (now (o .entry)))
+        (fullFactors half (length (now (o .entry))) (now (left .exit)) (now (right .exit))) (fullFactors half (length (now (o .entry))) (now (right .exit)) (now (left .exit))) (full half (length (now (o .entry))) (now (diag .exit))) r ⌝ }
+    ensures { λ _. ⌜ Centred half (length (now (o .entry))) (now (left .exit)) (now (right .exit)) ⌝ }
 {
-    if crate::operator::set_factors(o, left, right) {
+    if crate::operator::set_factors(o, left, right, half) {
         match crate::plan::plan_with(rest, diag_s, eta, left, right, budget) {
             Planned::Steps(steps, dt) => {
                 crate::operator::scale_diagonal(diag_s, dt, diag);
@@ -216,16 +221,19 @@ fn plan_steps(
     term: &mut [f64],
     eta: f64,
     first: Pace,
+    half: bool,
 ) -> Pace
-    requires { ⌜ (2 ≤ length (now w)) × (length (now o) ≡ length (now w)) × (first .budget ≤ cap) ⌝ }
+    requires { ⌜ (2 ≤ length (now w)) × (length (now o) ≡ length (now w)) × (first .budget ≤ cap) × Centred half (length (now w)) (now left) (now right) ⌝ }
     requires { ⌜ Sizes (length (now w)) (now diag) (now left) (now right) (now term) ⌝ }
-    ensures { λ r. ⌜ PlanSpent eta (now (w .entry)) (now (o .entry)) (now (left .entry)) (now (right .entry)) (now (diag .entry)) first (now (w .exit)) (now (o .exit)) r ⌝ }
+    ensures { λ r. ⌜ PlanSpent (fullSize half (length (now (w .entry)))) eta (full half (length (now (w .entry))) (now (w .entry))) (full half (length (now (w .entry))) (now (o .entry)))
+        (fullFactors half (length (now (w .entry))) (now (left .entry)) (now (right .entry))) (fullFactors half (length (now (w .entry))) (now (right .entry)) (now (left .entry))) (full half (length (now (w .entry))) (now (diag .entry)))
+        first (full half (length (now (w .entry))) (now (w .exit))) (full half (length (now (w .entry))) (now (o .exit))) r ⌝ }
 {
     let plain = crate::operator::all_ones(left, right);
     let mut pace = first;
     while (0 < pace.steps) & (0 < pace.budget) {
         let eta_dt = eta * pace.dt;
-        let good = crate::series::taylor_step(w, diag, eta_dt, left, right, plain, term);
+        let good = crate::series::taylor_step(w, diag, eta_dt, left, right, half, plain, term);
         pace = after_step(w, o, pace, good);
     }
     pace
@@ -241,10 +249,12 @@ fn run_plan(
     rest: f64,
     budget: u32,
     n: usize,
+    half: bool,
 ) -> Pace
-    requires { ⌜ (2 ≤ n) × (n ≤ 401) × (now w ≡ fill n 1ᶠ) × (length (now o) ≡ n) × (length (now «diag_s») ≡ n) × (budget ≤ cap) ⌝ }
-    ensures { λ r. ⌜ Between (fixedOver n (now («diag_s» .entry)) eta) (runOn budget (fixedOver n (now («diag_s» .entry)) eta) (begin (fixedOver n (now («diag_s» .entry)) eta) budget (fill n 1ᶠ) (now (o .entry)) rest))
-        (now (w .exit)) (now (o .exit)) r × (weight r ≤ budget) ⌝ }
+    requires { ⌜ (2 ≤ n) × (n ≤ 401) × (length (now w) ≡ n) × (length (now o) ≡ n) × (length (now «diag_s») ≡ n) × (budget ≤ cap) × (full half n (now w) ≡ fill (fullSize half n) 1ᶠ) ⌝ }
+    ensures { λ r. ⌜ Between (fullFixed half n (now («diag_s» .entry)) eta)
+        (runOn budget (fullFixed half n (now («diag_s» .entry)) eta) (begin (fullFixed half n (now («diag_s» .entry)) eta) budget (fill (fullSize half n) 1ᶠ) (full half n (now (o .entry))) rest))
+        (full half n (now (w .exit))) (full half n (now (o .exit))) r × (weight r ≤ budget) ⌝ }
 {
     let mut diag = zeros();
     let mut left = zeros();
@@ -258,6 +268,7 @@ fn run_plan(
         eta,
         rest,
         budget,
+        half,
     );
     let mut term = zeros();
     plan_steps(
@@ -269,18 +280,27 @@ fn run_plan(
         &mut term[..n],
         eta,
         first,
+        half,
     )
 }
 
 // The run over a time above zero, from weights of 1.0: plan after plan.
-fn run_plans(w: &mut [f64], o: &mut [f64], diag_s: &[f64], eta: f64, tau: f64, n: usize) -> Outcome
+fn run_plans(
+    w: &mut [f64],
+    o: &mut [f64],
+    diag_s: &[f64],
+    eta: f64,
+    tau: f64,
+    n: usize,
+    half: bool,
+) -> Outcome
     requires { ⌜ (2 ≤ n) × (n ≤ 401) × (now w ≡ fill n 1ᶠ) × (length (now o) ≡ n) × (length (now «diag_s») ≡ n) ⌝ }
-    ensures { λ r. ⌜ EndIs (runOn cap (fixedOver n (now («diag_s» .entry)) eta) (begin (fixedOver n (now («diag_s» .entry)) eta) cap (fill n 1ᶠ) (now (o .entry)) tau))
-        r (now (w .exit)) (now (o .exit)) ⌝ }
+    ensures { λ r. ⌜ EndIs (runOn cap (fullFixed half n (now («diag_s» .entry)) eta) (begin (fullFixed half n (now («diag_s» .entry)) eta) cap (fill (fullSize half n) 1ᶠ) (full half n (now (o .entry))) tau))
+        r (full half n (now (w .exit))) (full half n (now (o .exit))) ⌝ }
 {
     let mut pace = asking(MAX_EXPM_STEPS, tau);
     while pace.ask {
-        pace = run_plan(w, o, diag_s, eta, pace.remaining, pace.budget, n);
+        pace = run_plan(w, o, diag_s, eta, pace.remaining, pace.budget, n, half);
     }
     end_of(pace)
 }
@@ -313,23 +333,6 @@ pub fn refused_vector(number: u8) -> VectorAnswer
     }
 }
 
-// The answer of a run: its vector where it is done.
-fn answer_of(outcome: Outcome, vector: ValueVector) -> VectorAnswer
-    ensures { λ r. ⌜ r ≡ outcomeWith vector outcome ⌝ }
-{
-    match outcome {
-        Outcome::Done(steps) => VectorAnswer {
-            outcome: Outcome::Done(steps),
-            vector,
-        },
-        Outcome::OverCap(need, budget, steps) => VectorAnswer {
-            outcome: Outcome::OverCap(need, budget, steps),
-            vector: blank(),
-        },
-        Outcome::Refused(number) => refused_vector(number),
-    }
-}
-
 // Whether alpha and eta are finite and above zero, and beta and tau are finite.
 pub(crate) fn floats_fit(alpha: f64, beta: f64, eta: f64, tau: f64) -> bool
     ensures { λ r. ⌜ r ≡ ratesOk alpha beta eta tau ⌝ }
@@ -347,47 +350,116 @@ pub(crate) fn bound_fits(bound: u32) -> bool
     (1 <= bound) & (bound <= MAX_INVENTORY_LOTS)
 }
 
+// Every weight 1.0.
+fn fill_ones(w: &mut [f64])
+    ensures { λ _. ⌜ now (w .exit) ≡ fill (length (now (w .entry))) 1ᶠ ⌝ }
+{
+    let mut i: usize = 0;
+    while i < w.len() {
+        w[i] = 1.0;
+        i += 1;
+    }
+}
+
 // A blank vector at the end of the time: its first n weights become 1.0.
 fn at_end(blank: ValueVector, n: usize) -> ValueVector
     requires { ⌜ (blank ≡ blankVector) × (n ≤ 401) ⌝ }
     ensures { λ r. ⌜ r ≡ vectorOf n (fill n 1ᶠ) (fill n 0ᶠ) ⌝ }
 {
-    let mut v = blank;
-    let mut i: usize = 0;
-    while i < n {
-        v.w[i] = 1.0;
+    let mut w = blank.w;
+    let log_offset = blank.log_offset;
+    fill_ones(&mut w[..n]);
+    ValueVector { w, log_offset, n }
+}
+
+// Rows n up from those before the centre that they mirror.
+fn fill_mirror(x: &mut [f64], n: usize)
+    requires { ⌜ (1 ≤ n) × (n ≤ length (now x)) × (length (now x) ≤ n + n) ⌝ }
+    ensures { λ _. ⌜ now (x .exit) ≡ filledOut n (now (x .entry)) ⌝ }
+{
+    let last = x.len() - 1;
+    let mut i = n;
+    while i < x.len() {
+        x[i] = x[last - i];
         i += 1;
     }
-    v.n = n;
-    v
 }
 
-// Takes a vector from the end of the time back over tau seconds, above zero: refused by 11 at once
-// where an entry of the diagonal is not finite.
-fn run_back(v: ValueVector, alpha: f64, beta: f64, eta: f64, bound: u32, tau: f64) -> VectorAnswer
-    requires { ⌜ (1 ≤ bound) × (bound ≤ 200) × (lt 0ᶠ tau ≡ true) ⌝ }
-    requires { ⌜ v ≡ vectorOf (rows bound) (fill (rows bound) 1ᶠ) (fill (rows bound) 0ᶠ) ⌝ }
+// The run over tau seconds, above zero, by the first n rows, which stand for all of them: refused by 11
+// at once where an entry of the diagonal is not finite.
+fn run_rows(
+    w: &mut [f64],
+    o: &mut [f64],
+    alpha: f64,
+    beta: f64,
+    eta: f64,
+    bound: u32,
+    tau: f64,
+    n: usize,
+    half: bool,
+) -> Outcome
+    requires { ⌜ (2 ≤ n) × (n ≤ rows bound) × (bound ≤ 200) × (lt 0ᶠ tau ≡ true) × (length (now w) ≡ n) × (now o ≡ fill n 0ᶠ) ⌝ }
+    requires { ⌜ RowsStand half n bound alpha beta eta ⌝ }
+    ensures { λ r. ⌜ EndIs (run bound alpha beta eta tau) r (full half n (now (w .exit))) (full half n (now (o .exit))) ⌝ }
+{
+    let mut diag_s = zeros();
+    if crate::operator::fill_shifted_diagonal(alpha, beta, eta, bound, n, &mut diag_s[..n]) {
+        fill_ones(w);
+        return run_plans(w, o, &diag_s[..n], eta, tau, n, half);
+    }
+    Outcome::Refused(NUMERICAL)
+}
+
+// Takes a blank vector back over tau seconds, above zero, by its first n rows, which stand for all of
+// them, and hands it back filled where the run is done.
+fn run_back(
+    blank: ValueVector,
+    alpha: f64,
+    beta: f64,
+    eta: f64,
+    bound: u32,
+    tau: f64,
+    n: usize,
+    half: bool,
+) -> VectorAnswer
+    requires { ⌜ (2 ≤ n) × (n ≤ rows bound) × (bound ≤ 200) × (lt 0ᶠ tau ≡ true) × (blank ≡ blankVector) ⌝ }
+    requires { ⌜ RowsStand half n bound alpha beta eta ⌝ }
     ensures { λ r. ⌜ r ≡ vectorBy (rows bound) (run bound alpha beta eta tau) ⌝ }
 {
-    let n = (2 * bound + 1) as usize;
-    let mut w = v.w;
-    let mut o = v.log_offset;
-    let mut diag_s = zeros();
-    if crate::operator::fill_shifted_diagonal(alpha, beta, eta, bound, &mut diag_s[..n]) {
-        let outcome = run_plans(&mut w[..n], &mut o[..n], &diag_s[..n], eta, tau, n);
-        return answer_of(
-            outcome,
-            ValueVector {
+    let mut w = blank.w;
+    let mut o = blank.log_offset;
+    let outcome = run_rows(
+        &mut w[..n],
+        &mut o[..n],
+        alpha,
+        beta,
+        eta,
+        bound,
+        tau,
+        n,
+        half,
+    );
+    if let Outcome::Done(steps) = outcome {
+        let all = (2 * bound + 1) as usize;
+        fill_mirror(&mut w[..all], n);
+        fill_mirror(&mut o[..all], n);
+        return VectorAnswer {
+            outcome: Outcome::Done(steps),
+            vector: ValueVector {
                 w,
                 log_offset: o,
-                n,
+                n: all,
             },
-        );
+        };
     }
-    refused_vector(NUMERICAL)
+    VectorAnswer {
+        outcome,
+        vector: blank,
+    }
 }
 
-// Takes a blank vector to tau seconds before the end and hands it back filled.
+// Takes a blank vector to tau seconds before the end and hands it back filled. Without a drift the
+// rows up to the centre are enough.
 pub(crate) fn run_vector(
     blank: ValueVector,
     alpha: f64,
@@ -396,15 +468,19 @@ pub(crate) fn run_vector(
     bound: u32,
     tau: f64,
 ) -> VectorAnswer
-    requires { ⌜ (blank ≡ blankVector) × (1 ≤ bound) × (bound ≤ 200) ⌝ }
+    requires { ⌜ (blank ≡ blankVector) × (boundOk bound ≡ true) × (positive alpha ≡ true) × (positive eta ≡ true) ⌝ }
     ensures { λ r. ⌜ r ≡ vectorBy (rows bound) (run bound alpha beta eta tau) ⌝ }
 {
-    let v = at_end(blank, (2 * bound + 1) as usize);
+    let centre = bound as usize;
+    let n = 2 * centre + 1;
     if 0.0 < tau {
-        return run_back(v, alpha, beta, eta, bound, tau);
+        if beta == 0.0 {
+            return run_back(blank, alpha, beta, eta, bound, tau, centre + 1, true);
+        }
+        return run_back(blank, alpha, beta, eta, bound, tau, n, false);
     }
     VectorAnswer {
         outcome: Outcome::Done(0),
-        vector: v,
+        vector: at_end(blank, n),
     }
 }

@@ -1,4 +1,5 @@
-// One step of the exponential by its Taylor series. Every slice has an entry for each row.
+// One step of the exponential by its Taylor series. Every slice has an entry for each row, or, where
+// `half` is true, for each row up to the centre: the others mirror them.
 ghost use mathlib.Core.Path.{_≡_};
 ghost use Prim.Native.Nat.{_≤_};
 ghost use mathlib.Core.Bool.{true};
@@ -6,14 +7,15 @@ ghost use lib.ListN.{length};
 ghost use Rattle.elementary.specs.Float.{positive};
 ghost use Rattle.vector.specs.Vectors.{at, every};
 ghost use Rattle.vector.specs.Series.{small, converged, taylorStep};
-ghost use Rattle.vector.specs.Inner.{operatorOver, Made, Sizes, Fit, Ones, StepIs};
+ghost use Rattle.vector.specs.Inner.{Made, Sizes, Fit, Ones, StepIs};
+ghost use Rattle.vector.specs.Half.{full, fullOperator, Centred};
 
 const TAYLOR_TOL: f64 = 1e-16;
 
-const MAX_TAYLOR_ORDER: u32 = 100;
+pub(crate) const MAX_TAYLOR_ORDER: u32 = 100;
 
 // Whether t is at most 1e-16 of s in magnitude.
-fn is_small(t: f64, s: f64) -> bool
+pub(crate) fn is_small(t: f64, s: f64) -> bool
     ensures { λ r. ⌜ r ≡ small s t ⌝ }
 {
     crate::reals::magnitude(t) <= TAYLOR_TOL * crate::reals::magnitude(s)
@@ -53,11 +55,13 @@ fn first_term(
     eta_dt: f64,
     left: &[f64],
     right: &[f64],
+    half: bool,
     out: &mut [f64],
 ) -> bool
-    requires { ⌜ 2 ≤ length (now v) ⌝ }
+    requires { ⌜ (2 ≤ length (now v)) × Centred half (length (now v)) (now left) (now right) ⌝ }
     requires { ⌜ Sizes (length (now v)) (now diag) (now left) (now right) (now out) ⌝ }
-    ensures { λ r. ⌜ Made (operatorOver (length (now (v .entry))) (now (diag .entry)) (now (left .entry)) (now (right .entry))) «eta_dt» 1 (now (v .entry)) (now (v .entry)) (now (out .exit)) (now (v .exit)) r ⌝ }
+    ensures { λ r. ⌜ Made (fullOperator half (length (now (v .entry))) (now (diag .entry)) (now (left .entry)) (now (right .entry))) «eta_dt» 1 (full half (length (now (v .entry))) (now (v .entry))) (full half (length (now (v .entry))) (now (v .entry)))
+        (full half (length (now (v .entry))) (now (out .exit))) (full half (length (now (v .entry))) (now (v .exit))) r ⌝ }
 {
     let mut lower = 0.0;
     let mut i: usize = 0;
@@ -69,28 +73,31 @@ fn first_term(
         lower = x;
         i += 1;
     }
-    let t = crate::operator::row_at(v, diag, eta_dt, left, right, i, lower, 0.0);
+    let upper = crate::operator::past_last(half, lower);
+    let t = crate::operator::row_at(v, diag, eta_dt, left, right, i, lower, upper);
     out[i] = t;
     v[i] = v[i] + t;
     has_converged(out, v)
 }
 
-// A later term in place of the one before it, and the sum with it; whether it has converged. The two
-// end rows stand apart, so that the rows between them read both neighbours; `lower` is the entry of x
-// before row i, as it was.
+// A later term in place of the one before it, and the sum with it; whether it has converged. The first
+// and the last row stand apart, so that the rows between them read both neighbours; `lower` is the
+// entry of x before row i, as it was.
 fn next_term(
     x: &mut [f64],
     diag: &[f64],
     eta_dt: f64,
     left: &[f64],
     right: &[f64],
+    half: bool,
     plain: bool,
     order: u32,
     v: &mut [f64],
 ) -> bool
-    requires { ⌜ (2 ≤ length (now x)) × Fit (now x) × (plain ≡ true → Ones (length (now x)) (now left) (now right)) ⌝ }
+    requires { ⌜ (2 ≤ length (now x)) × Fit (now x) × (plain ≡ true → Ones (length (now x)) (now left) (now right)) × Centred half (length (now x)) (now left) (now right) ⌝ }
     requires { ⌜ Sizes (length (now x)) (now diag) (now left) (now right) (now v) ⌝ }
-    ensures { λ r. ⌜ Made (operatorOver (length (now (x .entry))) (now (diag .entry)) (now (left .entry)) (now (right .entry))) «eta_dt» order (now (x .entry)) (now (v .entry)) (now (x .exit)) (now (v .exit)) r ⌝ }
+    ensures { λ r. ⌜ Made (fullOperator half (length (now (x .entry))) (now (diag .entry)) (now (left .entry)) (now (right .entry))) «eta_dt» order (full half (length (now (x .entry))) (now (x .entry))) (full half (length (now (x .entry))) (now (v .entry)))
+        (full half (length (now (x .entry))) (now (x .exit))) (full half (length (now (x .entry))) (now (v .exit))) r ⌝ }
 {
     let inv = 1.0 / (order as f64);
     let first = crate::operator::row_at(x, diag, eta_dt, left, right, 0, 0.0, x[1]) * inv;
@@ -105,7 +112,8 @@ fn next_term(
         lower = centre;
         i += 1;
     }
-    let last = crate::operator::row_at(x, diag, eta_dt, left, right, i, lower, 0.0) * inv;
+    let upper = crate::operator::past_last(half, lower);
+    let last = crate::operator::row_at(x, diag, eta_dt, left, right, i, lower, upper) * inv;
     x[i] = last;
     v[i] = v[i] + last;
     x[0] = first;
@@ -127,32 +135,57 @@ fn all_positive(v: &[f64]) -> bool
     all
 }
 
-// One Taylor step of v. False where a term or a sum is not finite, 100 terms do not converge, or an
-// entry is not positive; what v holds then is of no use. Nothing is copied: term 1 comes from v
-// itself, and each later one takes the place of the one before it in `term`. `plain` says that every
-// inner row's factors are 1.0.
-pub(crate) fn taylor_step(
+// The work of `taylor_step` over slices. Nothing is copied: term 1 comes from v itself, and each later
+// one takes the place of the one before it in `term`.
+fn taylor_rows(
     v: &mut [f64],
     diag: &[f64],
     eta_dt: f64,
     left: &[f64],
     right: &[f64],
+    half: bool,
     plain: bool,
     term: &mut [f64],
 ) -> bool
-    requires { ⌜ (2 ≤ length (now v)) × (plain ≡ true → Ones (length (now v)) (now left) (now right)) ⌝ }
+    requires { ⌜ (2 ≤ length (now v)) × (plain ≡ true → Ones (length (now v)) (now left) (now right)) × Centred half (length (now v)) (now left) (now right) ⌝ }
     requires { ⌜ Sizes (length (now v)) (now diag) (now left) (now right) (now term) ⌝ }
-    ensures { λ r. ⌜ StepIs r (now (v .exit)) (taylorStep (operatorOver (length (now (v .entry))) (now (diag .entry)) (now (left .entry)) (now (right .entry))) «eta_dt» (now (v .entry))) ⌝ }
+    ensures { λ r. ⌜ StepIs r (full half (length (now (v .entry))) (now (v .exit))) (taylorStep (fullOperator half (length (now (v .entry))) (now (diag .entry)) (now (left .entry)) (now (right .entry))) «eta_dt» (full half (length (now (v .entry))) (now (v .entry)))) ⌝ }
     ensures { λ _. ⌜ Fit (now (v .exit)) ⌝ }
 {
-    let mut settled = first_term(v, diag, eta_dt, left, right, term);
+    let mut settled = first_term(v, diag, eta_dt, left, right, half, term);
     let mut order: u32 = 2;
     while (order <= MAX_TAYLOR_ORDER) & !settled {
-        settled = next_term(term, diag, eta_dt, left, right, plain, order, v);
+        settled = next_term(term, diag, eta_dt, left, right, half, plain, order, v);
         order += 1;
     }
     if settled {
         return all_positive(v);
     }
     false
+}
+
+// One Taylor step of v. False where a term or a sum is not finite, 100 terms do not converge, or an
+// entry is not positive; what v holds then is of no use. `plain` says that every inner row's factors
+// are 1.0. Two rows are taken into locals.
+pub(crate) fn taylor_step(
+    v: &mut [f64],
+    diag: &[f64],
+    eta_dt: f64,
+    left: &[f64],
+    right: &[f64],
+    half: bool,
+    plain: bool,
+    term: &mut [f64],
+) -> bool
+    requires { ⌜ (2 ≤ length (now v)) × (plain ≡ true → Ones (length (now v)) (now left) (now right)) × Centred half (length (now v)) (now left) (now right) ⌝ }
+    requires { ⌜ Sizes (length (now v)) (now diag) (now left) (now right) (now term) ⌝ }
+    ensures { λ r. ⌜ StepIs r (full half (length (now (v .entry))) (now (v .exit))) (taylorStep (fullOperator half (length (now (v .entry))) (now (diag .entry)) (now (left .entry)) (now (right .entry))) «eta_dt» (full half (length (now (v .entry))) (now (v .entry)))) ⌝ }
+    ensures { λ _. ⌜ Fit (now (v .exit)) ⌝ }
+{
+    if half {
+        if v.len() == 2 {
+            return crate::pair::taylor_pair(v, diag, eta_dt, left, right);
+        }
+    }
+    taylor_rows(v, diag, eta_dt, left, right, half, plain, term)
 }

@@ -1,7 +1,7 @@
 use mathlib.Core.Path.{sym, _∙_}
 use borrow.Author.Needs.{needs}
 use Rattle.vector.specs.Values.{valueVector, vectorIf}
-use Rattle.vector.proofs.Bounds.{bound-range}
+use Rattle.vector.proofs.Bounds.{rates-above}
 use Rattle.vector.proofs.value_vector.Statement.{statement}
 use Rattle.vector.proofs.value_vector.Tie as tie
 
@@ -17,8 +17,9 @@ blank-requires c κs = search needs
 run-vector-requires : tie.Need-run-vector-requires
 run-vector-requires c κs =
     let b = c .before .before in
-    let r = bound-range (b .before .before .before .args .bound) (sym (b .bound-fits .ensures) ∙ c .before .if2 .taken) in
-    (c .blank .ensures, r .0, r .1)
+    let f = b .before .before in
+    let r = rates-above _ _ _ _ (sym (f .floats-fit .ensures) ∙ b .before .if1 .taken) in
+    (c .blank .ensures, sym (b .bound-fits .ensures) ∙ c .before .if2 .taken, r .0, r .2)
 
 returns : tie.Need-returns
 unfolding valueVector vectorIf

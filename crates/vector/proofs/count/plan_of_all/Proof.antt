@@ -1,5 +1,6 @@
 -- A diagonal that is finite has the first plan of its rows; any other has none. Assumes nothing.
 use mathlib.Core.Path.{sym, _∙_}
+use native.Mathlib.Nat.{le-refl}
 use native.Mathlib.Omega.{arith}
 use borrow.Author.Needs.{needs}
 use Rattle.vector.proofs.Room.{blank-room, blank-length, stored-part, stored-length, stored-room}
@@ -26,7 +27,7 @@ slice-aggregate-fill-shifted-diagonal : tie.Need-slice-aggregate-fill-shifted-di
 slice-aggregate-fill-shifted-diagonal c = sym (blank-length _ _ (c .before .zeros .ensures) (omega (arith, c .before .before .pre .1)))
 
 fill-shifted-diagonal-requires : tie.Need-fill-shifted-diagonal-requires
-fill-shifted-diagonal-requires c κs = let b = c .before .before .pre .1 in (b, blank-length _ _ (c .before .zeros .ensures) (omega (arith, b)))
+fill-shifted-diagonal-requires c κs = let b = c .before .before .pre .1 in (b, le-refl _, blank-length _ _ (c .before .zeros .ensures) (omega (arith, b)))
 
 array-share-prefix-diag : tie.Need-array-share-prefix-diag
 array-share-prefix-diag c = stored-room _ _ _ _ (c .before .before .fill-shifted-diagonal .ensures .0)

@@ -10,6 +10,7 @@ use Rattle.vector.specs.Vectors.{tab, fill}
 use Rattle.vector.specs.Series.{leftAt, rightAt}
 use Rattle.vector.specs.Inner.{aheadOf}
 use Rattle.vector.proofs.Room.{lent, blank-padded, blank-room, blank-length, stored-part, stored-length, stored-room}
+use Rattle.vector.proofs.Full.{right-whole}
 use Rattle.vector.proofs.Rows.{factors-fine}
 use Rattle.vector.proofs.Ahead.{ahead-of}
 use Rattle.vector.proofs.count.plan_of_rows.Statement.{statement}
@@ -30,7 +31,7 @@ left-is : (c : tie.After-set-factors) → let n = c .before .before .before .bef
 left-is c = rw (unmoved _ _ (c .before .before .before .before .before .before .zeros .ensures) (c .before .before .before .before .before .before .before .before .pre .0), length-replicate (c .before .before .before .before .before .before .before .before .args .n) 0ᶠ) at (c .set-factors .ensures .0)
 
 right-is : (c : tie.After-set-factors) → let n = c .before .before .before .before .before .before .before .before .args .n in c .set-factors .last .1 .1 .0 ≡ tab n (rightAt n (fill n 0ᶠ))
-right-is c = rw (unmoved _ _ (c .before .before .before .before .before .before .zeros .ensures) (c .before .before .before .before .before .before .before .before .pre .0), length-replicate (c .before .before .before .before .before .before .before .before .args .n) 0ᶠ) at (c .set-factors .ensures .1 .0)
+right-is c = (rw (unmoved _ _ (c .before .before .before .before .before .before .zeros .ensures) (c .before .before .before .before .before .before .before .before .pre .0), length-replicate (c .before .before .before .before .before .before .before .before .args .n) 0ᶠ) at (c .set-factors .ensures .1 .0)) ∙ right-whole _ _
 
 zeros-requires : tie.Need-zeros-requires
 zeros-requires c κs = tt

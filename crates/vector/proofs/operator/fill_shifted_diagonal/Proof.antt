@@ -14,7 +14,6 @@ use Rattle.elementary.specs.Float.{_⊕_, _⊖_, whole, 0ᶠ, 1ᶠ, finite}
 use Rattle.elementary.proofs.Exact.{one-whole, sub-whole, add-ints, minus-suc}
 use Rattle.vector.specs.Vectors.{tab, at, every}
 use Rattle.vector.specs.Series.{diagonalAt}
-use Rattle.vector.specs.Run.{rows}
 use Rattle.vector.proofs.Loops.{filled, filled-zero, stored, filled-all, at-stored, every-zero, every-suc, every-at}
 use Rattle.vector.proofs.Lists.{every-ext}
 use Rattle.vector.proofs.operator.fill_shifted_diagonal.Statement.{statement}
@@ -42,12 +41,12 @@ next i b h l =
     ap (λ (z : Float). whole (minus i b) ⊕ z) one-whole ∙ add-ints binary64 (minus i b) (pos 1) (le-trans k (lit≤ tt)) (lit≤ tt) ∙ ap whole (rw (add-one i) (minus-suc i b))
 
 abbrev Inv-loop : tie.InvT-loop
-Inv-loop alpha beta eta bound diag₀ all₀ q₀ i₀ diag all q i =
-    (i ≤ length diag₀) × (length diag ≡ length diag₀) × (q ≡ whole (minus i bound)) × (diag ≡ filled (diagonalAt bound alpha beta eta) diag₀ i)
+Inv-loop alpha beta eta bound n diag₀ all₀ q₀ i₀ diag all q i =
+    (i ≤ n) × (length diag ≡ n) × (q ≡ whole (minus i bound)) × (diag ≡ filled (diagonalAt bound alpha beta eta) diag₀ i)
     × (all ≡ every i (λ k. finite (diagonalAt bound alpha beta eta k)))
 
 abbrev μ-loop : tie.MeasureT-loop
-μ-loop alpha beta eta bound diag₀ all₀ q₀ i₀ diag all q i = length diag₀ - i
+μ-loop alpha beta eta bound n diag₀ all₀ q₀ i₀ diag all q i = n - i
 
 int-to-float-q : tie.Need-int-to-float-q Inv-loop μ-loop
 int-to-float-q c = tt
@@ -95,7 +94,7 @@ returns c =
     let k = c .before .loop .i in
     let i = c .before .loop .inv in
     let a = c .before .before .before .before .args in
-    let d : c .before .loop .diag ≡ tab (rows (a .bound)) (diagonalAt (a .bound) (a .alpha) (a .beta) (a .eta)) = filled-all _ _ _ k _ (omega arith) (omega arith) (i .3) in
+    let d : c .before .loop .diag ≡ tab (a .n) (diagonalAt (a .bound) (a .alpha) (a .beta) (a .eta)) = filled-all _ _ _ k _ (omega arith) (omega arith) (i .3) in
     (d, i .4 ∙ every-at _ _ _ (omega arith) ∙ tested _ _ _ d)
 
 pub fill-shifted-diagonal-spec : {M : Type 1} → statement M

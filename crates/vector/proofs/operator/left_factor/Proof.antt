@@ -25,36 +25,36 @@ later o (suc i) h = ap (λ (k : ℕ). orNan (EXP (at o k ⊖ at o (suc i)))) (om
 returns : tie.Need-returns
 returns c = first _ _ (c .if1 .taken)
 
-sub-exp-or-nan : tie.Need-sub-exp-or-nan
-sub-exp-or-nan c = search needs
+sub-factor : tie.Need-sub-factor
+sub-factor c = search needs
 
-mul-exp-or-nan : tie.Need-mul-exp-or-nan
-mul-exp-or-nan c = search needs
+mul-factor : tie.Need-mul-factor
+mul-factor c = search needs
 
-shared-slice-read-exp-or-nan : tie.Need-shared-slice-read-exp-or-nan
-shared-slice-read-exp-or-nan c = search needs
+shared-slice-read-factor : tie.Need-shared-slice-read-factor
+shared-slice-read-factor c = search needs
 
-mul-exp-or-nan-2 : tie.Need-mul-exp-or-nan-2
-mul-exp-or-nan-2 c = search needs
+mul-factor-2 : tie.Need-mul-factor-2
+mul-factor-2 c = search needs
 
-shared-slice-read-exp-or-nan-2 : tie.Need-shared-slice-read-exp-or-nan-2
-shared-slice-read-exp-or-nan-2 c = search needs
+shared-slice-read-factor-2 : tie.Need-shared-slice-read-factor-2
+shared-slice-read-factor-2 c = search needs
 
-exp-or-nan-requires : tie.Need-exp-or-nan-requires
-exp-or-nan-requires c κs = search needs
+factor-requires : tie.Need-factor-requires
+factor-requires c κs = search needs
 
 returns-2 : tie.Need-returns-2
-returns-2 c = c .exp-or-nan .ensures ∙ later _ _ (omega arith)
+returns-2 c = c .factor .ensures ∙ later _ _ (omega arith)
 
 pub left-factor-spec : {M : Type 1} → statement M
 left-factor-spec =
     tie.close
     (tie.spec
     returns
-    sub-exp-or-nan
-    mul-exp-or-nan
-    shared-slice-read-exp-or-nan
-    mul-exp-or-nan-2
-    shared-slice-read-exp-or-nan-2
-    exp-or-nan-requires
+    sub-factor
+    mul-factor
+    shared-slice-read-factor
+    mul-factor-2
+    shared-slice-read-factor-2
+    factor-requires
     returns-2)

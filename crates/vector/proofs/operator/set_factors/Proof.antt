@@ -9,7 +9,8 @@ use lib.Ieee.{Float}
 use denote.Ref.{now}
 use Rattle.elementary.specs.Float.{finite}
 use Rattle.vector.specs.Vectors.{tab, at, every}
-use Rattle.vector.specs.Series.{leftAt, rightAt}
+use Rattle.vector.specs.Series.{leftAt}
+use Rattle.vector.specs.Half.{rightBy}
 use Rattle.vector.proofs.Loops.{filled, filled-zero, stored, filled-all, at-stored, every-zero, every-suc, every-at}
 use Rattle.vector.proofs.Lists.{every-ext}
 use Rattle.vector.proofs.operator.set_factors.Statement.{statement}
@@ -20,18 +21,21 @@ both : (n : ℕ) (f g : ℕ → Float) (l r : List Float) → l ≡ tab n f → 
 both n f g l r e d = every-ext n _ _ (λ k h. rw (at-stored l n f k e h, at-stored r n g k d h))
 
 abbrev Inv-loop : tie.InvT-loop
-Inv-loop o left₀ right₀ all₀ i₀ left right all i =
-    (i ≤ length o) × (length left ≡ length o) × (length right ≡ length o) × (left ≡ filled (leftAt o) left₀ i) × (right ≡ filled (rightAt (length o) o) right₀ i)
-    × (all ≡ every i (λ k. finite (leftAt o k) && finite (rightAt (length o) o k)))
+Inv-loop o left₀ right₀ half all₀ i₀ left right all i =
+    (i ≤ length o) × (length left ≡ length o) × (length right ≡ length o) × (left ≡ filled (leftAt o) left₀ i) × (right ≡ filled (rightBy half (length o) o) right₀ i)
+    × (all ≡ every i (λ k. finite (leftAt o k) && finite (rightBy half (length o) o k)))
 
 abbrev μ-loop : tie.MeasureT-loop
-μ-loop o left₀ right₀ all₀ i₀ left right all i = length o - i
+μ-loop o left₀ right₀ half all₀ i₀ left right all i = length o - i
 
 loop-holds : tie.Need-loop-holds Inv-loop μ-loop
 loop-holds c = (omega arith, omega arith, omega arith, filled-zero _ _, filled-zero _ _, every-zero _)
 
 left-factor-requires : tie.Need-left-factor-requires Inv-loop μ-loop
 left-factor-requires c κs = omega arith
+
+past-last-requires : tie.Need-past-last-requires Inv-loop μ-loop
+past-last-requires c κs = tt
 
 right-factor-requires : tie.Need-right-factor-requires Inv-loop μ-loop
 right-factor-requires c κs = omega arith
@@ -61,16 +65,20 @@ loop-less : tie.Need-loop-less Inv-loop μ-loop
 loop-less c = omega arith
 
 loop-again : tie.Need-loop-again Inv-loop μ-loop
+unfolding rightBy
 loop-again c =
     let at-right = c .before .before in
-    let at-loop = at-right .before .before .before in
-    let i = at-loop .loop .inv in (
+    let at-past = at-right .before in
+    let at-loop = at-past .before .before .before in
+    let i = at-loop .loop .inv in
+    let l = at-past .before .left-factor .ensures in
+    let r = rw (at-past .past-last .ensures, l) at (at-right .right-factor .ensures) in (
       omega arith,
       simp length-set (i .1),
       simp length-set (i .2),
-      stored _ _ _ _ _ (omega arith) (i .3) (at-right .before .left-factor .ensures),
-      stored _ _ _ _ _ (omega arith) (i .4) (at-right .right-factor .ensures),
-      rw (i .5, c .before .is-finite .ensures, c .is-finite2 .ensures, at-right .before .left-factor .ensures, at-right .right-factor .ensures) (every-suc (at-loop .loop .i) _),
+      stored _ _ _ _ _ (omega arith) (i .3) l,
+      stored _ _ _ _ _ (omega arith) (i .4) r,
+      rw (i .5, c .before .is-finite .ensures, c .is-finite2 .ensures, l, r) (every-suc (at-loop .loop .i) _),
     )
 
 same-length : tie.Need-same-length Inv-loop μ-loop
@@ -85,7 +93,7 @@ returns c =
     let i = c .before .loop .inv in
     let o = now (c .before .before .before .before .before .args .o) in
     let l : c .before .loop .left ≡ tab (length o) (leftAt o) = filled-all _ _ _ k _ (omega arith) (omega arith) (i .3) in
-    let r : c .before .loop .right ≡ tab (length o) (rightAt (length o) o) = filled-all _ _ _ k _ (omega arith) (omega arith) (i .4) in
+    let r : c .before .loop .right ≡ tab (length o) (rightBy (c .before .before .before .before .before .args .half) (length o) o) = filled-all _ _ _ k _ (omega arith) (omega arith) (i .4) in
     (l, (r, i .5 ∙ every-at _ _ _ (omega arith) ∙ both _ _ _ _ _ l r))
 
 pub set-factors-spec : {M : Type 1} → statement M
@@ -96,6 +104,7 @@ set-factors-spec =
     μ-loop
     loop-holds
     left-factor-requires
+    past-last-requires
     right-factor-requires
     mul-left
     slice-write-left

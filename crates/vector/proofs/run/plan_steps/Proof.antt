@@ -1,24 +1,34 @@
 -- A run that ends in r from the plan ends in r from where the steps have come. Assumes nothing.
 use mathlib.Core.Path.{_≡_, refl, sym, _∙_}
+use mathlib.Core.Bool.{Bool}
 use mathlib.Core.List.{List}
-use Prim.Native.Nat.{_≤_}
+use Prim.Native.Nat.{ℕ, _≤_}
 use native.Mathlib.Omega.{arith}
 use native.Mathlib.Nat.{le-refl, le-trans}
 use lib.ListN.{length}
 use lib.Ieee.{Float}
+use denote.Ref.{now}
 use Rattle.vector.specs.Run.{Ended, cap, fixedOver}
 use Rattle.vector.specs.Inner.{Standing, weight}
+use Rattle.vector.specs.Half.{fullSize, fullFactors, full}
+use Rattle.vector.specs.declared.run.Pace.{Pace}
+use Rattle.vector.proofs.FullRun.{after-full}
 use Rattle.vector.proofs.RunLaws.{stands-on, after-less, weighs, both-some, one-none}
 use Rattle.vector.proofs.run.plan_steps.Statement.{statement}
 use Rattle.vector.proofs.run.plan_steps.Tie as tie
 
+-- where n rows of the slices stand
+abbrev stands : Bool → ℕ → Float → List Float → List Float → List Float → List Float → Ended → List Float → List Float → Pace → Type 0
+stands half n eta left right diag d r w o a =
+    Standing (fixedOver (fullSize half n) d eta) r (full half n w) (full half n o) (fullFactors half n left right) (fullFactors half n right left) (full half n diag) a
+
 abbrev Inv-loop : tie.InvT-loop
-Inv-loop w₀ o₀ diag left right term₀ eta plain pace₀ w o term pace =
+Inv-loop w₀ o₀ diag left right term₀ eta half plain pace₀ w o term pace =
     (length w ≡ length w₀) × (length o ≡ length o₀) × (length term ≡ length term₀) × (pace .budget ≤ cap) × (weight pace ≤ weight pace₀)
-    × ((d : List Float) (r : Ended) → Standing (fixedOver (length w₀) d eta) r w₀ o₀ left right diag pace₀ → Standing (fixedOver (length w₀) d eta) r w o left right diag pace)
+    × ((d : List Float) (r : Ended) → stands half (length w₀) eta left right diag d r w₀ o₀ pace₀ → stands half (length w₀) eta left right diag d r w o pace)
 
 abbrev μ-loop : tie.MeasureT-loop
-μ-loop w₀ o₀ diag left right term₀ eta plain pace₀ w o term pace = pace .budget
+μ-loop w₀ o₀ diag left right term₀ eta half plain pace₀ w o term pace = pace .budget
 
 all-ones-requires : tie.Need-all-ones-requires Inv-loop μ-loop
 all-ones-requires c κs = let z = c .before .before .before .before .before .before .pre .1 in z .right-n ∙ sym (z .left-n)
@@ -33,7 +43,7 @@ taylor-step-requires c κs =
     let p = l .before .before .before .before .before .before .before .before .pre in
     let z = p .1 in
     let ones = rw (z .left-n) at (l .before .all-ones .ensures) in
-    rw (i .0) ((p .0 .0, ones), record { diag-n = z .diag-n; left-n = z .left-n; right-n = z .right-n; term-n = i .2 ∙ z .term-n })
+    rw (i .0) ((p .0 .0, ones, p .0 .3), record { diag-n = z .diag-n; left-n = z .left-n; right-n = z .right-n; term-n = i .2 ∙ z .term-n })
 
 after-step-requires : tie.Need-after-step-requires Inv-loop μ-loop
 after-step-requires c κs =
@@ -55,14 +65,17 @@ loop-again c =
     let t = c .before .before .before .before .before .before .before .before .before .before .before .taylor-step in
     let a = c .before .before .before .before .after-step in
     let x = both-some (l .pace .steps) (l .pace .budget) (c .before .before .before .before .before .before .before .before .before .before .before .before .before .before .before .if1 .taken) in
+    let p = c .before .before .before .before .before .before .before .before .before .before .before .before .before .before .before .before .before .before .before .before .before .before .before .before .before .before in
+    let h = p .args .half in
+    let m = length (now (p .args .w)) in
     let less = after-less _ (l .pace) _ _ _ _ _ (x .1) _ _ _ (a .ensures) in
     let n = t .kept .0 ∙ i .0 in (
       a .kept .0 ∙ n,
       a .kept .1 .0 ∙ i .1,
-      t .kept .1 .1 .1 .1 .1 .1 .0 ∙ i .2,
+      t .kept .1 .1 .1 .1 .1 .1 .1 .0 ∙ i .2,
       omega (arith, less .0, i .3),
       le-trans (less .1) (le-trans (weighs (l .pace)) (i .4)),
-      λ d r s. stands-on _ _ _ _ _ _ _ _ _ _ _ _ _ (x .0) (x .1) (rw (i .0) at (t .ensures .0)) (rw n at (a .ensures)) (i .5 d r s),
+      λ d r s. stands-on _ _ _ _ _ _ _ _ _ _ _ _ _ (x .0) (x .1) (rw (i .0) at (t .ensures .0)) (after-full h m (omega (arith, p .pre .0 .0)) (l .pace) _ _ _ _ _ n (t .ensures .1) _ (rw n at (a .ensures))) (i .5 d r s),
     )
 
 same-length : tie.Need-same-length Inv-loop μ-loop

@@ -1,119 +1,156 @@
-use mathlib.Core.Path.{_≡_, refl, sym, ap, _∙_}
+-- The arrays are filled out with what mirrors the first n rows. Assumes nothing.
+use mathlib.Core.Path.{_≡_, refl, sym, ap, subst, _∙_}
+use mathlib.Core.Logic.{⊎-elim}
+use Prim.Native.Nat.{ℕ, _≤_}
 use native.Mathlib.Omega.{arith}
-use lib.ListN.{length-replicate}
+use mathlib.Core.Bool.{Bool}
+use mathlib.Core.List.{List, [], _∷_, _++_}
+use lib.ListN.{length, drop, length-replicate}
+use lib.Ieee.{Float}
 use borrow.Author.Needs.{needs}
-use Rattle.elementary.specs.Float.{0ᶠ, 1ᶠ}
+use denote.Enum.Declared.{tagOf}
+use types.Run.{OneOf}
+use Rattle.elementary.specs.Float.{0ᶠ}
 use Rattle.vector.specs.Vectors.{fill}
-use Rattle.vector.specs.Run.{rows}
-use Rattle.vector.specs.Values.{padded, vectorBy}
-use Rattle.vector.proofs.Room.{lent, length-lent, back, lent-room, own-w, own-o, blank-length, stored-part, stored-length, stored-room}
-use Rattle.vector.proofs.RunLaws.{run-later, run-refused, answered}
+use Rattle.vector.specs.Run.{Ended, vector, overCap, failed, rows}
+use Rattle.vector.specs.Values.{room, padded, blankVector, refusedVector, vectorBy}
+use Rattle.vector.specs.Inner.{EndIs}
+use Rattle.vector.specs.Half.{fullSize}
+use Rattle.vector.specs.declared.ValueVector.{ValueVector}
+use Rattle.vector.specs.declared.Outcome.{Outcome}
+use Rattle.vector.proofs.Outcome.{the-type}
+use Rattle.vector.proofs.Room.{lent, back, blank-w, blank-o, blank-padded, blank-room, blank-length}
+use Rattle.vector.proofs.RunLaws.{done}
+use Rattle.vector.proofs.FullRun.{out-room, out-length, out-asks, out-is}
 use Rattle.vector.proofs.run.run_back.Statement.{statement}
 use Rattle.vector.proofs.run.run_back.Tie as tie
 
--- the vector's arrays as they come
-weights : (c : tie.Start) → let n = rows (c .args .bound) in c .args .v .w ≡ padded n (fill n 1ᶠ)
-weights c = own-w _ _ _ _ (c .pre .1)
+-- a run that is not done leaves the blank vector
+not-done : (n : ℕ) (r : Ended) (q : Outcome) (w o : List Float) (v : ValueVector) → EndIs r q w o → OneOf (1 ∷ 2 ∷ []) (tagOf the-type q) → v ≡ blankVector → record { outcome = q; vector = v } ≡ vectorBy n r
+unfolding EndIs vectorBy refusedVector
+not-done n (vector w′ o′ s) q w o v h k e = ⊎-elim (λ z. absurd (omega arith)) (λ z. absurd (omega arith)) (subst (λ (x : Outcome). OneOf (1 ∷ 2 ∷ []) (tagOf the-type x)) (h .0) k)
+not-done n (overCap need c) q w o v h k e = rw (h, e)
+not-done n (failed s) q w o v h k e = rw (h, e)
 
-offsets : (c : tie.Start) → let n = rows (c .args .bound) in c .args .v .«log_offset» ≡ padded n (fill n 0ᶠ)
-offsets c = own-o _ _ _ _ (c .pre .1)
+few : (c : tie.Start) → c .args .n ≤ room
+few c = omega (arith, c .pre .0 .1, c .pre .0 .2)
 
-mul-n : tie.Need-mul-n
-mul-n c = search needs
+weights : (c : tie.Start) → c .args .blank .w ≡ fill room 0ᶠ
+weights c = blank-w _ (c .pre .0 .4)
 
-add-n : tie.Need-add-n
-add-n c = search needs
+offsets : (c : tie.Start) → c .args .blank .«log_offset» ≡ fill room 0ᶠ
+offsets c = blank-o _ (c .pre .0 .4)
 
-cast-n : tie.Need-cast-n
-cast-n c = search needs
+-- ---- as the arrays come back from the run
+abbrev entry : tie.After-run-rows → tie.Start
+entry c = c .before .before .before .before .before
 
-zeros-requires : tie.Need-zeros-requires
-zeros-requires c κs = search needs
+abbrev first : tie.After-run-rows → ℕ
+first c = entry c .args .n
 
-array-borrow-prefix-diag-s : tie.Need-array-borrow-prefix-diag-s
-array-borrow-prefix-diag-s c = search needs
+abbrev half : tie.After-run-rows → Bool
+half c = entry c .args .half
 
-slice-aggregate-fill-shifted-diagonal : tie.Need-slice-aggregate-fill-shifted-diagonal
-slice-aggregate-fill-shifted-diagonal c = sym (blank-length _ _ (c .before .zeros .ensures) (omega (arith, c .before .before .before .before .pre .0 .1)))
+weights-back : (c : tie.After-run-rows) → c .run-rows .last .0 ++ drop (first c) (entry c .args .blank .w) ≡ padded (first c) (c .run-rows .last .0)
+weights-back c = back _ _ _ (blank-padded (first c) _ (weights (entry c)) (few (entry c))) (length-replicate (first c) 0ᶠ) _
 
-fill-shifted-diagonal-requires : tie.Need-fill-shifted-diagonal-requires
-fill-shifted-diagonal-requires c κs = let b = c .before .before .before .before .pre .0 .1 in (b, blank-length _ _ (c .before .zeros .ensures) (omega (arith, b)))
+offsets-back : (c : tie.After-run-rows) → c .run-rows .last .1 .0 ++ drop (first c) (entry c .args .blank .«log_offset») ≡ padded (first c) (c .run-rows .last .1 .0)
+offsets-back c = back _ _ _ (blank-padded (first c) _ (offsets (entry c)) (few (entry c))) (length-replicate (first c) 0ᶠ) _
+
+weights-long : (c : tie.After-run-rows) → length (c .run-rows .last .0) ≡ first c
+weights-long c = c .run-rows .kept .0 ∙ blank-length _ _ (weights (entry c)) (few (entry c))
+
+offsets-long : (c : tie.After-run-rows) → length (c .run-rows .last .1 .0) ≡ first c
+offsets-long c = c .run-rows .kept .1 .0 ∙ blank-length _ _ (offsets (entry c)) (few (entry c))
+
+some : (c : tie.After-run-rows) → 1 ≤ first c
+some c = omega (arith, entry c .pre .0 .0)
+
+sized : (c : tie.After-run-rows) → fullSize (half c) (first c) ≡ rows (entry c .args .bound)
+sized c = entry c .pre .1 .sized
+
+within : (c : tie.After-run-rows) → rows (entry c .args .bound) ≤ room
+within c = omega (arith, entry c .pre .0 .2)
 
 array-borrow-prefix-w : tie.Need-array-borrow-prefix-w
-array-borrow-prefix-w c = let s = c .before .before .before .before .before .before .before in lent-room _ _ _ (weights s) (length-replicate (rows (s .args .bound)) 1ᶠ)
+array-borrow-prefix-w c = let s = c .before .before in blank-room _ _ (weights s) (few s)
 
-slice-aggregate-run-plans : tie.Need-slice-aggregate-run-plans
-slice-aggregate-run-plans c = let s = c .before .before .before .before .before .before .before .before in sym (length-lent _ _ _ (weights s) (length-replicate (rows (s .args .bound)) 1ᶠ))
+slice-aggregate-run-rows : tie.Need-slice-aggregate-run-rows
+slice-aggregate-run-rows c = let s = c .before .before .before in sym (blank-length _ _ (weights s) (few s))
 
 array-borrow-prefix-o : tie.Need-array-borrow-prefix-o
-array-borrow-prefix-o c = let s = c .before .before .before .before .before .before .before .before in lent-room _ _ _ (offsets s) (length-replicate (rows (s .args .bound)) 0ᶠ)
+array-borrow-prefix-o c = let s = c .before .before .before in blank-room _ _ (offsets s) (few s)
 
-slice-aggregate-run-plans-2 : tie.Need-slice-aggregate-run-plans-2
-slice-aggregate-run-plans-2 c = let s = c .before .before .before .before .before .before .before .before .before in sym (length-lent _ _ _ (offsets s) (length-replicate (rows (s .args .bound)) 0ᶠ))
+slice-aggregate-run-rows-2 : tie.Need-slice-aggregate-run-rows-2
+slice-aggregate-run-rows-2 c = let s = c .before .before .before .before in sym (blank-length _ _ (offsets s) (few s))
 
-array-share-prefix-diag-s : tie.Need-array-share-prefix-diag-s
-array-share-prefix-diag-s c = stored-room _ _ _ _ (c .before .before .before .before .fill-shifted-diagonal .ensures .0)
+run-rows-requires : tie.Need-run-rows-requires
+run-rows-requires c κs =
+    let s = c .before .before .before .before in
+    let p = s .pre .0 in
+    let n = s .args .n in
+    ((p .0, p .1, p .2, p .3, blank-length _ _ (weights s) (few s), lent n _ _ (blank-padded n _ (offsets s) (few s)) (length-replicate n 0ᶠ)), s .pre .1)
 
-slice-aggregate-run-plans-3 : tie.Need-slice-aggregate-run-plans-3
-slice-aggregate-run-plans-3 c = sym (stored-length _ _ _ _ (c .before .before .before .before .before .fill-shifted-diagonal .ensures .0))
+enum-known-outcome : tie.Need-enum-known-outcome
+enum-known-outcome c = search needs
 
-run-plans-requires : tie.Need-run-plans-requires
-run-plans-requires c κs =
-    let s = c .before .before .before .before .before .before .before .before .before .before in
-    let l = s .pre .0 .0 in
-    let h = s .pre .0 .1 in (
-      omega (arith, l),
-      omega (arith, h),
-      lent _ _ _ (weights s) (length-replicate (rows (s .args .bound)) 1ᶠ),
-      length-lent _ _ _ (offsets s) (length-replicate (rows (s .args .bound)) 0ᶠ),
-      stored-length _ _ _ _ (c .before .before .before .before .before .fill-shifted-diagonal .ensures .0),
-    )
+mul-all : tie.Need-mul-all
+mul-all c = search needs
 
-answer-of-requires : tie.Need-answer-of-requires
-answer-of-requires c κs = search needs
+add-all : tie.Need-add-all
+add-all c = search needs
+
+cast-all : tie.Need-cast-all
+cast-all c = search needs
+
+array-borrow-prefix-w-2 : tie.Need-array-borrow-prefix-w-2
+array-borrow-prefix-w-2 c = let p = c .before .before .before .before .before in out-room (half p) _ _ _ (weights-back p) (weights-long p) (some p) _ (sized p) (within p)
+
+slice-aggregate-fill-mirror : tie.Need-slice-aggregate-fill-mirror
+slice-aggregate-fill-mirror c = let p = c .before .before .before .before .before .before in sym (out-length (half p) _ _ _ (weights-back p) (weights-long p) (some p) _ (sized p) (within p))
+
+fill-mirror-requires : tie.Need-fill-mirror-requires
+fill-mirror-requires c κs = let p = c .before .before .before .before .before .before in out-asks (half p) _ _ _ (weights-back p) (weights-long p) (some p) _ (sized p) (within p)
+
+array-borrow-prefix-o-2 : tie.Need-array-borrow-prefix-o-2
+array-borrow-prefix-o-2 c = let p = c .before .before .before .before .before .before .before .before in out-room (half p) _ _ _ (offsets-back p) (offsets-long p) (some p) _ (sized p) (within p)
+
+slice-aggregate-fill-mirror-2 : tie.Need-slice-aggregate-fill-mirror-2
+slice-aggregate-fill-mirror-2 c = let p = c .before .before .before .before .before .before .before .before .before in sym (out-length (half p) _ _ _ (offsets-back p) (offsets-long p) (some p) _ (sized p) (within p))
+
+fill-mirror-requires-2 : tie.Need-fill-mirror-requires-2
+fill-mirror-requires-2 c κs = let p = c .before .before .before .before .before .before .before .before .before in out-asks (half p) _ _ _ (offsets-back p) (offsets-long p) (some p) _ (sized p) (within p)
 
 returns : tie.Need-returns
 returns c =
-    let l = c .before .before .before in
-    let s = l .before .before .before .before .before .before .before .before .before .before .before in
-    let f = l .before .before .before .before .before .before .fill-shifted-diagonal .ensures in
-    let n = rows (s .args .bound) in
-    let ones = length-replicate n 1ᶠ in
-    let zeros = length-replicate n 0ᶠ in
-    c .answer-of .ensures
-    ∙ answered _ _ _ _ _ _ _ _
-    (run-later _ _ _ _ _ _ _ _ _ _ (s .pre .0 .2) (stored-part _ _ _ _ (f .0)) (lent _ _ _ (offsets s) zeros) (rw (f .0) at (sym (f .1) ∙ l .before .before .before .before .if1 .taken)) (l .run-plans .ensures))
-    refl (back _ _ _ (weights s) ones _) (back _ _ _ (offsets s) zeros _)
-
-refused-vector-requires : tie.Need-refused-vector-requires
-refused-vector-requires c κs = search needs
+    let p = c .before .before .before .before .before .before .before .before .before .before .before in
+    done _ _ _ _ _ _ _ _ (p .run-rows .ensures) (c .before .before .before .before .before .before .before .outcome .given .1)
+    (out-is (half p) _ _ _ (weights-back p) (weights-long p) (some p) _ (sized p) (within p) _ (c .before .before .before .before .fill-mirror .ensures))
+    (out-is (half p) _ _ _ (offsets-back p) (offsets-long p) (some p) _ (sized p) (within p) _ (c .before .fill-mirror2 .ensures))
 
 returns-2 : tie.Need-returns-2
-unfolding vectorBy
 returns-2 c =
-    let s = c .before .before .before .before .before .before .before .before in
-    let f = c .before .before .before .fill-shifted-diagonal .ensures in
-    c .refused-vector .ensures ∙ sym (ap (vectorBy (rows (s .args .bound))) (run-refused _ _ _ _ _ (s .pre .0 .2) (rw (f .0) at (sym (f .1) ∙ c .before .if1 .left))))
+    let p = c .before .before .before in
+    not-done _ _ _ _ _ _ (p .run-rows .ensures) (c .match .keys2) (entry p .pre .0 .4)
 
 pub run-back-spec : {M : Type 1} → statement M
 run-back-spec =
     tie.close
     (tie.spec
-    mul-n
-    add-n
-    cast-n
-    zeros-requires
-    array-borrow-prefix-diag-s
-    slice-aggregate-fill-shifted-diagonal
-    fill-shifted-diagonal-requires
     array-borrow-prefix-w
-    slice-aggregate-run-plans
+    slice-aggregate-run-rows
     array-borrow-prefix-o
-    slice-aggregate-run-plans-2
-    array-share-prefix-diag-s
-    slice-aggregate-run-plans-3
-    run-plans-requires
-    answer-of-requires
+    slice-aggregate-run-rows-2
+    run-rows-requires
+    enum-known-outcome
+    mul-all
+    add-all
+    cast-all
+    array-borrow-prefix-w-2
+    slice-aggregate-fill-mirror
+    fill-mirror-requires
+    array-borrow-prefix-o-2
+    slice-aggregate-fill-mirror-2
+    fill-mirror-requires-2
     returns
-    refused-vector-requires
     returns-2)

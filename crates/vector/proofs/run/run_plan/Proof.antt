@@ -2,9 +2,9 @@
 use mathlib.Core.Path.{_≡_, sym, ap, _∙_}
 use Prim.Native.Nat.{ℕ, _≤_}
 use mathlib.Core.List.{List, _++_}
-use lib.ListN.{length, take, drop, length-replicate}
+use lib.ListN.{length, take, drop}
 use lib.Ieee.{Float}
-use Rattle.elementary.specs.Float.{0ᶠ, 1ᶠ}
+use Rattle.elementary.specs.Float.{0ᶠ}
 use Rattle.vector.specs.Vectors.{fill}
 use Rattle.vector.proofs.Room.{blank-room, blank-length, part-back, part-room}
 use Rattle.vector.proofs.RunLaws.{planned}
@@ -76,7 +76,7 @@ start-requires : tie.Need-start-requires
 start-requires c κs =
     let p = c .before .before .before .before .before .before .before .before .before .before .pre in
     let part : (l : List Float) → l ≡ fill 401 0ᶠ → length (take (c .before .before .before .before .before .before .before .before .before .before .args .n) l) ≡ c .before .before .before .before .before .before .before .before .before .before .args .n = λ l e. blank-length _ l e (p .1) in
-    (p .5, rw (p .3) (record { diag-n = p .4; left-n = part _ (c .before .before .before .before .before .before .zeros .ensures); right-n = part _ (c .before .before .before .before .before .zeros2 .ensures); term-n = part _ (c .before .before .before .before .zeros3 .ensures) }))
+    ((rw (p .3) (p .0), p .5), rw (p .3) (record { diag-n = p .4; left-n = part _ (c .before .before .before .before .before .before .zeros .ensures); right-n = part _ (c .before .before .before .before .before .zeros2 .ensures); term-n = part _ (c .before .before .before .before .zeros3 .ensures) }))
 
 zeros-requires-4 : tie.Need-zeros-requires-4
 zeros-requires-4 c κs = tt
@@ -109,8 +109,8 @@ plan-steps-requires : tie.Need-plan-steps-requires
 plan-steps-requires c κs =
     let p = c .before .before .before .before .before .before .before .before .before .before .before .before .before .before .before .before .before .before .before .before .before .pre in
     let s = c .before .before .before .before .before .before .before .before .before .before in
-    rw (ap length (p .2) ∙ length-replicate (c .before .before .before .before .before .before .before .before .before .before .before .before .before .before .before .before .before .before .before .before .before .args .n) 1ᶠ) (
-      (p .0, p .3, s .start .ensures .stands .within),
+    rw (p .2) (
+      (p .0, p .3, s .start .ensures .0 .stands .within, rw (left-is s, right-is s) (rw (p .3) at (s .start .ensures .1))),
       record {
         diag-n = ap length (diag-is s) ∙ diag-back s;
         left-n = ap length (left-is s) ∙ left-back s;
@@ -127,9 +127,10 @@ same-length-2 c = c .before .before .before .before .before .plan-steps .kept .1
 
 returns : tie.Need-returns
 returns c =
-    let p = c .before .before .before .before .before .before .before .before .before .before .before .before .before .before .before .before .before .before .before .before .before .before .before .before .before .before .before .pre in
+    let z = c .before .before .before .before .before .before .before .before .before .before .before .before .before .before .before .before .before .before .before .before .before .before .before .before .before .before .before in
+    let p = z .pre in
     let s = c .before .before .before .before .before .before .before .before .before .before .before .before .before .before .before .before in
-    planned _ _ _ _ _ _ _ _ _ _ _ _ _ _ (p .2) (rw (p .3) at (s .start .ensures)) (rw (diag-is s, left-is s, right-is s) at (c .before .before .before .before .before .plan-steps .ensures))
+    planned _ _ _ _ _ _ _ _ _ _ _ _ _ _ (p .6) (rw (p .3) at (s .start .ensures .0)) (rw (p .2, diag-is s, left-is s, right-is s) at (c .before .before .before .before .before .plan-steps .ensures))
 
 pub run-plan-spec : {M : Type 1} → statement M
 run-plan-spec =

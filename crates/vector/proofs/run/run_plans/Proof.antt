@@ -1,34 +1,39 @@
 -- From where the plans have come the run ends as from its start. Assumes nothing.
-use mathlib.Core.Path.{_≡_, refl, _∙_}
-use lib.ListN.{length}
+use mathlib.Core.Path.{_≡_, refl, ap, _∙_}
+use lib.ListN.{length, length-replicate}
+use native.Mathlib.Omega.{arith}
 use Rattle.elementary.specs.Float.{1ᶠ}
 use Rattle.vector.specs.Vectors.{fill}
-use Rattle.vector.specs.Run.{cap, begin, runOn, fixedOver}
+use Rattle.vector.specs.Run.{cap, begin, runOn}
 use Rattle.vector.specs.Inner.{Between, weight}
+use Rattle.vector.specs.Half.{fullSize, full, fullFixed}
+use Rattle.vector.proofs.Full.{full-fill}
 use Rattle.vector.proofs.RunLaws.{between-first, between-next}
 use Rattle.vector.proofs.run.run_plans.Statement.{statement}
 use Rattle.vector.proofs.run.run_plans.Tie as tie
 
 abbrev Inv-loop : tie.InvT-loop
-Inv-loop w₀ o₀ diag-s eta tau n pace₀ w o pace =
-    (length w ≡ length w₀) × (length o ≡ length o₀)
-    × Between (fixedOver n diag-s eta) (runOn cap (fixedOver n diag-s eta) (begin (fixedOver n diag-s eta) cap (fill n 1ᶠ) o₀ tau)) w o pace
+Inv-loop w₀ o₀ diag-s eta tau n half pace₀ w o pace =
+    let p = fullFixed half n diag-s eta in
+    (length w ≡ length w₀) × (length o ≡ length o₀) × Between p (runOn cap p (begin p cap (fill (fullSize half n) 1ᶠ) (full half n o₀) tau)) (full half n w) (full half n o) pace
 
 abbrev μ-loop : tie.MeasureT-loop
-μ-loop w₀ o₀ diag-s eta tau n pace₀ w o pace = weight pace
+μ-loop w₀ o₀ diag-s eta tau n half pace₀ w o pace = weight pace
 
 asking-requires : tie.Need-asking-requires Inv-loop μ-loop
 asking-requires c κs = tt
 
 loop-holds : tie.Need-loop-holds Inv-loop μ-loop
-loop-holds c = (refl, refl, between-first _ _ _ _ _ (c .asking .ensures) (c .before .before .before .before .pre .2))
+loop-holds c =
+    let s = c .before .before .before .before in
+    (refl, refl, between-first _ _ _ _ _ (c .asking .ensures) (ap (full (s .args .half) (s .args .n)) (s .pre .2) ∙ full-fill (s .args .half) (s .args .n) (omega (arith, s .pre .0)) 1ᶠ))
 
 run-plan-requires : tie.Need-run-plan-requires Inv-loop μ-loop
 run-plan-requires c κs =
     let l = c .before .before .before in
     let i = l .loop .inv in
     let p = l .before .before .before .before .before .pre in
-    (p .0, p .1, i .2 .asks (c .before .before .loop-test .taken) .0, i .1 ∙ p .3, p .4, i .2 .within)
+    (p .0, p .1, i .0 ∙ ap length (p .2) ∙ length-replicate _ 1ᶠ, i .1 ∙ p .3, p .4, i .2 .within, i .2 .asks (c .before .before .loop-test .taken) .0)
 
 loop-less : tie.Need-loop-less Inv-loop μ-loop
 loop-less c =

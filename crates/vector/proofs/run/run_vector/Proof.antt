@@ -1,4 +1,6 @@
-use mathlib.Core.Path.{_≡_, sym, ap, _∙_}
+-- With time left the rows that stand for all of them are run. Assumes nothing.
+use mathlib.Core.Path.{_≡_, sym, _∙_}
+use native.Mathlib.Nat.{le-refl}
 use native.Mathlib.Omega.{arith}
 use borrow.Author.Needs.{needs}
 use Prim.Native.Nat.{ℕ}
@@ -10,6 +12,8 @@ use Rattle.vector.specs.Run.{rows, fixed, runFor, run}
 use Rattle.vector.specs.Values.{vectorOf, vectorBy}
 use Rattle.vector.specs.declared.ValueVector.{ValueVector}
 use Rattle.vector.specs.declared.Outcome.the-variants as Outcome
+use Rattle.vector.proofs.Bounds.{bound-range}
+use Rattle.vector.proofs.Stands.{all-stand, half-stands}
 use Rattle.vector.proofs.run.run_vector.Statement.{statement}
 use Rattle.vector.proofs.run.run_vector.Tie as tie
 
@@ -19,37 +23,52 @@ at-once : (bound : ℕ) (alpha beta eta tau : Float) (v : ValueVector) → lt 0�
 unfolding run runFor fixed vectorBy
 at-once bound alpha beta eta tau v h e = rw (h, e)
 
-mul-at-end : tie.Need-mul-at-end
-mul-at-end c = search needs
+mul-n : tie.Need-mul-n
+mul-n c = omega (arith, bound-range (c .args .bound) (c .pre .1) .1)
 
-add-at-end : tie.Need-add-at-end
-add-at-end c = search needs
+add-n : tie.Need-add-n
+add-n c = omega (arith, bound-range (c .args .bound) (c .pre .1) .1)
 
-cast-at-end : tie.Need-cast-at-end
-cast-at-end c = search needs
-
-at-end-requires : tie.Need-at-end-requires
-at-end-requires c κs = search needs
+add-run-back : tie.Need-add-run-back
+add-run-back c = let s = c .before .before in omega (arith, bound-range (s .args .bound) (s .pre .1) .1)
 
 run-back-requires : tie.Need-run-back-requires
-run-back-requires c κs = search needs
+run-back-requires c κs =
+    let s = c .before .before in
+    let p = s .pre in
+    let r = bound-range (s .args .bound) (p .1) in
+    ((omega (arith, r .0), omega (arith, r .0), r .1, c .before .if1 .taken, p .0), half-stands _ _ _ _ (p .1) (p .2) (p .3) (c .if2 .taken))
 
 returns : tie.Need-returns
 returns c = search needs
 
+run-back-requires-2 : tie.Need-run-back-requires-2
+run-back-requires-2 c κs =
+    let s = c .before .before in
+    let r = bound-range (s .args .bound) (s .pre .1) in
+    ((omega (arith, r .0), le-refl _, r .1, c .before .if1 .taken, s .pre .0), all-stand _ _ _ _)
+
 returns-2 : tie.Need-returns-2
-returns-2 c =
+returns-2 c = search needs
+
+at-end-requires : tie.Need-at-end-requires
+at-end-requires c κs = let s = c .before in (s .pre .0, omega (arith, bound-range (s .args .bound) (s .pre .1) .1))
+
+returns-3 : tie.Need-returns-3
+returns-3 c =
     let a = c .before .before .args in
-    at-once (a .bound) (a .alpha) (a .beta) (a .eta) (a .tau) _ (c .if1 .left) (c .before .at-end .ensures)
+    at-once (a .bound) (a .alpha) (a .beta) (a .eta) (a .tau) _ (c .before .if1 .left) (c .at-end .ensures)
 
 pub run-vector-spec : {M : Type 1} → statement M
 run-vector-spec =
     tie.close
     (tie.spec
-    mul-at-end
-    add-at-end
-    cast-at-end
-    at-end-requires
+    mul-n
+    add-n
+    add-run-back
     run-back-requires
     returns
-    returns-2)
+    run-back-requires-2
+    returns-2
+    at-end-requires
+    returns-3)

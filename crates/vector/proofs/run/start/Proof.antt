@@ -1,8 +1,10 @@
 use mathlib.Core.Path.{sym, _∙_}
 use mathlib.Core.Logic.{⊎-elim}
+use native.Mathlib.Omega.{arith}
 use borrow.Author.Needs.{needs}
 use Rattle.vector.specs.declared.plan.Planned.the-variants as Planned
-use Rattle.vector.proofs.RunLaws.{begun, not-begun}
+use Rattle.vector.proofs.Full.{centred-factors}
+use Rattle.vector.proofs.FullRun.{begun-full, not-begun-full}
 use Rattle.vector.proofs.run.start.Statement.{statement}
 use Rattle.vector.proofs.run.start.Tie as tie
 
@@ -26,7 +28,7 @@ scale-diagonal-requires c κs =
     s .left-n ∙ sym (s .diag-n)
 
 paced-requires : tie.Need-paced-requires
-paced-requires c κs = c .before .before .before .before .before .before .before .before .before .before .before .before .before .before .before .before .before .before .before .before .before .before .before .pre .0
+paced-requires c κs = c .before .before .before .before .before .before .before .before .before .before .before .before .before .before .before .before .before .before .before .before .before .before .before .pre .0 .1
 
 same-length : tie.Need-same-length
 same-length c = c .before .before .before .scale-diagonal .kept .1 .1 .0
@@ -40,15 +42,18 @@ same-length-3 c = c .before .before .before .before .before .before .before .bef
 returns : tie.Need-returns
 returns c =
     let f = c .before .before .before .before .before .before .before .before .before .before .before .before .before .before .before .before .set-factors .ensures in
-    let s = c .before .before .before .before .before .before .before .before .before .before .before .before .before .before .before .before .before .before .before .before .before .before .before .before .pre in
-    let n = s .1 .diag-n in
-    begun _ _ _ _ _ _ _ (s .0) _ (f .0) (f .1 .0) (f .1 .1) _ (c .before .before .before .before .before .before .before .before .before .before .before .if1 .taken) (Planned.Steps _ _) (sym (c .before .before .before .before .before .before .steps .given .1) ∙ rw n at (c .before .before .before .before .before .before .before .before .plan-with .ensures)) (rw n at (c .before .before .before .scale-diagonal .ensures)) (c .paced .ensures)
+    let s = c .before .before .before .before .before .before .before .before .before .before .before .before .before .before .before .before .before .before .before .before .before .before .before .before in
+    let n = s .pre .1 .diag-n in (
+      begun-full (s .args .half) _ _ _ _ _ _ _ _ (s .pre .0 .0) (s .pre .0 .1) _ (f .0) (f .1 .0) (f .1 .1) _ _ (c .before .before .before .before .before .before .before .before .before .before .before .if1 .taken) (Planned.Steps _ _)
+          (sym (c .before .before .before .before .before .before .steps .given .1) ∙ rw n at (c .before .before .before .before .before .before .before .before .plan-with .ensures)) (rw n at (c .before .before .before .scale-diagonal .ensures)) (c .paced .ensures),
+      centred-factors (s .args .half) _ _ _ _ (omega (arith, s .pre .0 .0)) (f .0) (f .1 .0),
+    )
 
 enum-known-need : tie.Need-enum-known-need
 enum-known-need c = search needs
 
 over-cap-requires : tie.Need-over-cap-requires
-over-cap-requires c κs = c .before .before .before .before .before .before .before .before .before .before .before .before .before .before .before .before .before .before .before .pre .0
+over-cap-requires c κs = c .before .before .before .before .before .before .before .before .before .before .before .before .before .before .before .before .before .before .before .pre .0 .1
 
 same-length-4 : tie.Need-same-length-4
 same-length-4 c = c .before .before .before .before .before .before .before .before .before .before .before .before .set-factors .kept .1 .0
@@ -59,8 +64,11 @@ same-length-5 c = c .before .before .before .before .before .before .before .bef
 returns-2 : tie.Need-returns-2
 returns-2 c =
     let f = c .before .before .before .before .before .before .before .before .before .before .before .before .set-factors .ensures in
-    let s = c .before .before .before .before .before .before .before .before .before .before .before .before .before .before .before .before .before .before .before .before .pre in
-    begun _ _ _ _ _ _ _ (s .0) _ (f .0) (f .1 .0) (f .1 .1) _ (c .before .before .before .before .before .before .before .if1 .taken) (Planned.OverCap _) (sym (c .before .before .need .given .1) ∙ rw (s .1 .diag-n) at (c .before .before .before .before .plan-with .ensures)) tt (c .over-cap .ensures)
+    let s = c .before .before .before .before .before .before .before .before .before .before .before .before .before .before .before .before .before .before .before .before in (
+      begun-full (s .args .half) _ _ _ _ _ _ _ _ (s .pre .0 .0) (s .pre .0 .1) _ (f .0) (f .1 .0) (f .1 .1) _ _ (c .before .before .before .before .before .before .before .if1 .taken) (Planned.OverCap _)
+          (sym (c .before .before .need .given .1) ∙ rw (s .pre .1 .diag-n) at (c .before .before .before .before .plan-with .ensures)) tt (c .over-cap .ensures),
+      centred-factors (s .args .half) _ _ _ _ (omega (arith, s .pre .0 .0)) (f .0) (f .1 .0),
+    )
 
 enum-told : tie.Need-enum-told
 enum-told c = search needs
@@ -77,11 +85,13 @@ same-length-7 c = c .before .before .before .before .before .before .set-factors
 returns-3 : tie.Need-returns-3
 returns-3 c =
     let f = c .before .before .before .before .before .before .set-factors .ensures in
-    let s = c .before .before .before .before .before .before .before .before .before .before .before .before .before .before .pre in
-    ⊎-elim
-    (λ t. begun _ _ _ _ _ _ _ (s .0) _ (f .0) (f .1 .0) (f .1 .1) _ (t .0 .taken) Planned.Refused (sym (t .5 .given .1) ∙ rw (s .1 .diag-n) at (t .3 .ensures)) tt (c .refused .ensures))
-    (λ t. not-begun _ _ _ _ _ _ _ (s .0) _ (f .0) (f .1 .0) (f .1 .1) _ (t .left) (c .refused .ensures))
-    (c .before .if1 .came)
+    let s = c .before .before .before .before .before .before .before .before .before .before .before .before .before .before in (
+      ⊎-elim
+          (λ t. begun-full (s .args .half) _ _ _ _ _ _ _ _ (s .pre .0 .0) (s .pre .0 .1) _ (f .0) (f .1 .0) (f .1 .1) _ _ (t .0 .taken) Planned.Refused (sym (t .5 .given .1) ∙ rw (s .pre .1 .diag-n) at (t .3 .ensures)) tt (c .refused .ensures))
+          (λ t. not-begun-full (s .args .half) _ _ _ _ _ _ _ _ (s .pre .0 .0) (s .pre .0 .1) _ (f .0) (f .1 .0) (f .1 .1) _ _ (t .left) (c .refused .ensures))
+          (c .before .if1 .came),
+      centred-factors (s .args .half) _ _ _ _ (omega (arith, s .pre .0 .0)) (f .0) (f .1 .0),
+    )
 
 pub start-spec : {M : Type 1} → statement M
 start-spec =

@@ -3,6 +3,7 @@ use mathlib.Core.Path.{_≡_, refl, ap, _∙_}
 use Prim.Native.Nat.{ℕ, _+_, _-_, _<_}
 use native.Mathlib.Nat.{le-refl}
 use native.Mathlib.Omega.{arith}
+use mathlib.Core.Bool.{Bool}
 use mathlib.Core.List.{List}
 use lib.ListN.{length, length-set}
 use lib.Ieee.{Float}
@@ -10,21 +11,22 @@ use denote.Ref.{now}
 use Rattle.elementary.specs.Float.{_⊕_}
 use Rattle.vector.specs.Vectors.{at, before}
 use Rattle.vector.specs.Series.{rowAt}
-use Rattle.vector.specs.Inner.{operatorOver}
-use Rattle.vector.proofs.Loops.{filled, filled-zero, stored, stored-last, at-filled, before-first, before-later, after-within, after-last}
-use Rattle.vector.proofs.Terms.{row-is, converged-at, made-first}
+use Rattle.vector.specs.Half.{full, fullOperator, past}
+use Rattle.vector.proofs.Loops.{filled, filled-zero, stored, stored-last, at-filled, before-first, before-later}
+use Rattle.vector.proofs.Terms.{converged-at}
+use Rattle.vector.proofs.Full.{after-full, after-last-full, row-full, made-first-full}
 use Rattle.vector.proofs.series.first_term.Statement.{statement}
 use Rattle.vector.proofs.series.first_term.Tie as tie
 
-abbrev row : List Float → List Float → Float → List Float → List Float → ℕ → Float
-row v diag eta left right = rowAt (operatorOver (length v) diag left right) eta v
+abbrev row : Bool → List Float → List Float → Float → List Float → List Float → ℕ → Float
+row half v diag eta left right = rowAt (fullOperator half (length v) diag left right) eta (full half (length v) v)
 
 abbrev Inv-loop : tie.InvT-loop
-Inv-loop v₀ diag eta-dt left right out₀ lower₀ i₀ v out lower i = (i < length v₀) × (length out ≡ length v₀) × (length v ≡ length v₀) × (lower ≡ before v₀ i)
-    × (out ≡ filled (row v₀ diag eta-dt left right) out₀ i) × (v ≡ filled (λ k. at v₀ k ⊕ row v₀ diag eta-dt left right k) v₀ i)
+Inv-loop v₀ diag eta-dt left right half out₀ lower₀ i₀ v out lower i = (i < length v₀) × (length out ≡ length v₀) × (length v ≡ length v₀) × (lower ≡ before v₀ i)
+    × (out ≡ filled (row half v₀ diag eta-dt left right) out₀ i) × (v ≡ filled (λ k. at v₀ k ⊕ row half v₀ diag eta-dt left right k) v₀ i)
 
 abbrev μ-loop : tie.MeasureT-loop
-μ-loop v₀ diag eta-dt left right out₀ lower₀ i₀ v out lower i = length v₀ - i
+μ-loop v₀ diag eta-dt left right half out₀ lower₀ i₀ v out lower i = length v₀ - i
 
 loop-holds : tie.Need-loop-holds Inv-loop μ-loop
 loop-holds c = (omega arith, omega arith, omega arith, before-first _ 0 refl, filled-zero _ _, filled-zero _ _)
@@ -71,14 +73,15 @@ loop-less c = omega arith
 loop-again : tie.Need-loop-again Inv-loop μ-loop
 loop-again c =
     let l = c .before .before .before .before in
-    let a = l .before .before .before .before .before .before .args in
+    let s = l .before .before .before .before .before .before in
+    let a = s .args in
     let v = now (a .v) in
     let k = l .loop .i in
     let i = l .loop .inv in
     let here : at (l .loop .v) k ≡ at v k = ap (λ (m : List Float). at m k) (i .5) ∙ at-filled _ v k k (le-refl k) in
     let above : at (l .loop .v) (k + 1) ≡ at v (k + 1) = ap (λ (m : List Float). at m (k + 1)) (i .5) ∙ at-filled _ v k (k + 1) (omega arith) in
-    let t : c .row-at .result ≡ row v (now (a .diag)) (a .eta-dt) (now (a .left)) (now (a .right)) k =
-    row-is _ _ v k _ _ _ (i .3) (after-within v (length v) k (omega arith)) (rw (here, above) at (c .row-at .ensures)) in
+    let t : c .row-at .result ≡ row (a .half) v (now (a .diag)) (a .eta-dt) (now (a .left)) (now (a .right)) k =
+    row-full _ _ _ _ _ _ (s .pre .0 .0) (s .pre .0 .1) v k _ _ _ (i .0) (i .3) (after-full (a .half) (length v) v k (omega arith)) (rw (here, above) at (c .row-at .ensures)) in
     let up : k ≡ k + 1 - 1 = omega arith in (
       omega arith,
       simp length-set (i .1),
@@ -87,6 +90,9 @@ loop-again c =
       stored _ _ _ k _ (omega arith) (i .4) t,
       stored _ _ _ k _ (omega arith) (i .5) (rw (here, t)),
     )
+
+past-last-requires : tie.Need-past-last-requires Inv-loop μ-loop
+past-last-requires c κs = tt
 
 row-at-requires-2 : tie.Need-row-at-requires-2 Inv-loop μ-loop
 row-at-requires-2 c κs = omega arith
@@ -120,15 +126,19 @@ same-length-2 c = simp length-set (omega arith)
 
 returns : tie.Need-returns Inv-loop μ-loop
 returns c =
-    let l = c .before .before .before .before .before .before .before in
-    let a = l .before .before .before .before .before .before .args in
+    let q = c .before .before .before .before in
+    let p = q .before .before in
+    let l = p .before .before in
+    let s = l .before .before .before .before .before .before in
+    let a = s .args in
     let v = now (a .v) in
     let k = l .loop .i in
     let i = l .loop .inv in
     let here : at (l .loop .v) k ≡ at v k = ap (λ (m : List Float). at m k) (i .5) ∙ at-filled _ v k k (le-refl k) in
-    let t : c .before .before .before .before .row-at2 .result ≡ row v (now (a .diag)) (a .eta-dt) (now (a .left)) (now (a .right)) k =
-    row-is _ _ v k _ _ _ (i .3) (after-last v (length v) k (omega arith)) (rw here at (c .before .before .before .before .row-at2 .ensures)) in
-    made-first _ _ v _ _ _ (stored-last _ _ _ k k (length v) _ (omega arith) refl (omega arith) (i .4) t) (stored-last _ v _ k k (length v) _ (omega arith) refl refl (i .5) (rw (here, t)))
+    let upper = p .past-last .ensures ∙ ap (past (a .half)) (i .3) ∙ after-last-full (a .half) (length v) v k (s .pre .0 .0) (omega arith) in
+    let t : q .row-at2 .result ≡ row (a .half) v (now (a .diag)) (a .eta-dt) (now (a .left)) (now (a .right)) k =
+    row-full _ _ _ _ _ _ (s .pre .0 .0) (s .pre .0 .1) v k _ _ _ (i .0) (i .3) upper (rw here at (q .row-at2 .ensures)) in
+    made-first-full _ _ _ _ _ _ (s .pre .0 .0) (s .pre .0 .1) v _ _ _ (stored-last _ _ _ k k (length v) _ (omega arith) refl (omega arith) (i .4) t) (stored-last _ v _ k k (length v) _ (omega arith) refl refl (i .5) (rw (here, t)))
     (c .has-converged .ensures ∙ converged-at _ _ _ _ (simp length-set (i .1)))
 
 pub first-term-spec : {M : Type 1} → statement M
@@ -152,6 +162,7 @@ first-term-spec =
     add-i
     loop-less
     loop-again
+    past-last-requires
     row-at-requires-2
     mul-out-2
     slice-write-out-2

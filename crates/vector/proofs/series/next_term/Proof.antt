@@ -3,6 +3,7 @@ use mathlib.Core.Path.{_≡_, refl, ap, ap₂, _∙_}
 use Prim.Native.Nat.{ℕ, _+_, _-_, _≤_, _<_}
 use native.Mathlib.Nat.{le-refl, le-trans}
 use native.Mathlib.Omega.{arith}
+use mathlib.Core.Bool.{Bool}
 use mathlib.Core.List.{List}
 use lib.IntN.{pos}
 use lib.Dec.{lit≤}
@@ -12,26 +13,27 @@ use denote.Ref.{now}
 use Rattle.elementary.specs.Float.{_⊕_, _⊖_, _⊗_, _⊘_, whole, 1ᶠ}
 use Rattle.vector.specs.Vectors.{at, before}
 use Rattle.vector.specs.Series.{rowAt}
-use Rattle.vector.specs.Inner.{operatorOver}
-use Rattle.vector.proofs.Loops.{filled, stored, stored-last, at-filled, later, later-one, later-is, later-first, later-all, before-first, before-later, after-within, after-last}
-use Rattle.vector.proofs.Terms.{row-is, converged-at, made}
+use Rattle.vector.specs.Half.{full, fullOperator, past}
+use Rattle.vector.proofs.Loops.{filled, stored, stored-last, at-filled, later, later-one, later-is, later-first, later-all, before-first, before-later}
+use Rattle.vector.proofs.Terms.{converged-at}
+use Rattle.vector.proofs.Full.{after-full, after-last-full, row-full, made-full}
 use Rattle.vector.proofs.series.next_term.Statement.{statement}
 use Rattle.vector.proofs.series.next_term.Tie as tie
 
-abbrev row : List Float → List Float → Float → List Float → List Float → ℕ → Float
-row x diag eta left right = rowAt (operatorOver (length x) diag left right) eta x
+abbrev row : Bool → List Float → List Float → Float → List Float → List Float → ℕ → Float
+row half x diag eta left right = rowAt (fullOperator half (length x) diag left right) eta (full half (length x) x)
 
 -- an entry of the term
-abbrev entry : List Float → List Float → Float → List Float → List Float → Float → ℕ → Float
-entry x diag eta left right inv k = row x diag eta left right k ⊗ inv
+abbrev entry : Bool → List Float → List Float → Float → List Float → List Float → Float → ℕ → Float
+entry half x diag eta left right inv k = row half x diag eta left right k ⊗ inv
 
 abbrev Inv-loop : tie.InvT-loop
-Inv-loop x₀ diag eta-dt left right plain order v₀ inv first lower₀ i₀ x v lower i =
+Inv-loop x₀ diag eta-dt left right half plain order v₀ inv first lower₀ i₀ x v lower i =
     (1 ≤ i) × (i < length x₀) × (length x ≡ length x₀) × (length v ≡ length x₀) × (lower ≡ before x₀ i)
-    × (x ≡ filled (later (entry x₀ diag eta-dt left right inv) x₀) x₀ i) × (v ≡ filled (later (λ k. at v₀ k ⊕ entry x₀ diag eta-dt left right inv k) v₀) v₀ i)
+    × (x ≡ filled (later (entry half x₀ diag eta-dt left right inv) x₀) x₀ i) × (v ≡ filled (later (λ k. at v₀ k ⊕ entry half x₀ diag eta-dt left right inv k) v₀) v₀ i)
 
 abbrev μ-loop : tie.MeasureT-loop
-μ-loop x₀ diag eta-dt left right plain order v₀ inv first lower₀ i₀ x v lower i = length x₀ - i
+μ-loop x₀ diag eta-dt left right half plain order v₀ inv first lower₀ i₀ x v lower i = length x₀ - i
 
 int-to-float-inv : tie.Need-int-to-float-inv Inv-loop μ-loop
 int-to-float-inv c = tt
@@ -115,15 +117,16 @@ loop-less c = omega arith
 loop-again : tie.Need-loop-again Inv-loop μ-loop
 loop-again c =
     let l = c .before .before .before .before .before .before in
-    let a = l .before .before .before .before .before .before .before .before .before .before .args in
+    let s = l .before .before .before .before .before .before .before .before .before .before in
+    let a = s .args in
     let x = now (a .x) in
     let k = l .loop .i in
     let i = l .loop .inv in
     let here : at (l .loop .x) k ≡ at x k = ap (λ (m : List Float). at m k) (i .5) ∙ at-filled _ x k k (le-refl k) in
     let above : at (l .loop .x) (k + 1) ≡ at x (k + 1) = ap (λ (m : List Float). at m (k + 1)) (i .5) ∙ at-filled _ x k (k + 1) (omega arith) in
     let sum : at (l .loop .v) k ≡ at (now (a .v)) k = ap (λ (m : List Float). at m k) (i .6) ∙ at-filled _ _ k k (le-refl k) in
-    let t : a .eta-dt ⊗ c .before .before .beside .result ⊖ at (now (a .diag)) k ⊗ at (l .loop .x) k ≡ row x (now (a .diag)) (a .eta-dt) (now (a .left)) (now (a .right)) k =
-    row-is _ _ x k _ _ _ (i .4) (after-within x (length x) k (omega arith)) (rw (c .before .before .beside .ensures, here, above)) in
+    let t : a .eta-dt ⊗ c .before .before .beside .result ⊖ at (now (a .diag)) k ⊗ at (l .loop .x) k ≡ row (a .half) x (now (a .diag)) (a .eta-dt) (now (a .left)) (now (a .right)) k =
+    row-full _ _ _ _ _ _ (s .pre .0 .0) (s .pre .0 .3) x k _ _ _ (i .1) (i .4) (after-full (a .half) (length x) x k (omega arith)) (rw (c .before .before .beside .ensures, here, above)) in
     let up : k ≡ k + 1 - 1 = omega arith in (
       omega arith,
       omega arith,
@@ -133,6 +136,9 @@ loop-again c =
       stored _ x _ k _ (i .1) (i .5) (ap (λ (y : Float). y ⊗ (1ᶠ ⊘ whole (pos (a .order)))) t ∙ later-is _ x k (i .0)),
       stored _ (now (a .v)) _ k _ (omega arith) (i .6) (ap₂ (λ (y z : Float). y ⊕ z ⊗ (1ᶠ ⊘ whole (pos (a .order)))) sum t ∙ later-is _ (now (a .v)) k (i .0)),
     )
+
+past-last-requires : tie.Need-past-last-requires Inv-loop μ-loop
+past-last-requires c κs = tt
 
 row-at-requires-2 : tie.Need-row-at-requires-2 Inv-loop μ-loop
 row-at-requires-2 c κs = omega arith
@@ -175,7 +181,9 @@ same-length-2 c = simp length-set (omega arith)
 
 returns : tie.Need-returns Inv-loop μ-loop
 returns c =
-    let l = c .before .before .before .before .before .before .before .before in
+    let q = c .before .before .before .before .before in
+    let z = q .before .before in
+    let l = z .before .before in
     let s = l .before .before .before .before .before .before .before .before .before .before in
     let a = s .args in
     let p = s .pre in
@@ -185,17 +193,18 @@ returns c =
     let k = l .loop .i in
     let i = l .loop .inv in
     let inv = 1ᶠ ⊘ whole (pos (a .order)) in
-    let f = entry x (now (a .diag)) (a .eta-dt) (now (a .left)) (now (a .right)) inv in
+    let f = entry (a .half) x (now (a .diag)) (a .eta-dt) (now (a .left)) (now (a .right)) inv in
     let some : 0 < n = le-trans (lit≤ tt) (p .0 .0) in
     let here : at (l .loop .x) k ≡ at x k = ap (λ (m : List Float). at m k) (i .5) ∙ at-filled _ x k k (le-refl k) in
     let sum : at (l .loop .v) k ≡ at v k = ap (λ (m : List Float). at m k) (i .6) ∙ at-filled _ _ k k (le-refl k) in
-    let first : l .before .before .row-at .result ≡ row x (now (a .diag)) (a .eta-dt) (now (a .left)) (now (a .right)) 0 =
-    row-is _ _ x 0 _ _ _ (before-first x 0 refl) (after-within x n 0 (p .0 .0)) (l .before .before .row-at .ensures) in
-    let last : c .before .before .before .before .before .row-at2 .result ≡ row x (now (a .diag)) (a .eta-dt) (now (a .left)) (now (a .right)) k =
-    row-is _ _ x k _ _ _ (i .4) (after-last x n k (omega arith)) (rw here at (c .before .before .before .before .before .row-at2 .ensures)) in
+    let first : l .before .before .row-at .result ≡ row (a .half) x (now (a .diag)) (a .eta-dt) (now (a .left)) (now (a .right)) 0 =
+    row-full _ _ _ _ _ _ (p .0 .0) (p .0 .3) x 0 _ _ _ some (before-first x 0 refl) (after-full (a .half) n x 0 (p .0 .0)) (l .before .before .row-at .ensures) in
+    let upper = z .past-last .ensures ∙ ap (past (a .half)) (i .4) ∙ after-last-full (a .half) n x k (p .0 .0) (omega arith) in
+    let last : q .row-at2 .result ≡ row (a .half) x (now (a .diag)) (a .eta-dt) (now (a .left)) (now (a .right)) k =
+    row-full _ _ _ _ _ _ (p .0 .0) (p .0 .3) x k _ _ _ (i .1) (i .4) upper (rw here at (q .row-at2 .ensures)) in
     let terms = stored-last (later f x) x _ k k n _ (omega arith) refl refl (i .5) (ap (λ (y : Float). y ⊗ inv) last ∙ later-is f x k (i .0)) in
     let sums = stored-last (later (λ j. at v j ⊕ f j) v) v _ k k n _ (omega arith) refl (p .1 .term-n) (i .6) (ap₂ (λ (y z : Float). y ⊕ z ⊗ inv) sum last ∙ later-is (λ j. at v j ⊕ f j) v k (i .0)) in
-    made _ _ (a .order) x v _ _ _
+    made-full _ _ _ _ _ _ (p .0 .0) (p .0 .3) (a .order) x v _ _ _
     (later-all f x _ n _ some terms (ap (λ (y : Float). y ⊗ inv) first))
     (later-all (λ j. at v j ⊕ f j) v _ n _ some sums (ap₂ (λ (y z : Float). y ⊕ z ⊗ inv) (later-first _ v _ n some sums) first))
     (c .has-converged .ensures ∙ converged-at _ _ _ _ (simp length-set (i .2)))
@@ -229,6 +238,7 @@ next-term-spec =
     add-i
     loop-less
     loop-again
+    past-last-requires
     row-at-requires-2
     mul-x-2
     slice-write-x-2

@@ -1,0 +1,116 @@
+-- Rows 0 to the centre stand for all rows of a vector that is its own mirror: entries, tests of all entries, extremes, and a term of the series. Assumes nothing.
+use mathlib.Core.Path.{_≡_, refl, sym, ap, ap₂, subst, _∙_}
+use Prim.Native.Nat.{ℕ, zero, suc, _+_, _-_, _*_, _≤_, _<_}
+use native.Mathlib.Nat.{le-refl}
+use native.Mathlib.Omega.{arith}
+use mathlib.Core.Bool.{Bool, true, false, not, _&&_, cond, and-comm, true≢false, Bool·not-not}
+use mathlib.Core.List.{List}
+use borrow.Author.Tests.{leb-true, leb-false, le-leb, lt-leb, ltb-true, ltb-false}
+use lib.IntN.{pos}
+use lib.Dec.{T, ltb, leb}
+use lib.ListN.{length}
+use lib.Ieee.{Float, inf, binary64, lt, fits}
+use Rattle.elementary.specs.Float.{_⊕_, _⊖_, _⊗_, _⊘_, whole, 0ᶠ, 1ᶠ}
+use Rattle.vector.specs.Vectors.{from, tab, at, fill, before, after, everyFrom, every, fold, larger, smaller}
+use Rattle.vector.specs.Series.{Operator, rowAt, small, converged}
+use Rattle.vector.specs.Run.{rows}
+use Rattle.vector.specs.Promises.{Mirror}
+use Rattle.vector.specs.Inner.{Made}
+use Rattle.vector.specs.Half.{mirrored, fullSize, fullFactors, full, fullOperator, past, Centred}
+use Rattle.vector.proofs.Lists.{Opposite, length-tab, at-tab, tab-ext, every-ext, every-last, every-true}
+use Rattle.vector.proofs.Loops.{fold-suc, larger-left, after-within, after-last}
+use Rattle.vector.proofs.Extremes.{largest-above, smallest-floor}
+use Rattle.vector.proofs.Terms.{row-is, made}
+use Rattle.vector.proofs.Mirror.{row-alike}
+
+-- ---- the entries
+module _ (b : ℕ) (l r : List Float) where
+  pub at-near : (i : ℕ) → i ≤ b → at (mirrored b l r) i ≡ at l i
+  unfolding mirrored
+  at-near i h = at-tab (rows b) _ i (omega arith) ∙ ap (λ (t : Bool). cond t (at l i) (at r (2 * b - i))) (le-leb i b h)
+
+  pub at-far : (i : ℕ) → b < i → i < rows b → at (mirrored b l r) i ≡ at r (2 * b - i)
+  unfolding mirrored
+  at-far i h k = at-tab (rows b) _ i k ∙ ap (λ (t : Bool). cond t (at l i) (at r (2 * b - i))) (lt-leb i b h)
+
+-- l and r exchanged it is the same from the far end, where both have one centre
+pub mirrored-turned : (b : ℕ) (l r : List Float) → at l b ≡ at r b → Mirror (rows b) (mirrored b l r) (mirrored b r l)
+unfolding Mirror
+mirrored-turned b l r c i j e = go (leb i b) (leb j b) refl refl
+  where
+    go : (s t : Bool) → leb i b ≡ s → leb j b ≡ t → at (mirrored b l r) i ≡ at (mirrored b r l) j
+    go true true h k =
+        let x : i ≡ b = omega (arith, leb-true i b h, leb-true j b k) in
+        let y : j ≡ b = omega (arith, leb-true i b h, leb-true j b k) in
+        rw (x, y, at-near b l r b (le-refl b), at-near b r l b (le-refl b)) c
+    go true false h k =
+        let y : 2 * b - j ≡ i = omega arith in
+        at-near b l r i (leb-true i b h) ∙ sym (at-far b r l j (leb-false j b k) (omega arith) ∙ ap (at l) y)
+    go false true h k =
+        let x : 2 * b - i ≡ j = omega arith in
+        at-far b l r i (leb-false i b h) (omega arith) ∙ ap (at r) x ∙ sym (at-near b r l j (leb-true j b k))
+    go false false h k = absurd (omega (arith, leb-false i b h, leb-false j b k))
+
+-- entries by a rule whose opposite is another: what stands in rows 0 to b of each
+pub mirrored-tab : (b : ℕ) (f g F G : ℕ → Float) → Opposite (rows b) G F → ((i : ℕ) → i ≤ b → f i ≡ F i) → ((i : ℕ) → i ≤ b → g i ≡ G i)
+    → mirrored b (tab (suc b) f) (tab (suc b) g) ≡ tab (rows b) F
+unfolding mirrored
+mirrored-tab b f g F G m ef eg = tab-ext (rows b) _ F (λ i h. go i h (leb i b) refl)
+  where
+    go : (i : ℕ) → i < rows b → (t : Bool) → leb i b ≡ t → cond t (at (tab (suc b) f) i) (at (tab (suc b) g) (2 * b - i)) ≡ F i
+    go i h true e = let k = leb-true i b e in at-tab (suc b) f i (omega arith) ∙ ef i k
+    go i h false e = let k = leb-false i b e in at-tab (suc b) g (2 * b - i) (omega arith) ∙ eg (2 * b - i) (omega arith) ∙ m (2 * b - i) i (omega arith)
+
+-- ---- a test of every entry
+every-each : (n : ℕ) (p : ℕ → Bool) → every n p ≡ true → (i : ℕ) → i < n → p i ≡ true
+every-each zero p e i h = absurd (omega arith)
+every-each (suc n) p e i h = go (every n p) (p n) (ltb i n) refl refl refl (sym (every-last n p) ∙ e) (λ es k. every-each n p es i k)
+  where
+    go : (s t u : Bool) → every n p ≡ s → p n ≡ t → ltb i n ≡ u → (s && t) ≡ true → (every n p ≡ true → i < n → p i ≡ true) → p i ≡ true
+    go true true true es et eu f r = r es (ltb-true i n eu)
+    go true true false es et eu f r = let x : i ≡ n = omega (arith, ltb-false i n eu) in ap p x ∙ et
+    go true false u es et eu f r = absurd (true≢false (sym f))
+    go false t u es et eu f r = absurd (true≢false (sym f))
+
+every-of : (n : ℕ) (p : ℕ → Bool) → ((i : ℕ) → i < n → p i ≡ true) → every n p ≡ true
+every-of n p h = every-ext n p (λ i. true) h ∙ every-true n
+
+same-truth : (a b : Bool) → (a ≡ true → b ≡ true) → (b ≡ true → a ≡ true) → a ≡ b
+same-truth true b f g = sym (f refl)
+same-truth false true f g = absurd (true≢false (sym (g refl)))
+same-truth false false f g = refl
+
+-- the opposite of a row past the centre stands before it
+pub every-half : (b : ℕ) (p : ℕ → Bool) → Opposite (rows b) p p → every (suc b) p ≡ every (rows b) p
+every-half b p m = same-truth (every (suc b) p) (every (rows b) p)
+    (λ e. every-of (rows b) p (λ i h. go e i h (ltb i (suc b)) refl)) (λ e. every-of (suc b) p (λ i h. every-each (rows b) p e i (omega arith)))
+  where
+    go : every (suc b) p ≡ true → (i : ℕ) → i < rows b → (t : Bool) → ltb i (suc b) ≡ t → p i ≡ true
+    go e i h true k = every-each (suc b) p e i (ltb-true i (suc b) k)
+    go e i h false k =
+        let past : suc b ≤ i = ltb-false i (suc b) k in
+        m i (2 * b - i) (omega arith) ∙ every-each (suc b) p e (2 * b - i) (omega arith)
+
+-- ---- the extremes
+module _ (b : ℕ) (f : ℕ → Float) (m : Opposite (rows b) f f) where
+  pub largest-half : ((i : ℕ) → T (fits binary64 (f i))) → fold larger 0ᶠ (tab (suc b) f) ≡ fold larger 0ᶠ (tab (rows b) f)
+  largest-half v = sym (more b (le-refl b)) ∙ ap (λ (k : ℕ). fold larger 0ᶠ (tab k f)) (omega arith)
+    where
+      far : (k : ℕ) → k < b → lt (fold larger 0ᶠ (tab (suc b) f)) (f (suc b + k)) ≡ false
+      far k h = ap (lt (fold larger 0ᶠ (tab (suc b) f))) (m (suc b + k) (b - suc k) (omega arith)) ∙ largest-above f v (suc b) (b - suc k) (omega arith)
+
+      more : (k : ℕ) → k ≤ b → fold larger 0ᶠ (tab (suc b + k) f) ≡ fold larger 0ᶠ (tab (suc b) f)
+      more zero h = ap (λ (k : ℕ). fold larger 0ᶠ (tab k f)) (omega arith)
+      more (suc k) h =
+          let e : suc b + suc k ≡ suc b + k + 1 = omega arith in
+          ap (λ (k : ℕ). fold larger 0ᶠ (tab k f)) e ∙ fold-suc larger 0ᶠ (suc b + k) f ∙ ap (λ (x : Float). larger x (f (suc b + k))) (more k (omega arith))
+          ∙ sym (larger-left _ (f (suc b + k)) (far k (omega arith)))
+
+  -- the smallest is on the same side of a limit
+  pub smallest-half : (c : Float) → lt (fold smaller (inf false) (tab (suc b) f)) c ≡ lt (fold smaller (inf false) (tab (rows b) f)) c
+  smallest-half c =
+      let x = lt (fold smaller (inf false) (tab (suc b) f)) c in
+      let y = lt (fold smaller (inf false) (tab (rows b) f)) c in
+      let same : not x ≡ not y =
+      smallest-floor c (suc b) f ∙ every-half b _ (λ i j e. ap (λ (z : Float). not (lt z c)) (m i j e)) ∙ sym (smallest-floor c (rows b) f) in
+      cc (Bool·not-not x, Bool·not-not y)

@@ -1,0 +1,42 @@
+-- All rows stand for themselves; without a drift those up to the centre stand for all: the diagonal turns on the lots alone, long or short. Assumes nothing.
+use mathlib.Core.Path.{_≡_, refl, sym, ap, _∙_}
+use Prim.Native.Nat.{ℕ, suc, _+_, _-_, _≤_, _<_}
+use native.Mathlib.Omega.{arith}
+use mathlib.Core.Bool.{true, false}
+use lib.IntN.{pos}
+use lib.Ieee.{Float, eq}
+use Rattle.elementary.specs.Float.{_⊕_, _⊗_, whole, 0ᶠ, 2ᶠ, positive}
+use Rattle.vector.specs.Vectors.{tab}
+use Rattle.vector.specs.Series.{diagonalAt}
+use Rattle.vector.specs.Run.{boundOk, rows}
+use Rattle.vector.specs.Drift.{diagonalBefore}
+use Rattle.vector.specs.Half.{fullSize, fullFactors, full, RowsStand}
+use Rattle.vector.proofs.Lots.{lots, lots-are, diagonal-is}
+use Rattle.vector.proofs.Full.{full-tab}
+use Rattle.vector.proofs.Drift.{entry-before}
+
+pub all-stand : (b : ℕ) (alpha beta eta : Float) → RowsStand false (rows b) b alpha beta eta
+unfolding fullSize fullFactors
+all-stand b alpha beta eta = record { sized = refl; diagonals = refl }
+
+module _ (b : ℕ) (alpha beta eta : Float) (ok : boundOk b ≡ true) (pa : positive alpha ≡ true) (pe : positive eta ≡ true) (z : eq beta 0ᶠ ≡ true) where
+  -- opposite rows have as many lots
+  opposite-entries : (i j : ℕ) → suc (i + j) ≡ rows b → diagonalAt b alpha beta eta i ≡ diagonalAt b alpha beta eta j
+  opposite-entries i j e =
+      let same : lots b i ≡ lots b j = lots-are b i ∙ omega arith ∙ sym (lots-are b j) in
+      entry-before b alpha eta ok pa pe beta z i (omega arith)
+      ∙ diagonal-is b alpha eta i ∙ ap (λ (m : ℕ). alpha ⊗ whole (pos m) ⊗ whole (pos m) ⊕ 2ᶠ ⊗ eta) same ∙ sym (diagonal-is b alpha eta j)
+      ∙ sym (entry-before b alpha eta ok pa pe beta z j (omega arith))
+
+  half-sized : fullSize true (b + 1) ≡ rows b
+  unfolding fullSize
+  half-sized = ap rows (omega arith)
+
+  pub half-stands : RowsStand true (b + 1) b alpha beta eta
+  half-stands = record {
+    sized = half-sized;
+    diagonals =
+        full-tab true (b + 1) (diagonalAt b alpha beta eta) (diagonalAt b alpha beta eta) (diagonalAt b alpha beta eta) (diagonalAt b alpha beta eta) (omega arith)
+        (λ _ i j e. opposite-entries i j (e ∙ half-sized)) (λ i k. refl) (λ i k. refl)
+        ∙ ap (λ (k : ℕ). tab k (diagonalAt b alpha beta eta)) half-sized;
+  }
