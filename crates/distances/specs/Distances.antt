@@ -1,6 +1,7 @@
 -- Document 01, module 4, its float side: the distances at one holding, from a value vector. Definitions only.
 use Prim.Native.Nat.{ℕ, zero, suc, _/_}
 use mathlib.Core.Bool.{Bool, true, false, _&&_}
+use mathlib.Core.List.{List}
 use lib.IntN.{ℤ, pos, natAbs, _+ℤ_}
 use lib.Dec.{ltb, leb, eqb}
 use lib.Ieee.{Float}
@@ -24,6 +25,10 @@ within bound q = leb (natAbs q) bound
 -- the place of q lots: q + bound
 unfoldable pub place : ℕ → ℤ → ℕ
 place bound q = natAbs (q +ℤ pos bound)
+
+-- ---- a vector whose arrays are lent: its length, its weights and its offsets
+abbrev pub lent : ℕ → List Float → List Float → ValueVector
+lent n w o = record { w = w; «log_offset» = o; n = n }
 
 -- ---- the distances
 -- ((LN w_i - LN w_j) + (o_i - o_j)) / k + base; a NaN where LN refuses a weight

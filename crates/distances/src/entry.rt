@@ -79,7 +79,14 @@ pub(crate) fn entry_within(
             with_vector(
                 vector,
                 steps,
-                crate::places::sides_at(vector, k, base, place),
+                crate::places::sides_in(
+                    &a.vector.w,
+                    &a.vector.log_offset,
+                    a.vector.n,
+                    k,
+                    base,
+                    place,
+                ),
             )
         }
         Outcome::OverCap(need, budget, steps) => FloatAnswer {

@@ -6,6 +6,7 @@ mod places;
 pub mod refusals;
 
 pub use from_vector::answer_from;
+pub use from_vector::answer_in;
 ghost use mathlib.Core.Path.{_≡_};
 ghost use Rattle.distances.specs.Distances.{within, fine, exactDistances};
 ghost use Rattle.distances.specs.FloatEntry.{floatEntry};
@@ -62,18 +63,7 @@ pub fn is_fine(d: Distance) -> bool
 pub fn exact_distances(vector: ValueVector, k: f64, base: f64, q: i64) -> Sides
     ensures { λ r. ⌜ r ≡ exactDistances vector k base q ⌝ }
 {
-    let n = vector.n;
-    if places::scale_fits(k, base) {
-        if places::length_fits(n) {
-            let bound = (n / 2) as u32;
-            if within(q, bound) {
-                return places::sides_at(vector, k, base, places::place_of(q, bound));
-            }
-            return Sides::Refused(refusals::HOLDING);
-        }
-        return Sides::Refused(CONFIGURATION);
-    }
-    Sides::Refused(elementary::OUTSIDE)
+    places::distances_in(&vector.w, &vector.log_offset, vector.n, k, base, q)
 }
 
 // The float entry: the value vector, the steps spent and the distances at q lots, or the cap report.

@@ -5,11 +5,13 @@ ghost use mathlib.Core.Bool.{_&&_};
 ghost use lib.IntN.{natAbs};
 ghost use Rattle.elementary.specs.Float.{_⊕_, _⊖_, _⊘_, positive};
 ghost use Rattle.elementary.specs.Elementary.{LN, orNan};
-ghost use Rattle.distances.specs.Distances.{lengthOk, place, fine, sides, exactAt};
+ghost use Rattle.distances.specs.Distances.{lent, lengthOk, place, fine, sides, exactAt, exactDistances};
 use crate::Distance;
 use crate::Sides;
+use crate::refusals::HOLDING;
+use vector::MAX_DIM;
 use vector::MAX_INVENTORY_LOTS;
-use vector::ValueVector;
+use vector::refusals::CONFIGURATION;
 use vector::refusals::NUMERICAL;
 
 // Whether k and base are finite and above zero.
@@ -54,35 +56,66 @@ fn both(bid: Distance, ask: Distance) -> Sides
     Sides::Refused(NUMERICAL)
 }
 
-// The distances at place i. The vector is read here and handed on to no other function, as a call would
-// copy it.
-pub(crate) fn sides_at(v: ValueVector, k: f64, base: f64, i: usize) -> Sides
-    requires { ⌜ (i < v .n) × (v .n ≤ 401) ⌝ }
-    ensures { λ r. ⌜ r ≡ exactAt v k base i ⌝ }
+// The distances at place i of n weights and offsets, which are lent: by value, each call on the way would
+// copy them.
+pub(crate) fn sides_in<'a>(
+    w: &'a [f64; MAX_DIM],
+    o: &'a [f64; MAX_DIM],
+    n: usize,
+    k: f64,
+    base: f64,
+    i: usize,
+) -> Sides
+    requires { ⌜ (i < n) × (n ≤ 401) ⌝ }
+    ensures { λ r. ⌜ r ≡ exactAt (lent n (now (w .entry)) (now (o .entry))) k base i ⌝ }
 {
-    let w = v.w[i];
-    let o = v.log_offset[i];
+    let v = w[i];
+    let a = o[i];
     let up = i + 1;
-    if up < v.n {
-        let x = v.w[up];
-        let p = v.log_offset[up];
-        let bid = Distance::At(distance_between(w, o, x, p, k, base));
+    if up < n {
+        let x = w[up];
+        let p = o[up];
+        let bid = Distance::At(distance_between(v, a, x, p, k, base));
         if 0 < i {
             let down = i - 1;
-            let y = v.w[down];
-            let r = v.log_offset[down];
-            return both(bid, Distance::At(distance_between(w, o, y, r, k, base)));
+            let y = w[down];
+            let r = o[down];
+            return both(bid, Distance::At(distance_between(v, a, y, r, k, base)));
         }
         return both(bid, Distance::Absent);
     }
     if 0 < i {
         let down = i - 1;
-        let y = v.w[down];
-        let r = v.log_offset[down];
+        let y = w[down];
+        let r = o[down];
         return both(
             Distance::Absent,
-            Distance::At(distance_between(w, o, y, r, k, base)),
+            Distance::At(distance_between(v, a, y, r, k, base)),
         );
     }
     both(Distance::Absent, Distance::Absent)
+}
+
+// The distances at q lots of n weights and offsets: refused by 5, then 1, then 4, then 11.
+pub(crate) fn distances_in<'a>(
+    w: &'a [f64; MAX_DIM],
+    o: &'a [f64; MAX_DIM],
+    n: usize,
+    k: f64,
+    base: f64,
+    q: i64,
+) -> Sides
+    ensures { λ r. ⌜ r ≡ exactDistances (lent n (now (w .entry)) (now (o .entry))) k base q ⌝ }
+{
+    if scale_fits(k, base) {
+        if length_fits(n) {
+            let bound = (n / 2) as u32;
+            if crate::within(q, bound) {
+                return sides_in(w, o, n, k, base, place_of(q, bound));
+            }
+            return Sides::Refused(HOLDING);
+        }
+        return Sides::Refused(CONFIGURATION);
+    }
+    Sides::Refused(elementary::OUTSIDE)
 }

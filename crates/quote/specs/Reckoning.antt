@@ -3,15 +3,18 @@ use mathlib.Core.Path.{_≡_}
 use mathlib.Core.Logic.{_⊎_, _↔_}
 use Prim.Native.Nat.{ℕ, _≤_}
 use mathlib.Core.Bool.{Bool, true, false, _&&_}
+use mathlib.Core.List.{List}
 use lib.IntN.{ℤ, pos, negℤ, natAbs, _*ℤ_}
 use lib.Ieee.{Float}
 use Rattle.elementary.specs.Elementary.{outside}
 use Rattle.vector.specs.Refusals.{configuration}
 use Rattle.vector.specs.Values.{refusedVector, valueVector}
+use Rattle.vector.specs.declared.Outcome.{Outcome}
 use Rattle.vector.specs.declared.Outcome.the-variants as Outcome
 use Rattle.vector.specs.declared.VectorAnswer.{VectorAnswer}
 use Rattle.distances.specs.Promises.{exchanged}
 use Rattle.distances.specs.declared.Answer.the-variants as Answer
+use Rattle.distances.specs.Distances.{lent}
 use Rattle.distances.specs.Reading.{answerFrom}
 use Rattle.quote.specs.Refusals.{limits, market}
 use Rattle.quote.specs.Configuration.{amountOk, above0, timeOk, configOk}
@@ -65,6 +68,10 @@ lotsIf true true x = x
 
 unfoldable pub quotesOfLots : ℤ → GLFTConfig → Reckoning → ℤ → ExactQuotes
 quotesOfLots mid c r q = lotsIf (above0 (c .«lot_size»)) (amountOk (holdingOf c q)) (quotesFrom mid (c .«min_spread») (r .k) (r .base) q (r .vector))
+
+-- a reckoning whose vector's arrays are lent: k, base, the run's outcome, and the vector's length, weights and offsets
+abbrev pub lentReckoning : Float → Float → Outcome → ℕ → List Float → List Float → Reckoning
+lentReckoning k base e n w o = record { k = k; base = base; vector = record { outcome = e; vector = lent n w o } }
 
 -- ==== statements
 -- where a call's model is made, the quotes from its value vector are those of `exact_quotes`

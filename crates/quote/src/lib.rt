@@ -15,6 +15,7 @@ pub use reckoning::Check;
 pub use reckoning::Reckoning;
 pub use reckoning::check_call;
 pub use reckoning::quotes_from;
+pub use reckoning::quotes_in;
 pub use reckoning::quotes_of_lots;
 pub use reckoning::reckon;
 pub use rounding::Billionths;

@@ -1,11 +1,13 @@
 // One reckoning for every holding: the checks that no holding takes part in, the value vector of a
 // configuration and a market, and the quotes of so many lots from it.
 ghost use mathlib.Core.Path.{_≡_};
+ghost use mathlib.Core.Bool.{_&&_};
 ghost use lib.IntN.{_*ℤ_};
 ghost use lib.Dec.{T};
 ghost use Rattle.quote.specs.Configuration.{amountOk, above0};
 ghost use Rattle.quote.specs.Model.{modelOk};
-ghost use Rattle.quote.specs.Reckoning.{checkCall, reckonIf, reckoning, quotesFrom, quotesOfLots};
+ghost use Rattle.quote.specs.Quotes.{exactBy};
+ghost use Rattle.quote.specs.Reckoning.{checkCall, reckonIf, reckoning, fromIf, quotesFrom, lentReckoning, quotesOfLots};
 use crate::ExactQuotes;
 use crate::GLFTConfig;
 use crate::Model;
@@ -13,6 +15,9 @@ use crate::amounts::amount_fits;
 use crate::amounts::is_positive;
 use crate::parameters;
 use crate::refusals;
+use distances::Answer;
+use vector::MAX_DIM;
+use vector::Outcome;
 use vector::VectorAnswer;
 
 // Whether a call's numbers pass, or the number that refuses them.
@@ -71,6 +76,19 @@ pub fn reckon(config: GLFTConfig, volatility: i64, current_time: u64) -> Reckoni
     }
 }
 
+// The exact quotes of an answer before prices: refused by 2 where the mid or the min spread is beyond the
+// limit, then as the answer is, then by 13 and 14.
+fn quotes_by(mid_price: i64, min_spread: i64, answer: Answer) -> ExactQuotes
+    ensures { λ r. ⌜ r ≡ fromIf (amountOk «mid_price» && amountOk «min_spread») (exactBy «mid_price» «min_spread» answer) ⌝ }
+{
+    if amount_fits(mid_price) {
+        if amount_fits(min_spread) {
+            return crate::quotes::from_answer(mid_price, min_spread, answer);
+        }
+    }
+    ExactQuotes::Refused(refusals::LIMITS)
+}
+
 // The exact quotes at q lots from what `value_vector` answered: refused by 2 where the mid or the min
 // spread is beyond the limit, then as the vector's answer and its distances are, then by 13 and 14.
 pub fn quotes_from(
@@ -83,16 +101,11 @@ pub fn quotes_from(
 ) -> ExactQuotes
     ensures { λ r. ⌜ r ≡ quotesFrom «mid_price» «min_spread» k base q vector ⌝ }
 {
-    if amount_fits(mid_price) {
-        if amount_fits(min_spread) {
-            return crate::quotes::from_answer(
-                mid_price,
-                min_spread,
-                distances::answer_from(vector, k, base, q),
-            );
-        }
-    }
-    ExactQuotes::Refused(refusals::LIMITS)
+    quotes_by(
+        mid_price,
+        min_spread,
+        distances::answer_from(vector, k, base, q),
+    )
 }
 
 // Whether the holding of so many lots is within the limit. No product is formed, so none is beyond 64
@@ -105,17 +118,47 @@ fn lots_fit(q: i64, lot_size: i64) -> bool
     (0 - most <= q) & (q <= most)
 }
 
-// The exact quotes of so many lots from a reckoning: refused by 1 where the lot size is not positive,
-// by 2 where the lots' holding is beyond the limit, then as `quotes_from`.
-pub fn quotes_of_lots(mid_price: i64, config: GLFTConfig, r: Reckoning, q: i64) -> ExactQuotes
-    ensures { λ x. ⌜ x ≡ quotesOfLots «mid_price» config r q ⌝ }
+// The exact quotes of so many lots from a reckoning, whose vector's n weights and offsets are lent: a
+// call copies none of them. Refused by 1 where the lot size is not positive, by 2 where the lots'
+// holding is beyond the limit, then as `quotes_from`.
+pub fn quotes_in<'a>(
+    mid_price: i64,
+    config: GLFTConfig,
+    k: f64,
+    base: f64,
+    outcome: Outcome,
+    w: &'a [f64; MAX_DIM],
+    log_offset: &'a [f64; MAX_DIM],
+    n: usize,
+    q: i64,
+) -> ExactQuotes
+    ensures { λ x. ⌜ x ≡ quotesOfLots «mid_price» config (lentReckoning k base outcome n (now (w .entry)) (now («log_offset» .entry))) q ⌝ }
 {
     if is_positive(config.lot_size) {
         if lots_fit(q, config.lot_size) {
-            let vector = r.vector;
-            return quotes_from(mid_price, config.min_spread, r.k, r.base, q, vector);
+            let answer = distances::answer_in(outcome, w, log_offset, n, k, base, q);
+            return quotes_by(mid_price, config.min_spread, answer);
         }
         return ExactQuotes::Refused(refusals::LIMITS);
     }
     ExactQuotes::Refused(vector::refusals::CONFIGURATION)
+}
+
+// The same from a reckoning by value.
+pub fn quotes_of_lots(mid_price: i64, config: GLFTConfig, r: Reckoning, q: i64) -> ExactQuotes
+    ensures { λ x. ⌜ x ≡ quotesOfLots «mid_price» config r q ⌝ }
+{
+    let a = r.vector;
+    let outcome = a.outcome;
+    quotes_in(
+        mid_price,
+        config,
+        r.k,
+        r.base,
+        outcome,
+        &a.vector.w,
+        &a.vector.log_offset,
+        a.vector.n,
+        q,
+    )
 }

@@ -59,11 +59,24 @@ fn write_rungs(
     ensures { λ r. ⌜ r ≡ length (ladder «mid_price» config volatility «current_time») ⌝ }
 {
     let r = quote::reckon(config, volatility, current_time);
+    let a = r.vector;
+    let outcome = a.outcome;
     let n = rungs_of(config);
     let mut at: usize = 0;
     let mut i: usize = 0;
     while i < n {
-        let answer = quote::quotes_of_lots(mid_price, config, r, lot_at(config, i));
+        let lot = lot_at(config, i);
+        let answer = quote::quotes_in(
+            mid_price,
+            config,
+            r.k,
+            r.base,
+            outcome,
+            &a.vector.w,
+            &a.vector.log_offset,
+            a.vector.n,
+            lot,
+        );
         at += write_answer(&mut out[at..], answer);
         i += 1;
     }

@@ -63,13 +63,14 @@ enum-known-outcome c = search needs
 place-of-requires : tie.Need-place-of-requires
 place-of-requires c κs = search needs
 
-sides-at-requires : tie.Need-sides-at-requires
-sides-at-requires c κs =
-    let r = c .before .before .before .before .before in
+sides-in-requires : tie.Need-sides-in-requires
+sides-in-requires c κs =
+    let p = c .before .before .before in
+    let r = p .before .before .before .before .before in
     let s = r .before in
     let a = s .args in
-    let e : c .place-of .result ≡ place (a .bound) (a .q) = c .place-of .ensures ∙ ap (place (a .bound)) (toZ-ofZ (s .fits .q)) in
-    omega (arith, e, place-most (a .q) (a .bound) (s .pre .2), bound-range (a .bound) (s .pre .1), full r _ (c .before .before .outcome .given .1))
+    let e : p .place-of .result ≡ place (a .bound) (a .q) = p .place-of .ensures ∙ ap (place (a .bound)) (toZ-ofZ (s .fits .q)) in
+    omega (arith, e, place-most (a .q) (a .bound) (s .pre .2), bound-range (a .bound) (s .pre .1), full r _ (p .before .before .outcome .given .1))
 
 with-vector-requires : tie.Need-with-vector-requires
 with-vector-requires c κs = search needs
@@ -87,9 +88,10 @@ returns : tie.Need-returns
 unfolding entry
 returns c =
     let d = c .before in
-    let o = d .before .before .before in
+    let p = d .before .before .before .before in
+    let o = p .before .before in
     let r = o .before .before .before in
-    rw (ended r, o .outcome .given .1, c .with-vector .ensures, d .sides-at .ensures, d .before .place-of .ensures, toZ-ofZ (r .before .fits .q))
+    rw (ended r, o .outcome .given .1, c .with-vector .ensures, d .sides-in .ensures, p .place-of .ensures, toZ-ofZ (r .before .fits .q))
 
 returns-2 : tie.Need-returns-2
 unfolding entry
@@ -110,7 +112,7 @@ entry-within-spec =
     value-vector-requires
     enum-known-outcome
     place-of-requires
-    sides-at-requires
+    sides-in-requires
     with-vector-requires
     enum-known-outcome-2
     enum-known-outcome-3

@@ -1,49 +1,15 @@
 use mir.Facts.{toZ-ofZ}
 use borrow.Author.Needs.{needs}
-use Rattle.distances.specs.Reading.{readBy, answerFrom}
+use Rattle.distances.specs.Reading.{answerFrom}
 use Rattle.distances.proofs.from_vector.answer_from.Statement.{statement}
 use Rattle.distances.proofs.from_vector.answer_from.Tie as tie
 
-enum-known-outcome : tie.Need-enum-known-outcome
-enum-known-outcome c = search needs
-
-exact-distances-requires : tie.Need-exact-distances-requires
-exact-distances-requires c κs = search needs
-
-with-steps-requires : tie.Need-with-steps-requires
-with-steps-requires c κs = search needs
-
-enum-known-outcome-2 : tie.Need-enum-known-outcome-2
-enum-known-outcome-2 c = search needs
-
-enum-known-outcome-3 : tie.Need-enum-known-outcome-3
-enum-known-outcome-3 c = search needs
+answer-in-requires : tie.Need-answer-in-requires
+answer-in-requires c κs = search needs
 
 returns : tie.Need-returns
-unfolding answerFrom readBy
-returns c =
-    let d = c .before in
-    let o = d .before .before in
-    let s = o .before .before .before in
-    rw (o .outcome .given .1, c .with-steps .ensures, d .exact-distances .ensures, toZ-ofZ (s .fits .q))
-
-returns-2 : tie.Need-returns-2
-unfolding answerFrom readBy
-returns-2 c = rw (c .before .outcome2 .given .1)
-
-returns-3 : tie.Need-returns-3
-unfolding answerFrom readBy
-returns-3 c = rw (c .before .outcome3 .given .1)
+unfolding answerFrom
+returns c = rw (c .answer-in .ensures, toZ-ofZ (c .before .before .before .before .before .fits .q))
 
 pub answer-from-spec : {M : Type 1} → statement M
-answer-from-spec =
-    tie.close
-    (tie.spec
-    enum-known-outcome
-    exact-distances-requires
-    with-steps-requires
-    enum-known-outcome-2
-    enum-known-outcome-3
-    returns
-    returns-2
-    returns-3)
+answer-from-spec = tie.close (tie.spec answer-in-requires returns)

@@ -1,56 +1,20 @@
-use mathlib.Core.Path.{_≡_, sym, subst, _∙_}
-use lib.Dec.{T}
 use mir.Facts.{toZ-ofZ}
 use borrow.Author.Needs.{needs}
-use Rattle.quote.specs.Configuration.{amountOk}
-use Rattle.quote.specs.Reckoning.{fromIf, quotesFrom}
+use Rattle.quote.specs.Reckoning.{quotesFrom}
 use Rattle.quote.proofs.reckoning.quotes_from.Statement.{statement}
 use Rattle.quote.proofs.reckoning.quotes_from.Tie as tie
-
-mid-is : (c : tie.After-amount-fits) → amountOk (c .before .args .mid-price) ≡ c .amount-fits .result
-mid-is c = rw (c .amount-fits .ensures, toZ-ofZ (c .before .fits .mid-price))
-
-least-is : (c : tie.After-amount-fits2) → amountOk (c .before .before .before .args .min-spread) ≡ c .amount-fits2 .result
-least-is c = rw (c .amount-fits2 .ensures, toZ-ofZ (c .before .before .before .fits .min-spread))
-
-amount-fits-requires : tie.Need-amount-fits-requires
-amount-fits-requires c κs = search needs
-
-amount-fits-requires-2 : tie.Need-amount-fits-requires-2
-amount-fits-requires-2 c κs = search needs
 
 answer-from-requires : tie.Need-answer-from-requires
 answer-from-requires c κs = search needs
 
-from-answer-requires : tie.Need-from-answer-requires
-from-answer-requires c κs =
-    let t = c .before in
-    let r = t .before .before .before .before .fits in
-    rw (toZ-ofZ (r .mid-price), toZ-ofZ (r .min-spread)) (subst T (sym (mid-is (t .before .before .before) ∙ t .before .before .if1 .taken)) tt, subst T (sym (least-is (t .before) ∙ t .if2 .taken)) tt)
+quotes-by-requires : tie.Need-quotes-by-requires
+quotes-by-requires c κs = search needs
 
 returns : tie.Need-returns
-unfolding quotesFrom fromIf
+unfolding quotesFrom
 returns c =
-    let t = c .before .before in
-    let r = t .before .before .before .before .fits in
-    rw (mid-is (t .before .before .before), t .before .before .if1 .taken, least-is (t .before), t .if2 .taken, c .from-answer .ensures, c .before .answer-from .ensures, toZ-ofZ (r .mid-price), toZ-ofZ (r .min-spread), toZ-ofZ (r .q))
-
-returns-2 : tie.Need-returns-2
-unfolding quotesFrom fromIf
-returns-2 c = rw (mid-is (c .before .before .before), c .before .before .if1 .taken, least-is (c .before), c .if2 .left)
-
-returns-3 : tie.Need-returns-3
-unfolding quotesFrom fromIf
-returns-3 c = rw (mid-is (c .before), c .if1 .left)
+    let r = c .before .before .fits in
+    rw (c .quotes-by .ensures, c .before .answer-from .ensures, toZ-ofZ (r .mid-price), toZ-ofZ (r .min-spread), toZ-ofZ (r .q))
 
 pub quotes-from-spec : {M : Type 1} → statement M
-quotes-from-spec =
-    tie.close
-    (tie.spec
-    amount-fits-requires
-    amount-fits-requires-2
-    answer-from-requires
-    from-answer-requires
-    returns
-    returns-2
-    returns-3)
+quotes-from-spec = tie.close (tie.spec answer-from-requires quotes-by-requires returns)

@@ -22,18 +22,25 @@ use Rattle.sheet.proofs.ladder.write_rungs.Statement.{statement}
 use Rattle.sheet.proofs.ladder.write_rungs.Tie as tie
 
 abbrev Inv-loop : tie.InvT-loop
-Inv-loop out₀ mid-price config volatility current-time r n at₀ i₀ out at i = Laying (toZ w64 mid-price) config r out₀ out at i
+Inv-loop out₀ mid-price config volatility current-time r a outcome n at₀ i₀ out at i = Laying (toZ w64 mid-price) config r out₀ out at i
 
 abbrev μ-loop : tie.MeasureT-loop
-μ-loop out₀ mid-price config volatility current-time r n at₀ i₀ out at i = n - i
+μ-loop out₀ mid-price config volatility current-time r a outcome n at₀ i₀ out at i = n - i
+
+-- where the line's turn of the loop begins, and what came before the loop
+abbrev turn : tie.After-quotes-in Inv-loop μ-loop → tie.In-loop Inv-loop μ-loop
+turn c = c .before .before .before .before .before
+
+abbrev made : tie.In-loop Inv-loop μ-loop → tie.After-reckon Inv-loop μ-loop
+made c = c .before .before .before .before
 
 -- a line is due, of a reply that can be written
-line-due : (c : tie.In-loop Inv-loop μ-loop) → c .before .loop .i < rungs (c .before .before .before .before .before .args .config)
+line-due : (c : tie.In-loop Inv-loop μ-loop) → c .before .loop .i < rungs (made c .before .before .args .config)
 line-due c = rw (← c .before .before .rungs-of .ensures) (c .loop-test .taken)
 
-bounded : (c : tie.In-loop Inv-loop μ-loop) → c .before .before .before .before .before .args .config .«max_inventory_lots» ≤ 200
+bounded : (c : tie.In-loop Inv-loop μ-loop) → made c .before .before .args .config .«max_inventory_lots» ≤ 200
 bounded c =
-    let s = c .before .before .before .before .before in
+    let s = made c .before .before in
     bound-checked (s .args .mid-price) (s .args .config) (s .args .volatility) (s .args .current-time) (s .pre .0)
 
 reckoned : (c : tie.After-reckon Inv-loop μ-loop) → let a = c .before .before .args in c .reckon .result ≡ reckoning (a .config) (a .volatility) (a .current-time)
@@ -41,47 +48,50 @@ reckoned c =
     let s = c .before .before in
     c .reckon .ensures ∙ ap (λ (z : ℤ). reckoning (s .args .config) z (s .args .current-time)) (toZ-ofZ (s .fits .volatility))
 
-answer-is : (c : tie.After-quotes-of-lots Inv-loop μ-loop) → let a = c .before .before .before .before .before .before .before .args in
-    c .quotes-of-lots .result ≡ quotesOfLots (toZ w64 (ofZ w64 (a .mid-price))) (a .config) (c .before .before .before .before .before .reckon .result) (lotAt (a .config) (c .before .before .before .loop .i))
+answer-is : (c : tie.After-quotes-in Inv-loop μ-loop) → let a = made (turn c) .before .before .args in
+    c .quotes-in .result ≡ quotesOfLots (toZ w64 (ofZ w64 (a .mid-price))) (a .config) (made (turn c) .reckon .result) (lotAt (a .config) (turn c .before .loop .i))
 answer-is c =
-    let a = c .before .before .before .before .before .before .before .args in
-    let f : SFits w64 (c .before .lot-at .result) = record { sfits = c .before .lot-at .ok } in
-    c .quotes-of-lots .ensures ∙ ap (quotesOfLots (toZ w64 (ofZ w64 (a .mid-price))) (a .config) (c .before .before .before .before .before .reckon .result)) (toZ-ofZ f ∙ c .before .lot-at .ensures)
+    let a = made (turn c) .before .before .args in
+    let l = c .before .before .before .before in
+    let f : SFits w64 (l .lot-at .result) = record { sfits = l .lot-at .ok } in
+    c .quotes-in .ensures ∙ ap (quotesOfLots (toZ w64 (ofZ w64 (a .mid-price))) (a .config) (made (turn c) .reckon .result)) (toZ-ofZ f ∙ l .lot-at .ensures)
 
-answer-kept : (c : tie.After-quotes-of-lots Inv-loop μ-loop) → let a = c .before .before .before .before .before .before .before .args in
-    ReplyKept (quotesOfLots (toZ w64 (ofZ w64 (a .mid-price))) (a .config) (c .before .before .before .before .before .reckon .result) (lotAt (a .config) (c .before .before .before .loop .i)))
+answer-kept : (c : tie.After-quotes-in Inv-loop μ-loop) → let a = made (turn c) .before .before .args in
+    ReplyKept (quotesOfLots (toZ w64 (ofZ w64 (a .mid-price))) (a .config) (made (turn c) .reckon .result) (lotAt (a .config) (turn c .before .loop .i)))
 answer-kept c =
-    let s = c .before .before .before .before .before .before .before in
+    let s = made (turn c) .before .before in
     let a = s .args in
-    let q = lotAt (a .config) (c .before .before .before .loop .i) in
-    let k = rung-kept (a .mid-price) (a .config) (a .volatility) (a .current-time) (s .pre .0) (c .before .before .before .loop .i) (line-due (c .before .before)) in
-    subst (λ (z : ℤ). ReplyKept (quotesOfLots z (a .config) (c .before .before .before .before .before .reckon .result) q)) (sym (toZ-ofZ (s .fits .mid-price)))
-    (subst (λ (r : Reckoning). ReplyKept (quotesOfLots (a .mid-price) (a .config) r q)) (sym (reckoned (c .before .before .before .before .before))) k)
+    let i = turn c .before .loop .i in
+    let q = lotAt (a .config) i in
+    let k = rung-kept (a .mid-price) (a .config) (a .volatility) (a .current-time) (s .pre .0) i (line-due (turn c)) in
+    subst (λ (z : ℤ). ReplyKept (quotesOfLots z (a .config) (made (turn c) .reckon .result) q)) (sym (toZ-ofZ (s .fits .mid-price)))
+    (subst (λ (r : Reckoning). ReplyKept (quotesOfLots (a .mid-price) (a .config) r q)) (sym (reckoned (made (turn c)))) k)
 
 -- a line more is in
-line-added : (c : tie.After-write-answer Inv-loop μ-loop) → let l = c .before .before .before .before .before .loop in let a = c .before .before .before .before .before .before .before .before .before .args in
-    (c .write-answer .result ≤ leastRoom) × Laying (toZ w64 (ofZ w64 (a .mid-price))) (a .config) (c .before .before .before .before .before .before .before .reckon .result) (now (a .out)) (putMid (l .at) (length (l .out) - l .at) (l .out) (c .write-answer .last .0)) (l .at + c .write-answer .result) (l .i + 1)
+line-added : (c : tie.After-write-answer Inv-loop μ-loop) → let t = turn (c .before .before) in let l = t .before .loop in let a = made t .before .before .args in
+    (c .write-answer .result ≤ leastRoom) × Laying (toZ w64 (ofZ w64 (a .mid-price))) (a .config) (made t .reckon .result) (now (a .out)) (putMid (l .at) (length (l .out) - l .at) (l .out) (c .write-answer .last .0)) (l .at + c .write-answer .result) (l .i + 1)
 unfolding ladderLine
 line-added c =
     let q = c .before .before in
-    let l = q .before .before .before .loop in
+    let l = turn q .before .loop in
     let e = c .write-answer .ensures in
     let part = midOf (l .at) (length (l .out) - l .at) (l .out) in
-    laying-more _ _ _ _ _ _ _ (l .inv) (q .before .before .before .before .before .before .before .pre .1) (c .write-answer .result) (c .write-answer .last .0) (line-due (q .before .before)) (answer-kept q)
+    laying-more _ _ _ _ _ _ _ (l .inv) (made (turn q) .before .before .pre .1) (c .write-answer .result) (c .write-answer .last .0) (line-due (turn q)) (answer-kept q)
     (e .0 ∙ ap (λ (x : ExactQuotes). over (answerLine x) part) (answer-is q)) (e .1 ∙ ap (λ (x : ExactQuotes). length (answerLine x)) (answer-is q))
 
 -- the part of the buffer that is lent has the room
-room-left : (c : tie.After-quotes-of-lots Inv-loop μ-loop) → let l = c .before .before .before .loop in (l .at + leastRoom ≤ length (l .out)) × (length (l .out) ≡ length (now (c .before .before .before .before .before .before .before .args .out)))
+room-left : (c : tie.After-quotes-in Inv-loop μ-loop) → let l = turn c .before .loop in (l .at + leastRoom ≤ length (l .out)) × (length (l .out) ≡ length (now (made (turn c) .before .before .args .out)))
 room-left c =
-    let l = c .before .before .before .loop in
-    let e = laying-length _ _ _ _ _ _ _ (l .inv) (c .before .before .before .before .before .before .before .pre .1) in
-    (rw e (laying-room _ _ _ _ _ _ _ (l .inv) (c .before .before .before .before .before .before .before .pre .1) (line-due (c .before .before))), e)
+    let l = turn c .before .loop in
+    let p = made (turn c) .before .before .pre .1 in
+    let e = laying-length _ _ _ _ _ _ _ (l .inv) p in
+    (rw e (laying-room _ _ _ _ _ _ _ (l .inv) p (line-due (turn c))), e)
 
 reckon-requires : tie.Need-reckon-requires Inv-loop μ-loop
 reckon-requires c κs = search needs
 
 rungs-of-requires : tie.Need-rungs-of-requires Inv-loop μ-loop
-rungs-of-requires c κs = let s = c .before .before in bound-checked (s .args .mid-price) (s .args .config) (s .args .volatility) (s .args .current-time) (s .pre .0)
+rungs-of-requires c κs = let s = c .before .before .before in bound-checked (s .args .mid-price) (s .args .config) (s .args .volatility) (s .args .current-time) (s .pre .0)
 
 loop-holds : tie.Need-loop-holds Inv-loop μ-loop
 loop-holds c = laying-none _ _ _ _
@@ -89,8 +99,8 @@ loop-holds c = laying-none _ _ _ _
 lot-at-requires : tie.Need-lot-at-requires Inv-loop μ-loop
 lot-at-requires c κs = (bounded c, omega (arith, bounded c, line-due c))
 
-quotes-of-lots-requires : tie.Need-quotes-of-lots-requires Inv-loop μ-loop
-quotes-of-lots-requires c κs = search needs
+quotes-in-requires : tie.Need-quotes-in-requires Inv-loop μ-loop
+quotes-in-requires c κs = search needs
 
 sub-write-answer : tie.Need-sub-write-answer Inv-loop μ-loop
 sub-write-answer c = omega (arith, room-left c)
@@ -104,37 +114,38 @@ part-write-answer-end c = search needs
 write-answer-requires : tie.Need-write-answer-requires Inv-loop μ-loop
 write-answer-requires c κs =
     let q = c .before in
-    let l = q .before .before .before .loop in
-    (subst ReplyKept (sym (answer-is q)) (answer-kept q), part-room _ _ _ _ _ (l .inv .wrote) (laying-room _ _ _ _ _ _ _ (l .inv) (q .before .before .before .before .before .before .before .pre .1) (line-due (q .before .before))))
+    let l = turn q .before .loop in
+    (subst ReplyKept (sym (answer-is q)) (answer-kept q), part-room _ _ _ _ _ (l .inv .wrote) (laying-room _ _ _ _ _ _ _ (l .inv) (made (turn q) .before .before .pre .1) (line-due (turn q))))
 
 add-at : tie.Need-add-at Inv-loop μ-loop
 add-at c =
     let w = c .before .before in
-    let l = w .before .before .before .before in
+    let l = turn (w .before .before) in
     omega (arith, bounded l, line-due l, l .before .loop .inv .room, line-added w .0)
 
 add-i : tie.Need-add-i Inv-loop μ-loop
-add-i c = let l = c .before .before .before .before .before .before in omega (arith, bounded l, line-due l)
+add-i c = let l = turn (c .before .before .before .before) in omega (arith, bounded l, line-due l)
 
 loop-less : tie.Need-loop-less Inv-loop μ-loop
-loop-less c = let l = c .before .before .before .before .before .before in omega (arith, l .loop-test .taken)
+loop-less c = let l = turn (c .before .before .before .before) in omega (arith, l .loop-test .taken)
 
 loop-again : tie.Need-loop-again Inv-loop μ-loop
 loop-again c = line-added (c .before .before) .1
 
 same-length : tie.Need-same-length Inv-loop μ-loop
-same-length c = laying-length _ _ _ _ _ _ _ (c .before .loop .inv) (c .before .before .before .before .before .pre .1)
+same-length c = laying-length _ _ _ _ _ _ _ (c .before .loop .inv) (c .before .before .before .before .before .before .pre .1)
 
 returns : tie.Need-returns Inv-loop μ-loop
 unfolding ladder
 returns c =
     let l = c .before .loop in
-    let s = c .before .before .before .before .before in
+    let m = c .before .before .before .before in
+    let s = m .before .before in
     let a = s .args in
     let n : l .i ≡ rungs (a .config) = omega (arith, c .before .before .rungs-of .ensures, c .loop-test, l .inv .few) in
-    let all : ladderLines (toZ w64 (ofZ w64 (a .mid-price))) (a .config) (c .before .before .before .reckon .result) (l .i) ≡ ladder (a .mid-price) (a .config) (a .volatility) (a .current-time) =
-    ap (λ (z : ℤ). ladderLines z (a .config) (c .before .before .before .reckon .result) (l .i)) (toZ-ofZ (s .fits .mid-price))
-    ∙ ap (λ (r : Reckoning). ladderLines (a .mid-price) (a .config) r (l .i)) (reckoned (c .before .before .before))
+    let all : ladderLines (toZ w64 (ofZ w64 (a .mid-price))) (a .config) (m .reckon .result) (l .i) ≡ ladder (a .mid-price) (a .config) (a .volatility) (a .current-time) =
+    ap (λ (z : ℤ). ladderLines z (a .config) (m .reckon .result) (l .i)) (toZ-ofZ (s .fits .mid-price))
+    ∙ ap (λ (r : Reckoning). ladderLines (a .mid-price) (a .config) r (l .i)) (reckoned m)
     ∙ ap (ladderLines (a .mid-price) (a .config) (reckoning (a .config) (a .volatility) (a .current-time))) n in
     let w = wrote-as _ _ (ladder (a .mid-price) (a .config) (a .volatility) (a .current-time)) _ _ (l .inv .wrote) all in
     (w .0, w .1)
@@ -149,7 +160,7 @@ write-rungs-spec =
     rungs-of-requires
     loop-holds
     lot-at-requires
-    quotes-of-lots-requires
+    quotes-in-requires
     sub-write-answer
     part-write-answer-start
     part-write-answer-end

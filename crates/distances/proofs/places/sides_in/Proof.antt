@@ -7,11 +7,12 @@ use lib.Ieee.{Float}
 use mir.Syntax.{w64}
 use mir.Val.{Fits}
 use borrow.Author.Tests.{lt-ltb, le-ltb}
+use denote.Ref.{now}
 use Rattle.vector.specs.declared.ValueVector.{ValueVector}
-use Rattle.distances.specs.Distances.{distance, bidAt, askAt, exactAt}
+use Rattle.distances.specs.Distances.{lent, distance, bidAt, askAt, exactAt}
 use Rattle.distances.specs.declared.Distance.the-variants.{At, Absent}
-use Rattle.distances.proofs.places.sides_at.Statement.{statement}
-use Rattle.distances.proofs.places.sides_at.Tie as tie
+use Rattle.distances.proofs.places.sides_in.Statement.{statement}
+use Rattle.distances.proofs.places.sides_in.Tie as tie
 
 -- the places that are read lie within the arrays
 fits-8 : (i : ℕ) → i < 401 → Fits w64 (i * 8)
@@ -40,17 +41,17 @@ unfolding askAt
 no-ask v k base zero h = refl
 no-ask v k base (suc i) h = absurd (omega arith)
 
-mul-w : tie.Need-mul-w
-mul-w c = fits-8 _ (placed c)
+mul-v : tie.Need-mul-v
+mul-v c = fits-8 _ (placed c)
 
-element-copy-out-w : tie.Need-element-copy-out-w
-element-copy-out-w c = placed c
+element-copy-out-v : tie.Need-element-copy-out-v
+element-copy-out-v c = placed c
 
-mul-o : tie.Need-mul-o
-mul-o c = fits-8 _ (placed (c .before))
+mul-a : tie.Need-mul-a
+mul-a c = fits-8 _ (placed (c .before))
 
-element-copy-out-o : tie.Need-element-copy-out-o
-element-copy-out-o c = placed (c .before)
+element-copy-out-a : tie.Need-element-copy-out-a
+element-copy-out-a c = placed (c .before)
 
 add-up : tie.Need-add-up
 add-up c = fits-next _ (placed (c .before .before))
@@ -95,7 +96,7 @@ returns : tie.Need-returns
 unfolding exactAt bidAt distance
 returns c =
     let a = c .before .before .before .before .before .before .before .before .before .before .before .args in
-    rw (lt-ltb (suc (a .i)) (a .t1 .n) (omega (arith, c .before .before .before .before .before .before .before .before .if1 .taken)), ask-is (a .t1) (a .k) (a .base) (a .i) (c .before .before .before .before .if2 .taken), c .both .ensures, c .before .before .before .before .before .distance-between .ensures, c .before .distance-between2 .ensures, add-one)
+    rw (lt-ltb (suc (a .i)) (a .n) (omega (arith, c .before .before .before .before .before .before .before .before .if1 .taken)), ask-is (lent (a .n) (now (a .w)) (now (a .o))) (a .k) (a .base) (a .i) (c .before .before .before .before .if2 .taken), c .both .ensures, c .before .before .before .before .before .distance-between .ensures, c .before .distance-between2 .ensures, add-one)
 
 both-requires-2 : tie.Need-both-requires-2
 both-requires-2 c κs = tt
@@ -105,7 +106,7 @@ unfolding exactAt bidAt distance
 returns-2 c =
     let a = c .before .before .before .before .before .before .before .before .args in
     let z : a .i ≡ 0 = omega (arith, c .before .if2 .left) in
-    rw (lt-ltb (suc (a .i)) (a .t1 .n) (omega (arith, c .before .before .before .before .before .if1 .taken)), no-ask (a .t1) (a .k) (a .base) (a .i) z, c .both2 .ensures, c .before .before .distance-between .ensures, add-one)
+    rw (lt-ltb (suc (a .i)) (a .n) (omega (arith, c .before .before .before .before .before .if1 .taken)), no-ask (lent (a .n) (now (a .w)) (now (a .o))) (a .k) (a .base) (a .i) z, c .both2 .ensures, c .before .before .distance-between .ensures, add-one)
 
 sub-down-2 : tie.Need-sub-down-2
 sub-down-2 c = c .if3 .taken
@@ -132,7 +133,7 @@ returns-3 : tie.Need-returns-3
 unfolding exactAt bidAt distance
 returns-3 c =
     let a = c .before .before .before .before .before .before .before .before .args in
-    rw (le-ltb (suc (a .i)) (a .t1 .n) (omega (arith, c .before .before .before .before .before .if1 .left)), ask-is (a .t1) (a .k) (a .base) (a .i) (c .before .before .before .before .if3 .taken), c .both3 .ensures, c .before .distance-between3 .ensures)
+    rw (le-ltb (suc (a .i)) (a .n) (omega (arith, c .before .before .before .before .before .if1 .left)), ask-is (lent (a .n) (now (a .w)) (now (a .o))) (a .k) (a .base) (a .i) (c .before .before .before .before .if3 .taken), c .both3 .ensures, c .before .distance-between3 .ensures)
 
 both-requires-4 : tie.Need-both-requires-4
 both-requires-4 c κs = tt
@@ -142,16 +143,16 @@ unfolding exactAt bidAt
 returns-4 c =
     let a = c .before .before .before .before .before .args in
     let z : a .i ≡ 0 = omega (arith, c .before .if3 .left) in
-    rw (le-ltb (suc (a .i)) (a .t1 .n) (omega (arith, c .before .before .if1 .left)), no-ask (a .t1) (a .k) (a .base) (a .i) z, c .both4 .ensures)
+    rw (le-ltb (suc (a .i)) (a .n) (omega (arith, c .before .before .if1 .left)), no-ask (lent (a .n) (now (a .w)) (now (a .o))) (a .k) (a .base) (a .i) z, c .both4 .ensures)
 
-pub sides-at-spec : {M : Type 1} → statement M
-sides-at-spec =
+pub sides-in-spec : {M : Type 1} → statement M
+sides-in-spec =
     tie.close
     (tie.spec
-    mul-w
-    element-copy-out-w
-    mul-o
-    element-copy-out-o
+    mul-v
+    element-copy-out-v
+    mul-a
+    element-copy-out-a
     add-up
     mul-x
     element-copy-out-x
