@@ -5,21 +5,21 @@ use native.Mathlib.Nat.{le-refl, le-antisymm}
 use native.Mathlib.Numerals.{add-one}
 use native.Mathlib.Omega.{arith}
 use mathlib.Core.Logic.{_⊎_, inl, inr}
-use mathlib.Core.Bool.{Bool, true, false, not, _&&_, cond, and-assoc, and-true, true≢false, false≢true, Bool·not-not}
+use mathlib.Core.Bool.{Bool, true, false, not, _&&_, cond, and-assoc, and-comm, and-true, true≢false, false≢true, Bool·not-not}
 use borrow.Author.Tests.{ltb-true, ltb-false, le-ltb}
 use lib.IntN.{pos}
 use lib.Dec.{T, not-T, ltb}
-use lib.Ieee.{Float, nan, inf, fin, Format, binary64, up, down, below, lt, le, fits, isNan}
+use lib.Ieee.{Float, nan, inf, fin, Format, binary64, up, down, below, lt, le, fits, isNan, ofBits}
 use lib.Ieee.Fits.{down-pos}
-use lib.Ieee.Bits.{is-false, ofBits-fits}
+use lib.Ieee.Bits.{is-true, is-false, ofBits-fits}
 use lib.Ieee.Positive.{through}
-use Rattle.elementary.specs.Float.{0ᶠ}
+use Rattle.elementary.specs.Float.{0ᶠ, finite, positive}
 use Rattle.elementary.proofs.Signs.{nonneg}
-use Rattle.elementary.proofs.Order.{le-trans-f, not-lt→le, lt→le, lt→not-ge}
+use Rattle.elementary.proofs.Order.{le-trans-f, not-lt→le, lt→le, lt→not-ge, finite-below}
 use Rattle.elementary.proofs.Exact.{value-unique, zero-is}
 use Rattle.vector.specs.Vectors.{from, tab, everyFrom, every, fold, larger, smaller}
 use Rattle.vector.proofs.Loops.{fold-zero, fold-suc, larger-left}
-use Rattle.vector.proofs.Lists.{Opposite, every-mirror, fold-mirror}
+use Rattle.vector.proofs.Lists.{Opposite, every-each, every-of, same-truth, every-both, every-mirror, fold-mirror}
 
 -- ---- `not below` goes from one value to the next, and to a third, where the middle one is no NaN
 -- for ±a / p, ±b / q and ±c / r
@@ -233,6 +233,33 @@ module _ (f : ℕ → Float) (v : (i : ℕ) → T (fits binary64 (f i))) where
       go true false e k r = let x : j ≡ n = omega (arith, ltb-false j n k) in rw x (itself (f n) (lt (f n) (f n)) refl)
       go false true e k r = r (ltb-true j n k)
       go false false e k r = let x : j ≡ n = omega (arith, ltb-false j n k) in rw x e
+
+  -- entries above zero are finite where the largest is
+  zero-is-finite : finite 0ᶠ ≡ true
+  unfolding finite ofBits
+  zero-is-finite = refl
+
+  largest-finite : (n : ℕ) → ((j : ℕ) → j < n → finite (f j) ≡ true) → finite (fold larger 0ᶠ (tab n f)) ≡ true
+  unfolding larger
+  largest-finite zero h = subst (λ (x : Float). finite x ≡ true) (fold-zero larger 0ᶠ f) zero-is-finite
+  largest-finite (suc n) h = subst (λ (x : Float). finite x ≡ true) (one-more n) (go (lt (fold larger 0ᶠ (tab n f)) (f n)) (h n (omega arith)) (largest-finite n (λ j k. h j (omega arith))))
+    where
+      go : (b : Bool) → finite (f n) ≡ true → finite (fold larger 0ᶠ (tab n f)) ≡ true → finite (cond b (f n) (fold larger 0ᶠ (tab n f))) ≡ true
+      go true x m = x
+      go false x m = m
+
+  each-finite : (n : ℕ) → every n (λ i. lt 0ᶠ (f i)) ≡ true → finite (fold larger 0ᶠ (tab n f)) ≡ true → (j : ℕ) → j < n → finite (f j) ≡ true
+  each-finite n a m j h =
+      let p = upper-nonneg 0ᶠ (f j) (zero-gathered .0) (every-each n _ a j h) in
+      is-true (finite (f j)) (finite-below (f j) (fold larger 0ᶠ (tab n f)) p (not-lt→le (fold larger 0ᶠ (tab n f)) (f j) (largest-gathered n .0) p (largest-above n j h)) (rw m tt))
+
+  pub positive-all : (n : ℕ) → (every n (λ i. lt 0ᶠ (f i)) && finite (fold larger 0ᶠ (tab n f))) ≡ every n (λ i. positive (f i))
+  unfolding positive
+  positive-all n = go (every n (λ i. lt 0ᶠ (f i))) refl ∙ sym (every-both n (λ i. finite (f i)) (λ i. lt 0ᶠ (f i)) ∙ and-comm (every n (λ i. finite (f i))) (every n (λ i. lt 0ᶠ (f i))))
+    where
+      go : (a : Bool) → every n (λ i. lt 0ᶠ (f i)) ≡ a → (a && finite (fold larger 0ᶠ (tab n f))) ≡ (a && every n (λ i. finite (f i)))
+      go false e = refl
+      go true e = same-truth _ _ (λ m. every-of n _ (each-finite n e m)) (λ m. largest-finite n (every-each n _ m))
 
 -- ---- from either end
 pub largest-mirror : (n : ℕ) (f g : ℕ → Float) → ((i : ℕ) → T (fits binary64 (f i))) → Opposite n f g

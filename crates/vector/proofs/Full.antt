@@ -10,7 +10,6 @@ use borrow.Author.Tests.{lt-ltb, le-ltb, ltb-true, ltb-false}
 use lib.IntN.{pos}
 use lib.Dec.{T, ltb, leb}
 use lib.ListN.{length, List·getD-eq-default}
-use lib.Seq.{ext-getD}
 use lib.Ieee.{Float, nan, inf, binary64, lt, fits}
 use lib.Ieee.Fits.{nan-fits, add-fits}
 use Rattle.elementary.specs.Float.{_⊕_, _⊖_, _⊗_, _⊘_, whole, 0ᶠ, 1ᶠ, finite}
@@ -22,15 +21,11 @@ use Rattle.vector.specs.Run.{rows, floor, magnitudes, norm, fixedOver, d
 use Rattle.vector.specs.Promises.{Mirror}
 use Rattle.vector.specs.Inner.{Fit, Made}
 use Rattle.vector.specs.Half.{mirrored, fullSize, fullFactors, full, fullOperator, fullFixed, past, rightBy, Centred}
-use Rattle.vector.proofs.Lists.{Opposite, length-tab, at-tab, tab-ext, every-ext}
+use Rattle.vector.proofs.Lists.{Opposite, length-tab, at-tab, tab-ext, tab-own, every-ext}
 use Rattle.vector.proofs.Loops.{before-later, after-within, after-last, fill-tab}
 use Rattle.vector.proofs.Terms.{row-is, made, made-first, fit-tab}
 use Rattle.vector.proofs.Mirror.{row-alike, factors-opposite}
 use Rattle.vector.proofs.Half.{at-near, at-far, mirrored-turned, mirrored-tab, every-half, largest-half, smallest-half}
-
--- a list is its entries
-tab-own : (n : ℕ) (l : List Float) → length l ≡ n → l ≡ tab n (at l)
-tab-own n l e = ext-getD nan l (tab n (at l)) (e ∙ sym (length-tab n (at l))) (λ i h. sym (at-tab n (at l) i (rw e at h)))
 
 -- ---- the entries
 pub at-full : (h : Bool) (n : ℕ) (l r : List Float) (i : ℕ) → i < n → at (fullFactors h n l r) i ≡ at l i

@@ -81,12 +81,14 @@ module _ (h : Bool) (n : ℕ) (some : 1 ≤ n) (a : Pace) (v o : List Float) (r 
     ap (full h n) (x .2) ∙ full-with h n some (λ y z. y ⊕ orNan (LN z)) o (divided n v) ∙ ap (λ (l : List Float). tab (fullSize h n) (λ i. at (full h n o) i ⊕ orNan (LN (at l i)))) divided-rows,
   )
 
-  pub after-full : (good : Bool) → AfterIs good n a (divided n v) o r w′ o′ → AfterIs good (fullSize h n) a (divided (fullSize h n) (full h n v)) (full h n o) r (full h n w′) (full h n o′)
-  after-full good x =
+  -- whether the step has settled, each entry of its sum being positive besides
+  pub after-full : (t : Bool) → AfterIs (t && every n (λ i. positive (at v i))) n a (divided n v) o r w′ o′
+      → AfterIs (t && every (fullSize h n) (λ i. positive (at (full h n v) i))) (fullSize h n) a (divided (fullSize h n) (full h n v)) (full h n o) r (full h n w′) (full h n o′)
+  after-full t x =
+      let good = ap (λ (b : Bool). t && b) (every-with h n some (λ y z. positive y) v v) in
       let low = rebalances-full h n some (divided n v) long-divided (a .steps - 1) ∙ ap (λ (l : List Float). rebalances (fold smaller (inf false) l) (a .steps - 1)) divided-rows in
       let all = every-with h n some (λ y z. positive y) (divided n v) (divided n v) ∙ ap (λ (l : List Float). every (fullSize h n) (λ i. positive (at l i))) divided-rows in
-      subst (λ (e : Bool). AfterBy good (rebalances (fold smaller (inf false) (divided (fullSize h n) (full h n v))) (a .steps - 1)) e (fullSize h n) a (divided (fullSize h n) (full h n v)) (full h n o) r (full h n w′) (full h n o′)) all
-      (subst (λ (c : Bool). AfterBy good c (every n (λ i. positive (at (divided n v) i))) (fullSize h n) a (divided (fullSize h n) (full h n v)) (full h n o) r (full h n w′) (full h n o′)) low (after-by good _ _ x))
+      rw (← good, ← low, ← all) (after-by _ _ _ x)
 
 -- ---- the whole run by its first n rows
 module _ (h : Bool) (n bound : ℕ) (alpha beta eta tau : Float) (some : 1 ≤ n) (stand : RowsStand h n bound alpha beta eta) (later : lt 0ᶠ tau ≡ true) where

@@ -17,7 +17,7 @@ use Rattle.vector.specs.Run.{rows}
 use Rattle.vector.specs.Promises.{Mirror}
 use Rattle.vector.specs.Inner.{Made}
 use Rattle.vector.specs.Half.{mirrored, fullSize, fullFactors, full, fullOperator, past, Centred}
-use Rattle.vector.proofs.Lists.{Opposite, length-tab, at-tab, tab-ext, every-ext, every-last, every-true}
+use Rattle.vector.proofs.Lists.{Opposite, at-tab, tab-ext, every-each, every-of, same-truth}
 use Rattle.vector.proofs.Loops.{fold-suc, larger-left, after-within, after-last}
 use Rattle.vector.proofs.Extremes.{largest-above, smallest-floor}
 use Rattle.vector.proofs.Terms.{row-is, made}
@@ -61,26 +61,7 @@ mirrored-tab b f g F G m ef eg = tab-ext (rows b) _ F (λ i h. go i h (leb i b) 
     go i h true e = let k = leb-true i b e in at-tab (suc b) f i (omega arith) ∙ ef i k
     go i h false e = let k = leb-false i b e in at-tab (suc b) g (2 * b - i) (omega arith) ∙ eg (2 * b - i) (omega arith) ∙ m (2 * b - i) i (omega arith)
 
--- ---- a test of every entry
-every-each : (n : ℕ) (p : ℕ → Bool) → every n p ≡ true → (i : ℕ) → i < n → p i ≡ true
-every-each zero p e i h = absurd (omega arith)
-every-each (suc n) p e i h = go (every n p) (p n) (ltb i n) refl refl refl (sym (every-last n p) ∙ e) (λ es k. every-each n p es i k)
-  where
-    go : (s t u : Bool) → every n p ≡ s → p n ≡ t → ltb i n ≡ u → (s && t) ≡ true → (every n p ≡ true → i < n → p i ≡ true) → p i ≡ true
-    go true true true es et eu f r = r es (ltb-true i n eu)
-    go true true false es et eu f r = let x : i ≡ n = omega (arith, ltb-false i n eu) in ap p x ∙ et
-    go true false u es et eu f r = absurd (true≢false (sym f))
-    go false t u es et eu f r = absurd (true≢false (sym f))
-
-every-of : (n : ℕ) (p : ℕ → Bool) → ((i : ℕ) → i < n → p i ≡ true) → every n p ≡ true
-every-of n p h = every-ext n p (λ i. true) h ∙ every-true n
-
-same-truth : (a b : Bool) → (a ≡ true → b ≡ true) → (b ≡ true → a ≡ true) → a ≡ b
-same-truth true b f g = sym (f refl)
-same-truth false true f g = absurd (true≢false (sym (g refl)))
-same-truth false false f g = refl
-
--- the opposite of a row past the centre stands before it
+-- ---- a test of every entry: the opposite of a row past the centre stands before it
 pub every-half : (b : ℕ) (p : ℕ → Bool) → Opposite (rows b) p p → every (suc b) p ≡ every (rows b) p
 every-half b p m = same-truth (every (suc b) p) (every (rows b) p)
     (λ e. every-of (rows b) p (λ i h. go e i h (ltb i (suc b)) refl)) (λ e. every-of (suc b) p (λ i h. every-each (rows b) p e i (omega arith)))

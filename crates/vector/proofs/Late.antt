@@ -16,7 +16,6 @@ use Rattle.vector.specs.Vectors.{at, every}
 use Rattle.vector.specs.Series.{Operator, term, plus, bothFinite, converged, summing, summed, judge, nextTerm, series, taylorStep}
 use Rattle.vector.specs.Late.{late, lateTerm, lateSeries, AskedOnce}
 use Rattle.vector.specs.Inner.{Made, StepIs}
-use Rattle.vector.specs.Half.{fullSize, full, fullOperator}
 use Rattle.vector.proofs.Lists.{at-tab, every-ext, every-both}
 use Rattle.vector.proofs.Terms.{finite-term, at-end}
 
@@ -91,12 +90,12 @@ module _ (p : Operator) (eta : Float) where
       rw (m .settled, m .sum-is, m .term-is, add-one j) (rw (e, u, add-one j) at i)
 
   -- after the first
-  pub first-made : (v t s : List Float) (c : Bool) → Made p eta 1 v v t s c → lateSeries 99 p eta 2 (late c (p .n) t s) ≡ taylorStep p eta v
+  first-made : (v t s : List Float) (c : Bool) → Made p eta 1 v v t s c → lateSeries 99 p eta 2 (late c (p .n) t s) ≡ taylorStep p eta v
   unfolding taylorStep late
   first-made v t s c m = one-more 1 false v v t s c (taylorStep p eta v) (omega arith) refl m (asked-once p eta v)
 
   -- converged
-  pub settled : (k j : ℕ) (b c : Bool) (t s : List Float) (r : Reply (List Float)) → c ≡ true → b ≡ every (p .n) (λ i. positive (at s i)) → lateSeries k p eta j (late c (p .n) t s) ≡ r → StepIs b s r
+  settled : (k j : ℕ) (b c : Bool) (t s : List Float) (r : Reply (List Float)) → c ≡ true → b ≡ every (p .n) (λ i. positive (at s i)) → lateSeries k p eta j (late c (p .n) t s) ≡ r → StepIs b s r
   unfolding late StepIs given
   settled k j b c t s r e g h = rw (← (rw e at h), late-end, ← g) (go b)
     where
@@ -105,16 +104,9 @@ module _ (p : Operator) (eta : Float) where
       go false = refl
 
   -- no term is left
-  pub spent : (j : ℕ) (c : Bool) (t s l : List Float) (r : Reply (List Float)) → 100 < j → c ≡ false → lateSeries (101 - j) p eta j (late c (p .n) t s) ≡ r → StepIs false l r
+  spent : (j : ℕ) (c : Bool) (t s l : List Float) (r : Reply (List Float)) → 100 < j → c ≡ false → lateSeries (101 - j) p eta j (late c (p .n) t s) ≡ r → StepIs false l r
   unfolding lateSeries late StepIs
   spent j c t s l r h e i = let z : 101 - j ≡ 0 = omega arith in rw (← (rw (z, e) at i)) refl
-
--- the same where the slices' length is written in another way
-pub from-first : (h : Bool) (n m : ℕ) (diag left right : List Float) (eta : Float) (v t s : List Float) (c : Bool) (k j : ℕ) (c′ : Bool) (t′ s′ : List Float) → m ≡ n
-    → Made (fullOperator h n diag left right) eta 1 (full h n v) (full h n v) (full h n t) (full h n s) c
-    → lateSeries k (fullOperator h m diag left right) eta j (late c′ (fullSize h m) (full h m t′) (full h m s′)) ≡ lateSeries 99 (fullOperator h m diag left right) eta 2 (late c (fullSize h m) (full h m t) (full h m s))
-    → lateSeries k (fullOperator h n diag left right) eta j (late c′ (fullSize h n) (full h n t′) (full h n s′)) ≡ taylorStep (fullOperator h n diag left right) eta (full h n v)
-from-first h n m diag left right eta v t s c k j c′ t′ s′ e f g = rw e at g ∙ first-made (fullOperator h n diag left right) eta (full h n v) (full h n t) (full h n s) c f
 
 -- ---- the loop's test
 pub goes-on : (j : ℕ) (c : Bool) → (leb j 100 && not c) ≡ true → (j ≤ 100) × (c ≡ false)
@@ -125,7 +117,7 @@ goes-on j c e = go (leb j 100) c refl e
     go true false h e = (leb-true j 100 h, refl)
     go false c h e = absurd (false≢true e)
 
-pub is-over : (j : ℕ) (c : Bool) → (leb j 100 && not c) ≡ false → c ≡ false → 100 < j
+is-over : (j : ℕ) (c : Bool) → (leb j 100 && not c) ≡ false → c ≡ false → 100 < j
 is-over j c e f = go (leb j 100) refl (rw f at e)
   where
     go : (a : Bool) → leb j 100 ≡ a → (a && true) ≡ false → 100 < j

@@ -3,10 +3,13 @@ use mathlib.Core.Path.{_≡_, refl, sym, ap, ap₂, _∙_}
 use Prim.Native.Nat.{ℕ, zero, suc, _+_, _<_}
 use native.Mathlib.Nat.{add-zero, zero-add}
 use native.Mathlib.Omega.{arith}
-use mathlib.Core.Bool.{Bool, true, false, _&&_, and-assoc, and-comm}
+use mathlib.Core.Bool.{Bool, true, false, _&&_, and-assoc, and-comm, true≢false}
 use mathlib.Core.List.{List, _∷_}
+use borrow.Author.Tests.{ltb-true, ltb-false}
+use lib.Dec.{ltb}
 use lib.ListN.{length}
-use lib.Ieee.{Float}
+use lib.Seq.{ext-getD}
+use lib.Ieee.{Float, nan}
 use Rattle.vector.specs.Vectors.{from, tab, at, everyFrom, every, fold}
 
 -- i and j are opposite places among n
@@ -38,6 +41,10 @@ tab-ext (suc n) f g h =
     ap₂ {B = List Float} (λ x l. x ∷ l) (h 0 (omega arith))
     (from-up 0 n f ∙ tab-ext n (λ j. f (suc j)) (λ j. g (suc j)) (λ j k. h (suc j) (omega arith)) ∙ sym (from-up 0 n g))
 
+-- a list is its entries
+pub tab-own : (n : ℕ) (l : List Float) → length l ≡ n → l ≡ tab n (at l)
+tab-own n l e = ext-getD nan l (tab n (at l)) (e ∙ sym (length-tab n (at l))) (λ i h. sym (at-tab n (at l) i (rw e at h)))
+
 -- ---- a test of every entry
 every-up : (i n : ℕ) (p : ℕ → Bool) → everyFrom (suc i) n p ≡ everyFrom i n (λ j. p (suc j))
 unfolding everyFrom
@@ -66,6 +73,25 @@ every-true n = go 0 n
     go : (i n : ℕ) → everyFrom i n (λ j. true) ≡ true
     go i zero = refl
     go i (suc n) = go (suc i) n
+
+-- a test that holds of every entry holds of each, and the other way
+pub every-each : (n : ℕ) (p : ℕ → Bool) → every n p ≡ true → (i : ℕ) → i < n → p i ≡ true
+every-each zero p e i h = absurd (omega arith)
+every-each (suc n) p e i h = go (every n p) (p n) (ltb i n) refl refl refl (sym (every-last n p) ∙ e) (λ es k. every-each n p es i k)
+  where
+    go : (s t u : Bool) → every n p ≡ s → p n ≡ t → ltb i n ≡ u → (s && t) ≡ true → (every n p ≡ true → i < n → p i ≡ true) → p i ≡ true
+    go true true true es et eu f r = r es (ltb-true i n eu)
+    go true true false es et eu f r = let x : i ≡ n = omega (arith, ltb-false i n eu) in ap p x ∙ et
+    go true false u es et eu f r = absurd (true≢false (sym f))
+    go false t u es et eu f r = absurd (true≢false (sym f))
+
+pub every-of : (n : ℕ) (p : ℕ → Bool) → ((i : ℕ) → i < n → p i ≡ true) → every n p ≡ true
+every-of n p h = every-ext n p (λ i. true) h ∙ every-true n
+
+pub same-truth : (a b : Bool) → (a ≡ true → b ≡ true) → (b ≡ true → a ≡ true) → a ≡ b
+same-truth true b f g = sym (f refl)
+same-truth false true f g = absurd (true≢false (sym (g refl)))
+same-truth false false f g = refl
 
 -- two tests of every entry
 pub every-both : (n : ℕ) (p q : ℕ → Bool) → every n (λ j. p j && q j) ≡ (every n p && every n q)

@@ -17,7 +17,7 @@ use Rattle.vector.specs.Pairs.{pairOf, allOf, operatorOf, Added}
 use Rattle.vector.specs.declared.pair.Pair.{Pair}
 use Rattle.vector.specs.declared.pair.TwoRows.{TwoRows}
 use Rattle.vector.specs.declared.pair.Partial.{Partial}
-use Rattle.vector.proofs.Full.{every-with, made-full, made-first-full}
+use Rattle.vector.proofs.Full.{made-full, made-first-full}
 
 -- ---- lists of two entries
 pub two-entries : (l : List Float) → length l ≡ 2 → at l 0 ∷ at l 1 ∷ [] ≡ l
@@ -59,9 +59,6 @@ unfolding from fullFactors mirrored
 fit-pair x f zero = f 0
 fit-pair x f (suc zero) = f 1
 fit-pair x f (suc (suc i)) = nan-fits binary64
-
-pub every-pair : (q : Float → Bool) (x : Pair) (a b : Bool) → a ≡ q (x .end) → b ≡ q (x .centre) → (a && b) ≡ every (fullSize true 2) (λ i. q (at (allOf x) i))
-every-pair q x a b e f = ap₂ _&&_ e f ∙ every-two (λ i. q (at (pairOf x) i)) ∙ every-with true 2 (omega arith) (λ y z. q y) (pairOf x) (pairOf x)
 
 -- ---- a term by its rows, and the sum with it
 module _ (p : TwoRows) (s t : Pair) (r : Partial) (a : Added t s r) where

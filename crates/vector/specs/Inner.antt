@@ -1,7 +1,7 @@
 -- What the crate's own functions hand each other. No public contract cites this file. Definitions only.
 use mathlib.Core.Path.{_≡_}
 use Prim.Native.Nat.{ℕ, zero, suc, _+_, _-_, _≤_, _<_}
-use mathlib.Core.Bool.{Bool, true, false}
+use mathlib.Core.Bool.{Bool, true, false, _&&_}
 use mathlib.Core.List.{List}
 use lib.IntN.{pos}
 use lib.ListN.{length}
@@ -58,6 +58,10 @@ pub record Sizes (n : ℕ) (diag left right term : List Float) : Type 0 where
 unfoldable pub StepIs : Bool → List Float → Reply (List Float) → Type 0
 StepIs r l (value s) = (r ≡ true) × (l ≡ s)
 StepIs r l (refusal k) = r ≡ false
+
+-- a series over n rows: whether it has converged, and its sum, each entry of which is still to be asked whether it is positive
+abbrev pub SumIs : ℕ → Bool → List Float → Reply (List Float) → Type 0
+SumIs n r l x = StepIs (r && every n (λ i. positive (at l i))) l x
 
 -- ---- a plan: is time × norm finite and positive, does it keep the budget
 unfoldable pub planBy : Bool → Bool → Float → Float → Planned

@@ -7,8 +7,8 @@ ghost use mathlib.Core.Bool.{true};
 ghost use Rattle.elementary.specs.Float.{_⊗_};
 ghost use Rattle.vector.specs.Vectors.{tab};
 ghost use Rattle.vector.specs.Series.{rowAt, taylorStep};
-ghost use Rattle.vector.specs.Inner.{Made, Fit, StepIs};
-ghost use Rattle.vector.specs.Half.{full, fullOperator, Centred};
+ghost use Rattle.vector.specs.Inner.{Made, Fit, SumIs};
+ghost use Rattle.vector.specs.Half.{fullSize, full, fullOperator, Centred};
 ghost use Rattle.vector.specs.Pairs.{pairOf, allOf, operatorOf, Added};
 use crate::series::MAX_TAYLOR_ORDER;
 
@@ -32,12 +32,6 @@ struct Partial {
     term: Pair,
     sum: Pair,
     settled: bool,
-}
-
-// A series at its end: its sum, and whether it has converged to a positive one.
-struct Summed {
-    sum: Pair,
-    good: bool,
 }
 
 fn pair_of(s: &[f64]) -> Pair
@@ -108,9 +102,9 @@ fn next_pair(op: TwoRows, s: Partial, order: u32) -> Partial
     with_term(term, s.sum)
 }
 
-// The series from v. That the sums are finite and positive is asked once, after the last term.
-fn sum_series(op: TwoRows, v: Pair) -> Summed
-    ensures { λ r. ⌜ StepIs (r .good) (allOf (r .sum)) (taylorStep (operatorOf op) (op .«eta_dt») (allOf v)) ⌝ }
+// The series from v, at its end.
+fn sum_series(op: TwoRows, v: Pair) -> Partial
+    ensures { λ r. ⌜ SumIs (operatorOf op .n) (r .settled) (allOf (r .sum)) (taylorStep (operatorOf op) (op .«eta_dt») (allOf v)) ⌝ }
     ensures { λ r. ⌜ Fit (pairOf (r .sum)) ⌝ }
 {
     let mut s = first_pair(op, v);
@@ -119,13 +113,7 @@ fn sum_series(op: TwoRows, v: Pair) -> Summed
         s = next_pair(op, s, order);
         order += 1;
     }
-    let sum = s.sum;
-    let positive = elementary::is_positive_finite(sum.end)
-        & elementary::is_positive_finite(sum.centre);
-    Summed {
-        sum,
-        good: s.settled & positive,
-    }
+    s
 }
 
 // One Taylor step of v, as `series::taylor_step` makes it where `half` is true.
@@ -137,7 +125,7 @@ pub(crate) fn taylor_pair(
     right: &[f64],
 ) -> bool
     requires { ⌜ (length (now v) ≡ 2) × (length (now diag) ≡ 2) × (length (now left) ≡ 2) × (length (now right) ≡ 2) × Centred true 2 (now left) (now right) ⌝ }
-    ensures { λ r. ⌜ StepIs r (full true 2 (now (v .exit))) (taylorStep (fullOperator true 2 (now (diag .entry)) (now (left .entry)) (now (right .entry))) «eta_dt» (full true 2 (now (v .entry)))) ⌝ }
+    ensures { λ r. ⌜ SumIs (fullSize true 2) r (full true 2 (now (v .exit))) (taylorStep (fullOperator true 2 (now (diag .entry)) (now (left .entry)) (now (right .entry))) «eta_dt» (full true 2 (now (v .entry)))) ⌝ }
     ensures { λ _. ⌜ Fit (now (v .exit)) ⌝ }
 {
     let op = TwoRows {
@@ -152,5 +140,5 @@ pub(crate) fn taylor_pair(
     let s = sum_series(op, pair_of(v));
     v[0] = s.sum.end;
     v[1] = s.sum.centre;
-    s.good
+    s.settled
 }

@@ -5,8 +5,8 @@ ghost use mathlib.Core.Path.{_≡_};
 ghost use Prim.Native.Nat.{_+_, _-_, _≤_};
 ghost use lib.ListN.{length};
 ghost use lib.Ieee.{inf, lt};
-ghost use mathlib.Core.Bool.{true, false, not};
-ghost use Rattle.elementary.specs.Float.{_⊕_, _⊗_, _⊘_, 0ᶠ, 1ᶠ, positive};
+ghost use mathlib.Core.Bool.{true, false, not, _&&_};
+ghost use Rattle.elementary.specs.Float.{_⊕_, _⊗_, _⊘_, 0ᶠ, 1ᶠ, finite, positive};
 ghost use Rattle.elementary.specs.Elementary.{LN, orNan};
 ghost use Rattle.vector.specs.Vectors.{tab, at, fill, every, fold, larger, smaller};
 ghost use Rattle.vector.specs.Run.{boundOk, rows, cap, run, runOn, begin, divided, rebalances};
@@ -102,24 +102,49 @@ fn end_of(pace: Pace) -> Outcome
     stop
 }
 
-// The largest weight, from 0.0, by the even and the odd places apart: neither waits for the other.
-fn largest(w: &[f64]) -> f64
+// The largest weight, from 0.0, and whether every weight is finite and positive.
+struct Top {
+    weight: f64,
+    positive: bool,
+}
+
+fn top_of(weight: f64, above: bool) -> Top
+    ensures { λ r. ⌜ (r .weight ≡ weight) × (r .positive ≡ (above && finite weight)) ⌝ }
+{
+    Top {
+        weight,
+        positive: above & elementary::is_finite(weight),
+    }
+}
+
+// Both in one pass, by the even and the odd places apart: neither waits for the other. Weights above
+// zero are finite where the largest is.
+fn largest(w: &[f64]) -> Top
     requires { ⌜ Fit (now w) ⌝ }
-    ensures { λ r. ⌜ r ≡ fold larger 0ᶠ (now (w .entry)) ⌝ }
+    ensures { λ r. ⌜ r .weight ≡ fold larger 0ᶠ (now (w .entry)) ⌝ }
+    ensures { λ r. ⌜ r .positive ≡ every (length (now (w .entry))) (λ i. positive (at (now (w .entry)) i)) ⌝ }
 {
     let mut even = 0.0;
     let mut odd = 0.0;
+    let mut first = true;
+    let mut second = true;
     let mut i: usize = 0;
     while i + 1 < w.len() {
-        even = crate::reals::larger_of(even, w[i]);
-        odd = crate::reals::larger_of(odd, w[i + 1]);
+        let x = w[i];
+        let y = w[i + 1];
+        even = crate::reals::larger_of(even, x);
+        odd = crate::reals::larger_of(odd, y);
+        first = first & (0.0 < x);
+        second = second & (0.0 < y);
         i += 2;
     }
     let both = crate::reals::larger_of(even, odd);
+    let all = first & second;
     if i < w.len() {
-        return crate::reals::larger_of(both, w[i]);
+        let x = w[i];
+        return top_of(crate::reals::larger_of(both, x), all & (0.0 < x));
     }
-    both
+    top_of(both, all)
 }
 
 // Divides each weight by max. False where one of them then calls for rebalancing.
@@ -157,19 +182,20 @@ fn rebalance(w: &mut [f64], o: &mut [f64]) -> bool
     all
 }
 
-// After a Taylor step, good or not: the next of the plan, or a plan to ask for, or the end.
-fn after_step(w: &mut [f64], o: &mut [f64], pace: Pace, good: bool) -> Pace
+// After a Taylor step that has settled or not: the next of the plan, or a plan to ask for, or the end.
+fn after_step(w: &mut [f64], o: &mut [f64], pace: Pace, settled: bool) -> Pace
     requires { ⌜ Fit (now w) × (length (now o) ≡ length (now w)) × (1 ≤ pace .steps) × (1 ≤ pace .budget) × (pace .budget ≤ cap) ⌝ }
-    ensures { λ r. ⌜ AfterIs good (length (now (w .entry))) pace (divided (length (now (w .entry))) (now (w .entry))) (now (o .entry)) r (now (w .exit)) (now (o .exit)) ⌝ }
+    ensures { λ r. ⌜ AfterIs (settled && every (length (now (w .entry))) (λ i. positive (at (now (w .entry)) i))) (length (now (w .entry))) pace (divided (length (now (w .entry))) (now (w .entry))) (now (o .entry)) r (now (w .exit)) (now (o .exit)) ⌝ }
 {
+    let top = largest(w);
+    let good = settled & top.positive;
     if !good {
         return refused();
     }
-    let max = largest(w);
     let steps = pace.steps - 1;
     let budget = pace.budget - 1;
     let remaining = pace.remaining - pace.dt;
-    if divide(w, max, steps) {
+    if divide(w, top.weight, steps) {
         return paced(steps, budget, remaining, pace.dt);
     }
     if rebalance(w, o) {
@@ -233,8 +259,8 @@ fn plan_steps(
     let mut pace = first;
     while (0 < pace.steps) & (0 < pace.budget) {
         let eta_dt = eta * pace.dt;
-        let good = crate::series::taylor_step(w, diag, eta_dt, left, right, half, plain, term);
-        pace = after_step(w, o, pace, good);
+        let settled = crate::series::taylor_step(w, diag, eta_dt, left, right, half, plain, term);
+        pace = after_step(w, o, pace, settled);
     }
     pace
 }

@@ -4,11 +4,10 @@ ghost use mathlib.Core.Path.{_≡_};
 ghost use Prim.Native.Nat.{_≤_};
 ghost use mathlib.Core.Bool.{true};
 ghost use lib.ListN.{length};
-ghost use Rattle.elementary.specs.Float.{positive};
-ghost use Rattle.vector.specs.Vectors.{at, every};
+ghost use Rattle.vector.specs.Vectors.{at};
 ghost use Rattle.vector.specs.Series.{small, converged, taylorStep};
-ghost use Rattle.vector.specs.Inner.{Made, Sizes, Fit, Ones, StepIs};
-ghost use Rattle.vector.specs.Half.{full, fullOperator, Centred};
+ghost use Rattle.vector.specs.Inner.{Made, Sizes, Fit, Ones, SumIs};
+ghost use Rattle.vector.specs.Half.{fullSize, full, fullOperator, Centred};
 
 const TAYLOR_TOL: f64 = 1e-16;
 
@@ -121,20 +120,6 @@ fn next_term(
     has_converged(x, v)
 }
 
-// Whether every entry is finite and above zero. A sum that is not finite never becomes so again, so
-// this one test after the last term finds it too.
-fn all_positive(v: &[f64]) -> bool
-    ensures { λ r. ⌜ r ≡ every (length (now (v .entry))) (λ i. positive (at (now (v .entry)) i)) ⌝ }
-{
-    let mut all = true;
-    let mut i: usize = 0;
-    while i < v.len() {
-        all = all & elementary::is_positive_finite(v[i]);
-        i += 1;
-    }
-    all
-}
-
 // The work of `taylor_step` over slices. Nothing is copied: term 1 comes from v itself, and each later
 // one takes the place of the one before it in `term`.
 fn taylor_rows(
@@ -149,7 +134,8 @@ fn taylor_rows(
 ) -> bool
     requires { ⌜ (2 ≤ length (now v)) × (plain ≡ true → Ones (length (now v)) (now left) (now right)) × Centred half (length (now v)) (now left) (now right) ⌝ }
     requires { ⌜ Sizes (length (now v)) (now diag) (now left) (now right) (now term) ⌝ }
-    ensures { λ r. ⌜ StepIs r (full half (length (now (v .entry))) (now (v .exit))) (taylorStep (fullOperator half (length (now (v .entry))) (now (diag .entry)) (now (left .entry)) (now (right .entry))) «eta_dt» (full half (length (now (v .entry))) (now (v .entry)))) ⌝ }
+    ensures { λ r. ⌜ SumIs (fullSize half (length (now (v .entry)))) r (full half (length (now (v .entry))) (now (v .exit)))
+        (taylorStep (fullOperator half (length (now (v .entry))) (now (diag .entry)) (now (left .entry)) (now (right .entry))) «eta_dt» (full half (length (now (v .entry))) (now (v .entry)))) ⌝ }
     ensures { λ _. ⌜ Fit (now (v .exit)) ⌝ }
 {
     let mut settled = first_term(v, diag, eta_dt, left, right, half, term);
@@ -158,15 +144,13 @@ fn taylor_rows(
         settled = next_term(term, diag, eta_dt, left, right, half, plain, order, v);
         order += 1;
     }
-    if settled {
-        return all_positive(v);
-    }
-    false
+    settled
 }
 
-// One Taylor step of v. False where a term or a sum is not finite, 100 terms do not converge, or an
-// entry is not positive; what v holds then is of no use. `plain` says that every inner row's factors
-// are 1.0. Two rows are taken into locals.
+// One Taylor step of v: whether it has converged within 100 terms. The step is good where every sum is
+// finite and positive besides, which the caller asks: a sum that is not finite never becomes so again,
+// so that one test after the last term finds it. Else what v holds is of no use. `plain` says that every
+// inner row's factors are 1.0. Two rows are taken into locals.
 pub(crate) fn taylor_step(
     v: &mut [f64],
     diag: &[f64],
@@ -179,7 +163,8 @@ pub(crate) fn taylor_step(
 ) -> bool
     requires { ⌜ (2 ≤ length (now v)) × (plain ≡ true → Ones (length (now v)) (now left) (now right)) × Centred half (length (now v)) (now left) (now right) ⌝ }
     requires { ⌜ Sizes (length (now v)) (now diag) (now left) (now right) (now term) ⌝ }
-    ensures { λ r. ⌜ StepIs r (full half (length (now (v .entry))) (now (v .exit))) (taylorStep (fullOperator half (length (now (v .entry))) (now (diag .entry)) (now (left .entry)) (now (right .entry))) «eta_dt» (full half (length (now (v .entry))) (now (v .entry)))) ⌝ }
+    ensures { λ r. ⌜ SumIs (fullSize half (length (now (v .entry)))) r (full half (length (now (v .entry))) (now (v .exit)))
+        (taylorStep (fullOperator half (length (now (v .entry))) (now (diag .entry)) (now (left .entry)) (now (right .entry))) «eta_dt» (full half (length (now (v .entry))) (now (v .entry)))) ⌝ }
     ensures { λ _. ⌜ Fit (now (v .exit)) ⌝ }
 {
     if half {

@@ -2,13 +2,12 @@
 use mathlib.Core.Path.{_≡_, refl}
 use Prim.Native.Nat.{_-_, _≤_}
 use native.Mathlib.Omega.{arith}
-use Rattle.elementary.specs.Float.{positive}
 use Rattle.vector.specs.Late.{late, lateSeries}
 use Rattle.vector.specs.Inner.{Fit}
 use Rattle.vector.specs.Pairs.{allOf, operatorOf}
 use Rattle.vector.proofs.Terms.{made-fit}
 use Rattle.vector.proofs.Late.{one-more, goes-on, ended}
-use Rattle.vector.proofs.Pairs.{fit-pair, every-pair}
+use Rattle.vector.proofs.Pairs.{fit-pair}
 use Rattle.vector.proofs.pair.sum_series.Statement.{statement}
 use Rattle.vector.proofs.pair.sum_series.Tie as tie
 
@@ -43,21 +42,11 @@ loop-again c =
     let m = c .next-pair .ensures in
     (omega arith, omega (arith, x .0), made-fit _ _ _ _ _ _ _ _ m .1, one-more _ _ (l .order) (l .s .settled) _ _ _ _ _ _ (x .0) (x .1) m (l .inv .3))
 
-is-positive-finite-requires : tie.Need-is-positive-finite-requires Inv-loop μ-loop
-is-positive-finite-requires c κs = tt
-
-is-positive-finite-requires-2 : tie.Need-is-positive-finite-requires-2 Inv-loop μ-loop
-is-positive-finite-requires-2 c κs = tt
-
 returns : tie.Need-returns Inv-loop μ-loop
 returns c =
-    let e = c .before .before .before .before in
-    let l = e .before .before in
-    let i = l .loop .inv in (
-      ended _ _ _ _ _ _ (l .loop .order) _ (l .loop .s .settled) _ _ (l .before .first-pair .ensures) (e .if1 .left)
-          (every-pair positive (l .loop .s .sum) _ _ (c .before .before .is-positive-finite .ensures) (c .before .is-positive-finite2 .ensures)) (i .3),
-      fit-pair (l .loop .s .sum) (i .2),
-    )
+    let l = c .before .before in
+    let i = l .loop .inv in
+    (ended _ _ _ _ _ _ (l .loop .order) _ (l .loop .s .settled) _ _ (l .before .first-pair .ensures) (c .if1 .left) refl (i .3), fit-pair (l .loop .s .sum) (i .2))
 
 pub sum-series-spec : {M : Type 1} → statement M
 sum-series-spec =
@@ -71,6 +60,4 @@ sum-series-spec =
     add-order
     loop-less
     loop-again
-    is-positive-finite-requires
-    is-positive-finite-requires-2
     returns)

@@ -75,7 +75,7 @@ loop-again c =
       t .kept .1 .1 .1 .1 .1 .1 .1 .0 ∙ i .2,
       omega (arith, less .0, i .3),
       le-trans (less .1) (le-trans (weighs (l .pace)) (i .4)),
-      λ d r s. stands-on _ _ _ _ _ _ _ _ _ _ _ _ _ (x .0) (x .1) (rw (i .0) at (t .ensures .0)) (after-full h m (omega (arith, p .pre .0 .0)) (l .pace) _ _ _ _ _ n (t .ensures .1) _ (rw n at (a .ensures))) (i .5 d r s),
+      λ d r s. stands-on _ _ _ _ _ _ _ _ _ _ _ _ _ (x .0) (x .1) (rw (i .0) at (t .ensures .0)) (after-full h m (omega (arith, p .pre .0 .0)) (l .pace) _ _ _ _ _ n (t .ensures .1) (t .result) (rw n at (a .ensures))) (i .5 d r s),
     )
 
 same-length : tie.Need-same-length Inv-loop μ-loop

@@ -3,15 +3,12 @@ use mathlib.Core.Path.{_≡_, refl, sym, _∙_}
 use Prim.Native.Nat.{ℕ, _-_, _≤_, _<_}
 use native.Mathlib.Omega.{arith}
 use lib.ListN.{length}
-use denote.Ref.{now}
-use Rattle.elementary.specs.Float.{positive}
 use Rattle.vector.specs.Late.{late, lateSeries}
 use Rattle.vector.specs.Inner.{Fit}
 use Rattle.vector.specs.Half.{fullSize, full, fullOperator}
-use Rattle.vector.proofs.Loops.{every-at}
 use Rattle.vector.proofs.Terms.{made-fit}
-use Rattle.vector.proofs.Full.{fit-back, every-with}
-use Rattle.vector.proofs.Late.{one-more, settled, spent, from-first, goes-on, is-over}
+use Rattle.vector.proofs.Full.{fit-back}
+use Rattle.vector.proofs.Late.{one-more, goes-on, ended}
 use Rattle.vector.proofs.series.taylor_rows.Statement.{statement}
 use Rattle.vector.proofs.series.taylor_rows.Tie as tie
 
@@ -74,41 +71,18 @@ loop-again c =
       one-more _ _ (l .order) (l .settled) _ _ _ _ _ _ (x .0) (x .1) (rw (i .3) at (t .ensures)) (i .6),
     )
 
-all-positive-requires : tie.Need-all-positive-requires Inv-loop μ-loop
-all-positive-requires c κs = tt
-
 same-length : tie.Need-same-length Inv-loop μ-loop
-same-length c = let l = c .before .before .before .before in l .loop .inv .2 ∙ l .before .before .before .before .before .first-term .kept .0
+same-length c = let l = c .before in l .loop .inv .2 ∙ l .before .before .before .before .before .first-term .kept .0
 
 same-length-2 : tie.Need-same-length-2 Inv-loop μ-loop
-same-length-2 c = let l = c .before .before .before .before in l .loop .inv .3 ∙ l .before .before .before .before .before .first-term .kept .0 ∙ sym (l .before .before .before .before .before .before .before .before .before .before .before .before .before .pre .1 .term-n)
+same-length-2 c = let l = c .before in l .loop .inv .3 ∙ l .before .before .before .before .before .first-term .kept .0 ∙ sym (l .before .before .before .before .before .before .before .before .before .before .before .before .before .pre .1 .term-n)
 
 returns : tie.Need-returns Inv-loop μ-loop
 returns c =
-    let l = c .before .before .before .before in
+    let l = c .before in
     let i = l .loop .inv in
     let f = l .before .before .before .before .before .first-term in
-    let s = l .before .before .before .before .before .before .before .before .before .before .before .before .before in
-    let n = length (now (s .args .v)) in (
-      settled _ _ _ _ _ _ _ _ _ (c .before .before .if1 .taken)
-          (c .all-positive .ensures ∙ every-at _ _ _ (i .2 ∙ f .kept .0) ∙ every-with (s .args .half) n (omega (arith, s .pre .0 .0)) (λ x y. positive x) (l .loop .v) (l .loop .v))
-          (from-first (s .args .half) n _ _ _ _ _ _ _ _ _ _ _ _ _ _ (f .kept .0) (f .ensures) (i .6)),
-      i .5,
-    )
-
-same-length-3 : tie.Need-same-length-3 Inv-loop μ-loop
-same-length-3 c = let l = c .before .before in l .loop .inv .2 ∙ l .before .before .before .before .before .first-term .kept .0
-
-same-length-4 : tie.Need-same-length-4 Inv-loop μ-loop
-same-length-4 c = let l = c .before .before in l .loop .inv .3 ∙ l .before .before .before .before .before .first-term .kept .0 ∙ sym (l .before .before .before .before .before .before .before .before .before .before .before .before .before .pre .1 .term-n)
-
-returns-2 : tie.Need-returns-2 Inv-loop μ-loop
-returns-2 c =
-    let l = c .before .before in
-    let i = l .loop .inv in
-    let f = l .before .before .before .before .before .first-term in
-    let a = l .before .before .before .before .before .before .before .before .before .before .before .before .before .args in
-    (spent _ _ _ _ _ _ _ _ (is-over _ _ (c .before .loop-test .left) (c .if1 .left)) (c .if1 .left) (from-first (a .half) (length (now (a .v))) _ _ _ _ _ _ _ _ _ _ _ _ _ _ (f .kept .0) (f .ensures) (i .6)), i .5)
+    (ended _ _ _ _ _ _ (l .loop .order) _ (l .loop .settled) _ _ (f .ensures) (c .loop-test .left) refl (rw (f .kept .0) at (i .6)), i .5)
 
 pub taylor-rows-spec : {M : Type 1} → statement M
 taylor-rows-spec =
@@ -122,10 +96,6 @@ taylor-rows-spec =
     add-order
     loop-less
     loop-again
-    all-positive-requires
     same-length
     same-length-2
-    returns
-    same-length-3
-    same-length-4
-    returns-2)
+    returns)
