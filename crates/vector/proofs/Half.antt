@@ -1,27 +1,21 @@
 -- Rows 0 to the centre stand for all rows of a vector that is its own mirror: entries, tests of all entries, extremes, and a term of the series. Assumes nothing.
-use mathlib.Core.Path.{_≡_, refl, sym, ap, ap₂, subst, _∙_}
+use mathlib.Core.Path.{_≡_, refl, sym, ap, _∙_}
 use Prim.Native.Nat.{ℕ, zero, suc, _+_, _-_, _*_, _≤_, _<_}
 use native.Mathlib.Nat.{le-refl}
 use native.Mathlib.Omega.{arith}
-use mathlib.Core.Bool.{Bool, true, false, not, _&&_, cond, and-comm, true≢false, Bool·not-not}
+use mathlib.Core.Bool.{Bool, true, false, not, cond, Bool·not-not}
 use mathlib.Core.List.{List}
 use borrow.Author.Tests.{leb-true, leb-false, le-leb, lt-leb, ltb-true, ltb-false}
-use lib.IntN.{pos}
 use lib.Dec.{T, ltb, leb}
-use lib.ListN.{length}
 use lib.Ieee.{Float, inf, binary64, lt, fits}
-use Rattle.elementary.specs.Float.{_⊕_, _⊖_, _⊗_, _⊘_, whole, 0ᶠ, 1ᶠ}
-use Rattle.vector.specs.Vectors.{from, tab, at, fill, before, after, everyFrom, every, fold, larger, smaller}
-use Rattle.vector.specs.Series.{Operator, rowAt, small, converged}
+use Rattle.elementary.specs.Float.{0ᶠ}
+use Rattle.vector.specs.Vectors.{from, tab, at, every, fold, larger, smaller}
 use Rattle.vector.specs.Run.{rows}
 use Rattle.vector.specs.Promises.{Mirror}
-use Rattle.vector.specs.Inner.{Made}
-use Rattle.vector.specs.Half.{mirrored, fullSize, fullFactors, full, fullOperator, past, Centred}
+use Rattle.vector.specs.Half.{mirrored}
 use Rattle.vector.proofs.Lists.{Opposite, at-tab, tab-ext, every-each, every-of, same-truth}
-use Rattle.vector.proofs.Loops.{fold-suc, larger-left, after-within, after-last}
+use Rattle.vector.proofs.Loops.{fold-suc, larger-left}
 use Rattle.vector.proofs.Extremes.{largest-above, smallest-floor}
-use Rattle.vector.proofs.Terms.{row-is, made}
-use Rattle.vector.proofs.Mirror.{row-alike}
 
 -- ---- the entries
 module _ (b : ℕ) (l r : List Float) where

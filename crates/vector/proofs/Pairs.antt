@@ -1,5 +1,5 @@
 -- Two rows in locals that stand for the three of bound 1: lists of two entries, and a term of the series. Assumes nothing.
-use mathlib.Core.Path.{_≡_, refl, sym, ap, ap₂, _∙_}
+use mathlib.Core.Path.{_≡_, refl, sym, ap, _∙_}
 use Prim.Native.Nat.{ℕ, zero, suc}
 use native.Mathlib.Omega.{arith}
 use mathlib.Core.Bool.{Bool, true, _&&_, and-true}
@@ -12,7 +12,7 @@ use Rattle.elementary.specs.Float.{_⊕_, _⊗_, _⊘_, whole, 1ᶠ}
 use Rattle.vector.specs.Vectors.{from, tab, at, everyFrom, every}
 use Rattle.vector.specs.Series.{rowAt}
 use Rattle.vector.specs.Inner.{Fit, Made}
-use Rattle.vector.specs.Half.{mirrored, fullSize, fullFactors, Centred}
+use Rattle.vector.specs.Half.{mirrored, fullFactors, Centred}
 use Rattle.vector.specs.Pairs.{pairOf, allOf, operatorOf, Added}
 use Rattle.vector.specs.declared.pair.Pair.{Pair}
 use Rattle.vector.specs.declared.pair.TwoRows.{TwoRows}

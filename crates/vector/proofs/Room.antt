@@ -8,7 +8,7 @@ use lib.Seq.{take-at, drop-at}
 use lib.Ieee.{Float}
 use Rattle.elementary.specs.Float.{0ᶠ}
 use Rattle.vector.specs.Vectors.{tab, fill}
-use Rattle.vector.specs.Values.{room, padded, blankVector, vectorOf}
+use Rattle.vector.specs.Values.{room, padded, vectorOf}
 use Rattle.vector.specs.declared.ValueVector.{ValueVector}
 use Rattle.vector.proofs.Lists.{length-tab}
 
@@ -66,15 +66,6 @@ module _ (n : ℕ) (f : ℕ → Float) (d r : List Float) (e : d ≡ tab n f) wh
 
   pub stored-room : n ≤ length (d ++ r)
   stored-room = part-room n d r by-rule
-
--- the arrays of the blank vector
-pub blank-w : (v : ValueVector) → v ≡ blankVector → v .w ≡ fill room 0ᶠ
-unfolding blankVector
-blank-w v e = ap (λ (x : ValueVector). x .w) e
-
-pub blank-o : (v : ValueVector) → v ≡ blankVector → v .«log_offset» ≡ fill room 0ᶠ
-unfolding blankVector
-blank-o v e = ap (λ (x : ValueVector). x .«log_offset») e
 
 -- a vector's own arrays
 module _ (n : ℕ) (w o : List Float) (v : ValueVector) (e : v ≡ vectorOf n w o) where

@@ -7,7 +7,7 @@ use mathlib.Core.Bool.{Bool, true, false, not, _&&_}
 use mathlib.Core.List.{List}
 use borrow.Author.Tests.{ltb-true, ltb-false, lt-ltb, not-true, not-false}
 use lib.Dec.{ltb}
-use lib.ListN.{length, length-replicate}
+use lib.ListN.{length}
 use lib.Ieee.{Float, inf, lt, toUnsigned}
 use Rattle.elementary.specs.Float.{_⊕_, _⊖_, _⊗_, _⊘_, 0ᶠ, 1ᶠ, finite, positive}
 use Rattle.elementary.specs.Reply.{Reply, value, refusal}

@@ -1,6 +1,6 @@
 -- All rows stand for themselves; without a drift those up to the centre stand for all: the diagonal turns on the lots alone, long or short. Assumes nothing.
 use mathlib.Core.Path.{_≡_, refl, sym, ap, _∙_}
-use Prim.Native.Nat.{ℕ, suc, _+_, _-_, _≤_, _<_}
+use Prim.Native.Nat.{ℕ, suc, _+_}
 use native.Mathlib.Omega.{arith}
 use mathlib.Core.Bool.{true, false}
 use lib.IntN.{pos}
@@ -9,8 +9,7 @@ use Rattle.elementary.specs.Float.{_⊕_, _⊗_, whole, 0ᶠ, 2ᶠ, positive}
 use Rattle.vector.specs.Vectors.{tab}
 use Rattle.vector.specs.Series.{diagonalAt}
 use Rattle.vector.specs.Run.{boundOk, rows}
-use Rattle.vector.specs.Drift.{diagonalBefore}
-use Rattle.vector.specs.Half.{fullSize, fullFactors, full, RowsStand}
+use Rattle.vector.specs.Half.{fullSize, fullFactors, RowsStand}
 use Rattle.vector.proofs.Lots.{lots, lots-are, diagonal-is}
 use Rattle.vector.proofs.Full.{full-tab}
 use Rattle.vector.proofs.Drift.{entry-before}

@@ -71,7 +71,7 @@ pub fn value_vector(alpha: f64, beta: f64, eta: f64, bound: u32, tau: f64) -> Ve
 {
     if run::floats_fit(alpha, beta, eta, tau) {
         if run::bound_fits(bound) {
-            return run::run_vector(run::blank(), alpha, beta, eta, bound, tau);
+            return run::run_vector(alpha, beta, eta, bound, tau);
         }
         return run::refused_vector(refusals::CONFIGURATION);
     }

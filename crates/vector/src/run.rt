@@ -6,7 +6,7 @@ ghost use Prim.Native.Nat.{_+_, _-_, _≤_};
 ghost use lib.ListN.{length};
 ghost use lib.Ieee.{inf, lt};
 ghost use mathlib.Core.Bool.{true, false, not, _&&_};
-ghost use Rattle.elementary.specs.Float.{_⊕_, _⊗_, _⊘_, 0ᶠ, 1ᶠ, finite, positive};
+ghost use Rattle.elementary.specs.Float.{_⊕_, _⊘_, 0ᶠ, 1ᶠ, finite, positive};
 ghost use Rattle.elementary.specs.Elementary.{LN, orNan};
 ghost use Rattle.vector.specs.Vectors.{tab, at, fill, every, fold, larger, smaller};
 ghost use Rattle.vector.specs.Run.{boundOk, rows, cap, run, runOn, begin, divided, rebalances};
@@ -387,15 +387,18 @@ fn fill_ones(w: &mut [f64])
     }
 }
 
-// A blank vector at the end of the time: its first n weights become 1.0.
-fn at_end(blank: ValueVector, n: usize) -> ValueVector
-    requires { ⌜ (blank ≡ blankVector) × (n ≤ 401) ⌝ }
+// A vector of n entries at the end of the time: weights of 1.0, offsets of 0.0.
+fn at_end(n: usize) -> ValueVector
+    requires { ⌜ n ≤ 401 ⌝ }
     ensures { λ r. ⌜ r ≡ vectorOf n (fill n 1ᶠ) (fill n 0ᶠ) ⌝ }
 {
-    let mut w = blank.w;
-    let log_offset = blank.log_offset;
+    let mut w = zeros();
     fill_ones(&mut w[..n]);
-    ValueVector { w, log_offset, n }
+    ValueVector {
+        w,
+        log_offset: zeros(),
+        n,
+    }
 }
 
 // Rows n up from those before the centre that they mirror.
@@ -411,8 +414,8 @@ fn fill_mirror(x: &mut [f64], n: usize)
     }
 }
 
-// The run over tau seconds, above zero, by the first n rows, which stand for all of them: refused by 11
-// at once where an entry of the diagonal is not finite.
+// The run over tau seconds, above zero, by n rows, which stand for all: refused by 11 at once where an
+// entry of the diagonal is not finite.
 fn run_rows(
     w: &mut [f64],
     o: &mut [f64],
@@ -424,22 +427,21 @@ fn run_rows(
     n: usize,
     half: bool,
 ) -> Outcome
-    requires { ⌜ (2 ≤ n) × (n ≤ rows bound) × (bound ≤ 200) × (lt 0ᶠ tau ≡ true) × (length (now w) ≡ n) × (now o ≡ fill n 0ᶠ) ⌝ }
+    requires { ⌜ (2 ≤ n) × (n ≤ rows bound) × (bound ≤ 200) × (lt 0ᶠ tau ≡ true) × (now w ≡ fill n 1ᶠ) × (now o ≡ fill n 0ᶠ) ⌝ }
     requires { ⌜ RowsStand half n bound alpha beta eta ⌝ }
     ensures { λ r. ⌜ EndIs (run bound alpha beta eta tau) r (full half n (now (w .exit))) (full half n (now (o .exit))) ⌝ }
 {
     let mut diag_s = zeros();
     if crate::operator::fill_shifted_diagonal(alpha, beta, eta, bound, n, &mut diag_s[..n]) {
-        fill_ones(w);
         return run_plans(w, o, &diag_s[..n], eta, tau, n, half);
     }
     Outcome::Refused(NUMERICAL)
 }
 
-// Takes a blank vector back over tau seconds, above zero, by its first n rows, which stand for all of
-// them, and hands it back filled where the run is done.
+// Takes a vector from the end of the time back over tau seconds, above zero, by its rows, which stand for
+// all, and hands it back with every row filled; or the blank one where the run is not done.
 fn run_back(
-    blank: ValueVector,
+    v: ValueVector,
     alpha: f64,
     beta: f64,
     eta: f64,
@@ -448,12 +450,12 @@ fn run_back(
     n: usize,
     half: bool,
 ) -> VectorAnswer
-    requires { ⌜ (2 ≤ n) × (n ≤ rows bound) × (bound ≤ 200) × (lt 0ᶠ tau ≡ true) × (blank ≡ blankVector) ⌝ }
+    requires { ⌜ (2 ≤ n) × (n ≤ rows bound) × (bound ≤ 200) × (lt 0ᶠ tau ≡ true) × (v ≡ vectorOf n (fill n 1ᶠ) (fill n 0ᶠ)) ⌝ }
     requires { ⌜ RowsStand half n bound alpha beta eta ⌝ }
     ensures { λ r. ⌜ r ≡ vectorBy (rows bound) (run bound alpha beta eta tau) ⌝ }
 {
-    let mut w = blank.w;
-    let mut o = blank.log_offset;
+    let mut w = v.w;
+    let mut o = v.log_offset;
     let outcome = run_rows(
         &mut w[..n],
         &mut o[..n],
@@ -480,33 +482,26 @@ fn run_back(
     }
     VectorAnswer {
         outcome,
-        vector: blank,
+        vector: blank(),
     }
 }
 
-// Takes a blank vector to tau seconds before the end and hands it back filled. Without a drift the
-// rows up to the centre are enough.
-pub(crate) fn run_vector(
-    blank: ValueVector,
-    alpha: f64,
-    beta: f64,
-    eta: f64,
-    bound: u32,
-    tau: f64,
-) -> VectorAnswer
-    requires { ⌜ (blank ≡ blankVector) × (boundOk bound ≡ true) × (positive alpha ≡ true) × (positive eta ≡ true) ⌝ }
+// The vector at tau seconds before the end. Without a drift the rows up to the centre are enough.
+pub(crate) fn run_vector(alpha: f64, beta: f64, eta: f64, bound: u32, tau: f64) -> VectorAnswer
+    requires { ⌜ (boundOk bound ≡ true) × (positive alpha ≡ true) × (positive eta ≡ true) ⌝ }
     ensures { λ r. ⌜ r ≡ vectorBy (rows bound) (run bound alpha beta eta tau) ⌝ }
 {
     let centre = bound as usize;
     let n = 2 * centre + 1;
     if 0.0 < tau {
         if beta == 0.0 {
-            return run_back(blank, alpha, beta, eta, bound, tau, centre + 1, true);
+            let half = centre + 1;
+            return run_back(at_end(half), alpha, beta, eta, bound, tau, half, true);
         }
-        return run_back(blank, alpha, beta, eta, bound, tau, n, false);
+        return run_back(at_end(n), alpha, beta, eta, bound, tau, n, false);
     }
     VectorAnswer {
         outcome: Outcome::Done(0),
-        vector: at_end(blank, n),
+        vector: at_end(n),
     }
 }

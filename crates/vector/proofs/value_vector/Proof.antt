@@ -11,22 +11,19 @@ floats-fit-requires c κs = search needs
 bound-fits-requires : tie.Need-bound-fits-requires
 bound-fits-requires c κs = search needs
 
-blank-requires : tie.Need-blank-requires
-blank-requires c κs = search needs
-
 run-vector-requires : tie.Need-run-vector-requires
 run-vector-requires c κs =
-    let b = c .before .before in
+    let b = c .before in
     let f = b .before .before in
     let r = rates-above _ _ _ _ (sym (f .floats-fit .ensures) ∙ b .before .if1 .taken) in
-    (c .blank .ensures, sym (b .bound-fits .ensures) ∙ c .before .if2 .taken, r .0, r .2)
+    (sym (b .bound-fits .ensures) ∙ c .if2 .taken, r .0, r .2)
 
 returns : tie.Need-returns
 unfolding valueVector vectorIf
 returns c =
-    let b = c .before .before .before in
+    let b = c .before .before in
     let f = b .before in
-    rw (← (f .before .floats-fit .ensures), f .if1 .taken, ← (b .bound-fits .ensures), c .before .before .if2 .taken, c .run-vector .ensures)
+    rw (← (f .before .floats-fit .ensures), f .if1 .taken, ← (b .bound-fits .ensures), c .before .if2 .taken, c .run-vector .ensures)
 
 refused-vector-requires : tie.Need-refused-vector-requires
 refused-vector-requires c κs = search needs
@@ -52,7 +49,6 @@ value-vector-spec =
     (tie.spec
     floats-fit-requires
     bound-fits-requires
-    blank-requires
     run-vector-requires
     returns
     refused-vector-requires

@@ -1,6 +1,4 @@
 -- Each way after a step is one of `AfterBy`. Assumes nothing.
-use mathlib.Core.Path.{_∙_}
-use native.Mathlib.Omega.{arith}
 use borrow.Author.Tests.{not-true, not-false}
 use Rattle.vector.proofs.RunLaws.{after-refused, after-paced, after-asked, after-failed}
 use borrow.Author.Needs.{needs}

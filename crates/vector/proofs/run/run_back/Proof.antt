@@ -1,5 +1,5 @@
 -- The arrays are filled out with what mirrors the first n rows. Assumes nothing.
-use mathlib.Core.Path.{_≡_, refl, sym, ap, subst, _∙_}
+use mathlib.Core.Path.{_≡_, sym, subst, _∙_}
 use mathlib.Core.Logic.{⊎-elim}
 use Prim.Native.Nat.{ℕ, _≤_}
 use native.Mathlib.Omega.{arith}
@@ -10,7 +10,7 @@ use lib.Ieee.{Float}
 use borrow.Author.Needs.{needs}
 use denote.Enum.Declared.{tagOf}
 use types.Run.{OneOf}
-use Rattle.elementary.specs.Float.{0ᶠ}
+use Rattle.elementary.specs.Float.{0ᶠ, 1ᶠ}
 use Rattle.vector.specs.Vectors.{fill}
 use Rattle.vector.specs.Run.{Ended, vector, overCap, failed, rows}
 use Rattle.vector.specs.Values.{room, padded, blankVector, refusedVector, vectorBy}
@@ -19,7 +19,7 @@ use Rattle.vector.specs.Half.{fullSize}
 use Rattle.vector.specs.declared.ValueVector.{ValueVector}
 use Rattle.vector.specs.declared.Outcome.{Outcome}
 use Rattle.vector.proofs.Outcome.{the-type}
-use Rattle.vector.proofs.Room.{lent, back, blank-w, blank-o, blank-padded, blank-room, blank-length}
+use Rattle.vector.proofs.Room.{lent, length-lent, lent-room, back, own-w, own-o}
 use Rattle.vector.proofs.RunLaws.{done}
 use Rattle.vector.proofs.FullRun.{out-room, out-length, out-asks, out-is}
 use Rattle.vector.proofs.run.run_back.Statement.{statement}
@@ -32,14 +32,17 @@ not-done n (vector w′ o′ s) q w o v h k e = ⊎-elim (λ z. absurd (omega ar
 not-done n (overCap need c) q w o v h k e = rw (h, e)
 not-done n (failed s) q w o v h k e = rw (h, e)
 
-few : (c : tie.Start) → c .args .n ≤ room
-few c = omega (arith, c .pre .0 .1, c .pre .0 .2)
+weights : (c : tie.Start) → c .args .v .w ≡ padded (c .args .n) (fill (c .args .n) 1ᶠ)
+weights c = own-w _ _ _ _ (c .pre .0 .4)
 
-weights : (c : tie.Start) → c .args .blank .w ≡ fill room 0ᶠ
-weights c = blank-w _ (c .pre .0 .4)
+offsets : (c : tie.Start) → c .args .v .«log_offset» ≡ padded (c .args .n) (fill (c .args .n) 0ᶠ)
+offsets c = own-o _ _ _ _ (c .pre .0 .4)
 
-offsets : (c : tie.Start) → c .args .blank .«log_offset» ≡ fill room 0ᶠ
-offsets c = blank-o _ (c .pre .0 .4)
+ones : (c : tie.Start) → length (fill (c .args .n) 1ᶠ) ≡ c .args .n
+ones c = length-replicate (c .args .n) 1ᶠ
+
+zeros : (c : tie.Start) → length (fill (c .args .n) 0ᶠ) ≡ c .args .n
+zeros c = length-replicate (c .args .n) 0ᶠ
 
 -- ---- as the arrays come back from the run
 abbrev entry : tie.After-run-rows → tie.Start
@@ -51,17 +54,17 @@ first c = entry c .args .n
 abbrev half : tie.After-run-rows → Bool
 half c = entry c .args .half
 
-weights-back : (c : tie.After-run-rows) → c .run-rows .last .0 ++ drop (first c) (entry c .args .blank .w) ≡ padded (first c) (c .run-rows .last .0)
-weights-back c = back _ _ _ (blank-padded (first c) _ (weights (entry c)) (few (entry c))) (length-replicate (first c) 0ᶠ) _
+weights-back : (c : tie.After-run-rows) → c .run-rows .last .0 ++ drop (first c) (entry c .args .v .w) ≡ padded (first c) (c .run-rows .last .0)
+weights-back c = back _ _ _ (weights (entry c)) (ones (entry c)) _
 
-offsets-back : (c : tie.After-run-rows) → c .run-rows .last .1 .0 ++ drop (first c) (entry c .args .blank .«log_offset») ≡ padded (first c) (c .run-rows .last .1 .0)
-offsets-back c = back _ _ _ (blank-padded (first c) _ (offsets (entry c)) (few (entry c))) (length-replicate (first c) 0ᶠ) _
+offsets-back : (c : tie.After-run-rows) → c .run-rows .last .1 .0 ++ drop (first c) (entry c .args .v .«log_offset») ≡ padded (first c) (c .run-rows .last .1 .0)
+offsets-back c = back _ _ _ (offsets (entry c)) (zeros (entry c)) _
 
 weights-long : (c : tie.After-run-rows) → length (c .run-rows .last .0) ≡ first c
-weights-long c = c .run-rows .kept .0 ∙ blank-length _ _ (weights (entry c)) (few (entry c))
+weights-long c = c .run-rows .kept .0 ∙ length-lent _ _ _ (weights (entry c)) (ones (entry c))
 
 offsets-long : (c : tie.After-run-rows) → length (c .run-rows .last .1 .0) ≡ first c
-offsets-long c = c .run-rows .kept .1 .0 ∙ blank-length _ _ (offsets (entry c)) (few (entry c))
+offsets-long c = c .run-rows .kept .1 .0 ∙ length-lent _ _ _ (offsets (entry c)) (zeros (entry c))
 
 some : (c : tie.After-run-rows) → 1 ≤ first c
 some c = omega (arith, entry c .pre .0 .0)
@@ -73,23 +76,22 @@ within : (c : tie.After-run-rows) → rows (entry c .args .bound) ≤ room
 within c = omega (arith, entry c .pre .0 .2)
 
 array-borrow-prefix-w : tie.Need-array-borrow-prefix-w
-array-borrow-prefix-w c = let s = c .before .before in blank-room _ _ (weights s) (few s)
+array-borrow-prefix-w c = let s = c .before .before in lent-room _ _ _ (weights s) (ones s)
 
 slice-aggregate-run-rows : tie.Need-slice-aggregate-run-rows
-slice-aggregate-run-rows c = let s = c .before .before .before in sym (blank-length _ _ (weights s) (few s))
+slice-aggregate-run-rows c = let s = c .before .before .before in sym (length-lent _ _ _ (weights s) (ones s))
 
 array-borrow-prefix-o : tie.Need-array-borrow-prefix-o
-array-borrow-prefix-o c = let s = c .before .before .before in blank-room _ _ (offsets s) (few s)
+array-borrow-prefix-o c = let s = c .before .before .before in lent-room _ _ _ (offsets s) (zeros s)
 
 slice-aggregate-run-rows-2 : tie.Need-slice-aggregate-run-rows-2
-slice-aggregate-run-rows-2 c = let s = c .before .before .before .before in sym (blank-length _ _ (offsets s) (few s))
+slice-aggregate-run-rows-2 c = let s = c .before .before .before .before in sym (length-lent _ _ _ (offsets s) (zeros s))
 
 run-rows-requires : tie.Need-run-rows-requires
 run-rows-requires c κs =
     let s = c .before .before .before .before in
     let p = s .pre .0 in
-    let n = s .args .n in
-    ((p .0, p .1, p .2, p .3, blank-length _ _ (weights s) (few s), lent n _ _ (blank-padded n _ (offsets s) (few s)) (length-replicate n 0ᶠ)), s .pre .1)
+    ((p .0, p .1, p .2, p .3, lent _ _ _ (weights s) (ones s), lent _ _ _ (offsets s) (zeros s)), s .pre .1)
 
 enum-known-outcome : tie.Need-enum-known-outcome
 enum-known-outcome c = search needs
@@ -128,10 +130,14 @@ returns c =
     (out-is (half p) _ _ _ (weights-back p) (weights-long p) (some p) _ (sized p) (within p) _ (c .before .before .before .before .fill-mirror .ensures))
     (out-is (half p) _ _ _ (offsets-back p) (offsets-long p) (some p) _ (sized p) (within p) _ (c .before .fill-mirror2 .ensures))
 
+blank-requires : tie.Need-blank-requires
+blank-requires c κs = search needs
+
 returns-2 : tie.Need-returns-2
 returns-2 c =
-    let p = c .before .before .before in
-    not-done _ _ _ _ _ _ (p .run-rows .ensures) (c .match .keys2) (entry p .pre .0 .4)
+    let m = c .before in
+    let p = m .before .before .before in
+    not-done _ _ _ _ _ _ (p .run-rows .ensures) (m .match .keys2) (c .blank .ensures)
 
 pub run-back-spec : {M : Type 1} → statement M
 run-back-spec =
@@ -153,4 +159,5 @@ run-back-spec =
     slice-aggregate-fill-mirror-2
     fill-mirror-requires-2
     returns
+    blank-requires
     returns-2)

@@ -1,11 +1,10 @@
 -- The run of the first n rows is the run of all that they stand for. Assumes nothing.
-use mathlib.Core.Path.{_≡_, refl, sym, ap, _∙_}
-use Prim.Native.Nat.{ℕ, _≤_}
+use mathlib.Core.Path.{refl, sym, ap, _∙_}
+use Prim.Native.Nat.{_≤_}
 use native.Mathlib.Omega.{arith}
 use lib.ListN.{length, length-replicate}
 use borrow.Author.Needs.{needs}
-use Rattle.elementary.specs.Float.{0ᶠ, 1ᶠ}
-use Rattle.vector.specs.Vectors.{fill}
+use Rattle.elementary.specs.Float.{0ᶠ}
 use Rattle.vector.specs.Values.{room}
 use Rattle.vector.specs.Inner.{EndIs}
 use Rattle.vector.proofs.Room.{blank-room, blank-length, stored-part, stored-length, stored-room}
@@ -28,24 +27,16 @@ slice-aggregate-fill-shifted-diagonal c = sym (blank-length _ _ (c .before .zero
 fill-shifted-diagonal-requires : tie.Need-fill-shifted-diagonal-requires
 fill-shifted-diagonal-requires c κs = let s = c .before .before .before .before in (s .pre .0 .2, s .pre .0 .1, blank-length _ _ (c .before .zeros .ensures) (few s))
 
-fill-ones-requires : tie.Need-fill-ones-requires
-fill-ones-requires c κs = search needs
-
 array-share-prefix-diag-s : tie.Need-array-share-prefix-diag-s
-array-share-prefix-diag-s c = stored-room _ _ _ _ (c .before .before .before .before .before .before .before .before .fill-shifted-diagonal .ensures .0)
+array-share-prefix-diag-s c = stored-room _ _ _ _ (c .before .before .before .before .fill-shifted-diagonal .ensures .0)
 
 slice-aggregate-run-plans : tie.Need-slice-aggregate-run-plans
-slice-aggregate-run-plans c = sym (stored-length _ _ _ _ (c .before .before .before .before .before .before .before .before .before .fill-shifted-diagonal .ensures .0))
+slice-aggregate-run-plans c = sym (stored-length _ _ _ _ (c .before .before .before .before .before .fill-shifted-diagonal .ensures .0))
 
 run-plans-requires : tie.Need-run-plans-requires
 run-plans-requires c κs =
-    let s = c .before .before .before .before .before .before .before .before .before .before .before .before .before .before in (
-      s .pre .0 .0,
-      few s,
-      c .before .before .before .before .before .fill-ones .ensures ∙ ap (λ (k : ℕ). fill k 1ᶠ) (s .pre .0 .4),
-      ap length (s .pre .0 .5) ∙ length-replicate _ 0ᶠ,
-      stored-length _ _ _ _ (c .before .before .before .before .before .before .before .before .before .fill-shifted-diagonal .ensures .0),
-    )
+    let s = c .before .before .before .before .before .before .before .before .before .before in
+    (s .pre .0 .0, few s, s .pre .0 .4, ap length (s .pre .0 .5) ∙ length-replicate _ 0ᶠ, stored-length _ _ _ _ (c .before .before .before .before .before .fill-shifted-diagonal .ensures .0))
 
 same-length : tie.Need-same-length
 same-length c = search needs
@@ -56,10 +47,9 @@ same-length-2 c = search needs
 returns : tie.Need-returns
 returns c =
     let p = c .before .before .before .before in
-    let s = c .before .before .before .before .before .before .before .before .before .before .before .before .before .before .before .before .before .before .before in
-    let q = p .before .before .before .before .before .before .before .before .before .before in
-    let f = q .fill-shifted-diagonal .ensures in
-    run-full (s .args .half) _ _ _ _ _ _ (omega (arith, s .pre .0 .0)) (s .pre .1) (s .pre .0 .3) _ _ _ _ _ (stored-part _ _ _ _ (f .0)) (s .pre .0 .5) (rw (f .0) at (sym (f .1) ∙ p .before .before .before .before .before .before .before .before .if1 .taken)) (p .run-plans .ensures)
+    let f = p .before .before .before .before .before .before .fill-shifted-diagonal .ensures in
+    let s = p .before .before .before .before .before .before .before .before .before .before .before in
+    run-full (s .args .half) _ _ _ _ _ _ (omega (arith, s .pre .0 .0)) (s .pre .1) (s .pre .0 .3) _ _ _ _ _ (stored-part _ _ _ _ (f .0)) (s .pre .0 .5) (rw (f .0) at (sym (f .1) ∙ p .before .before .before .before .if1 .taken)) (p .run-plans .ensures)
 
 returns-2 : tie.Need-returns-2
 unfolding EndIs
@@ -76,7 +66,6 @@ run-rows-spec =
     array-borrow-prefix-diag-s
     slice-aggregate-fill-shifted-diagonal
     fill-shifted-diagonal-requires
-    fill-ones-requires
     array-share-prefix-diag-s
     slice-aggregate-run-plans
     run-plans-requires

@@ -1,5 +1,5 @@
 -- With time left the rows that stand for all of them are run. Assumes nothing.
-use mathlib.Core.Path.{_≡_, sym, _∙_}
+use mathlib.Core.Path.{_≡_}
 use native.Mathlib.Nat.{le-refl}
 use native.Mathlib.Omega.{arith}
 use borrow.Author.Needs.{needs}
@@ -24,40 +24,46 @@ unfolding run runFor fixed vectorBy
 at-once bound alpha beta eta tau v h e = rw (h, e)
 
 mul-n : tie.Need-mul-n
-mul-n c = omega (arith, bound-range (c .args .bound) (c .pre .1) .1)
+mul-n c = omega (arith, bound-range (c .args .bound) (c .pre .0) .1)
 
 add-n : tie.Need-add-n
-add-n c = omega (arith, bound-range (c .args .bound) (c .pre .1) .1)
+add-n c = omega (arith, bound-range (c .args .bound) (c .pre .0) .1)
 
-add-run-back : tie.Need-add-run-back
-add-run-back c = let s = c .before .before in omega (arith, bound-range (s .args .bound) (s .pre .1) .1)
+add-half : tie.Need-add-half
+add-half c = let s = c .before .before in omega (arith, bound-range (s .args .bound) (s .pre .0) .1)
+
+at-end-requires : tie.Need-at-end-requires
+at-end-requires c κs = let s = c .before .before in omega (arith, bound-range (s .args .bound) (s .pre .0) .1)
 
 run-back-requires : tie.Need-run-back-requires
 run-back-requires c κs =
-    let s = c .before .before in
+    let s = c .before .before .before in
     let p = s .pre in
-    let r = bound-range (s .args .bound) (p .1) in
-    ((omega (arith, r .0), omega (arith, r .0), r .1, c .before .if1 .taken, p .0), half-stands _ _ _ _ (p .1) (p .2) (p .3) (c .if2 .taken))
+    let r = bound-range (s .args .bound) (p .0) in
+    ((omega (arith, r .0), omega (arith, r .0), r .1, c .before .before .if1 .taken, c .at-end .ensures), half-stands _ _ _ _ (p .0) (p .1) (p .2) (c .before .if2 .taken))
 
 returns : tie.Need-returns
 returns c = search needs
 
+at-end-requires-2 : tie.Need-at-end-requires-2
+at-end-requires-2 c κs = let s = c .before .before in omega (arith, bound-range (s .args .bound) (s .pre .0) .1)
+
 run-back-requires-2 : tie.Need-run-back-requires-2
 run-back-requires-2 c κs =
-    let s = c .before .before in
-    let r = bound-range (s .args .bound) (s .pre .1) in
-    ((omega (arith, r .0), le-refl _, r .1, c .before .if1 .taken, s .pre .0), all-stand _ _ _ _)
+    let s = c .before .before .before in
+    let r = bound-range (s .args .bound) (s .pre .0) in
+    ((omega (arith, r .0), le-refl _, r .1, c .before .before .if1 .taken, c .at-end2 .ensures), all-stand _ _ _ _)
 
 returns-2 : tie.Need-returns-2
 returns-2 c = search needs
 
-at-end-requires : tie.Need-at-end-requires
-at-end-requires c κs = let s = c .before in (s .pre .0, omega (arith, bound-range (s .args .bound) (s .pre .1) .1))
+at-end-requires-3 : tie.Need-at-end-requires-3
+at-end-requires-3 c κs = let s = c .before in omega (arith, bound-range (s .args .bound) (s .pre .0) .1)
 
 returns-3 : tie.Need-returns-3
 returns-3 c =
     let a = c .before .before .args in
-    at-once (a .bound) (a .alpha) (a .beta) (a .eta) (a .tau) _ (c .before .if1 .left) (c .at-end .ensures)
+    at-once (a .bound) (a .alpha) (a .beta) (a .eta) (a .tau) _ (c .before .if1 .left) (c .at-end3 .ensures)
 
 pub run-vector-spec : {M : Type 1} → statement M
 run-vector-spec =
@@ -65,10 +71,12 @@ run-vector-spec =
     (tie.spec
     mul-n
     add-n
-    add-run-back
+    add-half
+    at-end-requires
     run-back-requires
     returns
+    at-end-requires-2
     run-back-requires-2
     returns-2
-    at-end-requires
+    at-end-requires-3
     returns-3)

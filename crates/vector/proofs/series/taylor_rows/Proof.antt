@@ -1,6 +1,6 @@
 -- What is left of the series from the last term and the sum is what was left after the first. Assumes nothing.
 use mathlib.Core.Path.{_≡_, refl, sym, _∙_}
-use Prim.Native.Nat.{ℕ, _-_, _≤_, _<_}
+use Prim.Native.Nat.{_-_, _≤_}
 use native.Mathlib.Omega.{arith}
 use lib.ListN.{length}
 use Rattle.vector.specs.Late.{late, lateSeries}
