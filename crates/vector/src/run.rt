@@ -108,6 +108,7 @@ struct Top {
     positive: bool,
 }
 
+// The largest weight, and whether all are positive, which those above zero are where it is finite.
 fn top_of(weight: f64, above: bool) -> Top
     ensures { λ r. ⌜ (r .weight ≡ weight) × (r .positive ≡ (above && finite weight)) ⌝ }
 {
@@ -117,8 +118,7 @@ fn top_of(weight: f64, above: bool) -> Top
     }
 }
 
-// Both in one pass, by the even and the odd places apart: neither waits for the other. Weights above
-// zero are finite where the largest is.
+// Both in one pass, by the even and the odd places apart: neither waits for the other.
 fn largest(w: &[f64]) -> Top
     requires { ⌜ Fit (now w) ⌝ }
     ensures { λ r. ⌜ r .weight ≡ fold larger 0ᶠ (now (w .entry)) ⌝ }
