@@ -82,9 +82,9 @@ module _ (h : Bool) (n : ℕ) (some : 1 ≤ n) (a : Pace) (v o : List Float) (r 
   )
 
   -- whether the step has settled, each entry of its sum being positive besides
-  pub after-full : (t : Bool) → AfterIs (t && every n (λ i. positive (at v i))) n a (divided n v) o r w′ o′
+  pub after-step-full : (t : Bool) → AfterIs (t && every n (λ i. positive (at v i))) n a (divided n v) o r w′ o′
       → AfterIs (t && every (fullSize h n) (λ i. positive (at (full h n v) i))) (fullSize h n) a (divided (fullSize h n) (full h n v)) (full h n o) r (full h n w′) (full h n o′)
-  after-full t x =
+  after-step-full t x =
       let good = ap (λ (b : Bool). t && b) (every-with h n some (λ y z. positive y) v v) in
       let low = rebalances-full h n some (divided n v) long-divided (a .steps - 1) ∙ ap (λ (l : List Float). rebalances (fold smaller (inf false) l) (a .steps - 1)) divided-rows in
       let all = every-with h n some (λ y z. positive y) (divided n v) (divided n v) ∙ ap (λ (l : List Float). every (fullSize h n) (λ i. positive (at l i))) divided-rows in

@@ -1,4 +1,4 @@
--- Rows 0 to the centre stand for all rows of a vector that is its own mirror: entries, tests of all entries, extremes, and a term of the series. Assumes nothing.
+-- Rows 0 to the centre stand for all rows of a vector that is its own mirror: its entries, tests of all of them, and the extremes. Assumes nothing.
 use mathlib.Core.Path.{_≡_, refl, sym, ap, _∙_}
 use Prim.Native.Nat.{ℕ, zero, suc, _+_, _-_, _*_, _≤_, _<_}
 use native.Mathlib.Nat.{le-refl}
