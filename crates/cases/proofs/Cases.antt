@@ -10,10 +10,12 @@ use Rattle.vector.specs.Run.{magnitudes, norm, needed, start, begin, runOn, fix
 use Rattle.vector.specs.Values.{padded, vectorOf}
 use Rattle.distances.specs.Distances.{place, distance, bidAt, askAt, fine, sides, exactAt}
 use Rattle.distances.specs.FloatEntry.{refusedEntry, withVector, answerBy, entryIf, floatsOk, floatEntry}
-use Rattle.quote.specs.Configuration.{amountOk, timeOk, above0, toFloat, configLimits, configOk, configIf, newConfig}
-use Rattle.quote.specs.Model.{lots, holdingOk, marketOk, modelBy, modelFrom, modelOf, modelOk, tauOf, driftless, modelIf, modelLimits, newModel, driftlessModel}
-use Rattle.quote.specs.Rounding.{billionths}
-use Rattle.quote.specs.Quotes.{side, halfUp, widening, bidPrice, askPrice, each, inOrder, judgeIf, judge, quotesBy, buildQuotes, exactFrom, exactIf, exactAnswer, closedFrom, closedAnswer, withSteps, exactBy, exactQuotes, wrapped, optimalQuotes, closedBy, closedFormQuotes}
+use Rattle.amounts.specs.Amounts.{amountOk, timeOk, above0, toFloat, tauOf}
+use Rattle.model.specs.Configuration.{configLimits, configOk, configIf, newConfig}
+use Rattle.model.specs.Model.{lots, holdingOk, marketOk, modelBy, modelFrom, modelOf, modelOk, driftless, modelIf, modelLimits, newModel, driftlessModel}
+use Rattle.amounts.specs.Rounding.{billionths}
+use Rattle.prices.specs.Prices.{side, halfUp, widening, bidPrice, askPrice, each, inOrder, judgeIf, judge, quotesBy, buildQuotes}
+use Rattle.quote.specs.Quotes.{exactFrom, exactIf, exactAnswer, closedFrom, closedAnswer, withSteps, exactBy, exactQuotes, wrapped, optimalQuotes, closedBy, closedFormQuotes}
 use Rattle.cases.specs.Cases.{ofConfig, ofModel, ofExact, ofOptimal, ofClosed, ofAnswer, ofFloats, reckonedFrom, ofTurn, reply, configurationCases, holdingCases, vectorCases, quoteCases, driftCases, table, Cases}
 
 -- the definitions that a row is reckoned with, crate by crate

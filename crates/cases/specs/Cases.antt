@@ -16,16 +16,17 @@ use Rattle.vector.specs.declared.ValueVector.{ValueVector}
 use Rattle.distances.specs.declared.Answer.{Answer}
 use Rattle.distances.specs.declared.Answer.the-variants as Answer
 use Rattle.distances.specs.declared.FloatAnswer.{FloatAnswer}
-use Rattle.quote.specs.Model.{newModel, tauOf}
-use Rattle.quote.specs.Configuration.{billion, newConfig}
+use Rattle.model.specs.Model.{newModel}
+use Rattle.amounts.specs.Amounts.{tauOf, billion}
+use Rattle.model.specs.Configuration.{newConfig}
 use Rattle.quote.specs.Quotes.{exactQuotes, optimalQuotes, closedFormQuotes}
-use Rattle.quote.specs.declared.GLFTConfig.{GLFTConfig}
-use Rattle.quote.specs.declared.ConfigAnswer.{ConfigAnswer}
-use Rattle.quote.specs.declared.ConfigAnswer.the-variants as ConfigAnswer
-use Rattle.quote.specs.declared.ModelAnswer.{ModelAnswer}
-use Rattle.quote.specs.declared.ModelAnswer.the-variants as ModelAnswer
-use Rattle.quote.specs.declared.Price.{Price}
-use Rattle.quote.specs.declared.Price.the-variants as Price
+use Rattle.model.specs.declared.GLFTConfig.{GLFTConfig}
+use Rattle.model.specs.declared.ConfigAnswer.{ConfigAnswer}
+use Rattle.model.specs.declared.ConfigAnswer.the-variants as ConfigAnswer
+use Rattle.model.specs.declared.ModelAnswer.{ModelAnswer}
+use Rattle.model.specs.declared.ModelAnswer.the-variants as ModelAnswer
+use Rattle.prices.specs.declared.Price.{Price}
+use Rattle.prices.specs.declared.Price.the-variants as Price
 use Rattle.quote.specs.declared.ExactQuotes.{ExactQuotes}
 use Rattle.quote.specs.declared.ExactQuotes.the-variants as ExactQuotes
 use Rattle.quote.specs.declared.OptimalQuotes.{OptimalQuotes}

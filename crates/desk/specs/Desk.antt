@@ -2,7 +2,7 @@
 use Prim.Native.Nat.{ℕ, _+_, min}
 use mathlib.Core.List.{List}
 use Rattle.harness.specs.Words.{word, signed}
-use Rattle.quote.specs.declared.GLFTConfig.{GLFTConfig}
+use Rattle.model.specs.declared.GLFTConfig.{GLFTConfig}
 
 -- a bound that 32 bits do not hold is the largest that they hold
 unfoldable pub configAt : List ℕ → ℕ → GLFTConfig

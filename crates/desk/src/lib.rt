@@ -8,7 +8,7 @@ ghost use Rattle.desk.specs.Desk.{configAt};
 use harness::bound_of;
 use harness::signed_of;
 use harness::word_at;
-use quote::GLFTConfig;
+use model::GLFTConfig;
 
 // The amount i places after a place.
 pub fn amount_at(s: &[u8], at: usize, i: usize) -> i64

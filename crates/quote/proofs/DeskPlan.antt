@@ -19,16 +19,18 @@ use Rattle.distances.specs.declared.Answer.{Answer}
 use Rattle.distances.specs.declared.Answer.the-variants as Answer
 use Rattle.distances.proofs.Refusing.{never}
 use Rattle.distances.proofs.Count.{step-counts, count-is-first-plan}
-use Rattle.quote.specs.Configuration.{timeOk, configOk}
-use Rattle.quote.specs.Model.{lots, marketOk, holdingOk, modelOk, modelOf, modelFrom, modelBy, modelIf, modelLimits, newModel, tauOf}
-use Rattle.quote.specs.Quotes.{Judged, quoted, refused, exactFrom, exactIf, exactAnswer, buildQuotes, withSteps, exactBy, exactQuotes, stepsFrom, stepsIf, exactSteps}
+use Rattle.amounts.specs.Amounts.{timeOk, tauOf}
+use Rattle.model.specs.Configuration.{configOk}
+use Rattle.model.specs.Model.{lots, marketOk, holdingOk, modelOk, modelOf, modelFrom, modelBy, modelIf, modelLimits, newModel}
+use Rattle.prices.specs.Prices.{Judged, quoted, refused, buildQuotes}
+use Rattle.quote.specs.Quotes.{exactFrom, exactIf, exactAnswer, withSteps, exactBy, exactQuotes, stepsFrom, stepsIf, exactSteps}
 use Rattle.quote.specs.Horizon.{planFrom, deskPlanIf, deskPlan, DeskPlanIsFirst, DeskPlanRefusals}
-use Rattle.quote.specs.declared.GLFTConfig.{GLFTConfig}
-use Rattle.quote.specs.declared.Model.{Model}
-use Rattle.quote.specs.declared.ModelAnswer.{ModelAnswer}
-use Rattle.quote.specs.declared.ModelAnswer.the-variants as ModelAnswer
+use Rattle.model.specs.declared.GLFTConfig.{GLFTConfig}
+use Rattle.model.specs.declared.Model.{Model}
+use Rattle.model.specs.declared.ModelAnswer.{ModelAnswer}
+use Rattle.model.specs.declared.ModelAnswer.the-variants as ModelAnswer
 use Rattle.quote.specs.declared.ExactQuotes.the-variants as ExactQuotes
-use Rattle.quote.proofs.Passed.{bound-passed, lots-passed, tau-passed, floats-passed}
+use Rattle.model.proofs.Passed.{bound-passed, lots-passed, tau-passed, floats-passed}
 use Rattle.quote.proofs.Refusing.{after-checks, late, right}
 
 -- ---- the report of an exact call is that of its answer

@@ -7,29 +7,24 @@ use lib.IntN.{ℤ, pos}
 use lib.Dec.{T}
 use lib.Ieee.{Float, binary64, eq}
 use Rattle.elementary.specs.Float.{0ᶠ, finite, positive}
-use Rattle.elementary.specs.Elementary.{outside}
 use Rattle.elementary.proofs.Zeros.{Zero, zero-equal, zero-finite}
-use Rattle.vector.specs.Values.{refusedVector}
-use Rattle.vector.specs.Drift.{valueVectorBefore}
-use Rattle.vector.specs.declared.VectorAnswer.{VectorAnswer}
 use Rattle.vector.specs.declared.FirstPlan.the-variants as FirstPlan
 use Rattle.distances.specs.declared.Answer.{Answer}
 use Rattle.distances.specs.declared.Answer.the-variants as Answer
 use Rattle.distances.specs.declared.FloatAnswer.{FloatAnswer}
-use Rattle.vector.proofs.Drift.{drift-zero as vector-zero}
 use Rattle.distances.proofs.Drift.{drift-zero-entry}
-use Rattle.quote.specs.Refusals.{limits}
-use Rattle.quote.specs.Configuration.{amountOk, timeOk, configLimits, newConfig}
-use Rattle.quote.specs.Model.{modelBy, modelFrom, modelOf, modelOk, tauOf, driftless, modelLimits, newModel, driftlessModel}
+use Rattle.amounts.specs.Refusals.{limits}
+use Rattle.amounts.specs.Amounts.{amountOk, timeOk, tauOf}
+use Rattle.model.specs.Configuration.{configLimits, newConfig}
+use Rattle.model.specs.Model.{modelBy, modelFrom, modelOf, modelOk, driftless, modelLimits, newModel, driftlessModel, checkCall}
 use Rattle.quote.specs.Quotes.{exactFrom, exactIf, exactAnswer, exactBy, exactQuotes, wrapped, optimalQuotes, closedFrom, closedAnswer, closedBy, closedFormQuotes, stepsFrom, stepsIf, exactSteps}
-use Rattle.quote.specs.Reckoning.{checkCall, reckonIf, reckoning}
 use Rattle.quote.specs.Horizon.{planFrom, deskPlanIf, deskPlan}
-use Rattle.quote.specs.Drift.{configLimitsBefore, modelLimitsBefore, modelOkBefore, newModelBefore, exactFromBefore, exactAnswerBefore, stepsFromBefore, exactStepsBefore, planFromBefore, deskPlanBefore, checkCallBefore, reckoningBefore, DriftZero}
-use Rattle.quote.specs.declared.GLFTConfig.{GLFTConfig}
-use Rattle.quote.specs.declared.Model.{Model}
-use Rattle.quote.specs.declared.ModelAnswer.{ModelAnswer}
-use Rattle.quote.proofs.Turned.{beta-none}
-use Rattle.quote.proofs.Passed.{Outcome, stopped, passed, outcome, positive-number, k-passed}
+use Rattle.quote.specs.Drift.{configLimitsBefore, modelLimitsBefore, modelOkBefore, newModelBefore, exactFromBefore, exactAnswerBefore, stepsFromBefore, exactStepsBefore, planFromBefore, deskPlanBefore, checkCallBefore, DriftZero}
+use Rattle.model.specs.declared.GLFTConfig.{GLFTConfig}
+use Rattle.model.specs.declared.Model.{Model}
+use Rattle.model.specs.declared.ModelAnswer.{ModelAnswer}
+use Rattle.model.proofs.Turned.{beta-none}
+use Rattle.model.proofs.Passed.{Outcome, stopped, passed, outcome, positive-number, k-passed}
 
 -- ---- a test less at the end, where it follows from the first
 one-less : (k g a s x y z t : Bool) → (k ≡ true → t ≡ true) → (k && g && a && s && x && y && z && t) ≡ (k && g && a && s && x && y && z)
@@ -46,7 +41,7 @@ module _ (c : GLFTConfig) (e : c .drift ≡ pos 0) where
   none-is = rw (e, eq-eqb 0 0 refl)
 
   module _ (vol : ℤ) where
-    abbrev m : Model
+    abbrev pub m : Model
     m = modelOf c vol
 
     -- beta, where k is a number
@@ -57,10 +52,10 @@ module _ (c : GLFTConfig) (e : c .drift ≡ pos 0) where
     beta-finite : positive (m .k) ≡ true → finite (m .beta) ≡ true
     beta-finite h = zero-finite (beta-is (positive-number (m .k) h))
 
-    beta-zero : modelOk m ≡ true → eq (m .beta) 0ᶠ ≡ true
+    pub beta-zero : modelOk m ≡ true → eq (m .beta) 0ᶠ ≡ true
     beta-zero f = zero-equal binary64 (beta-is (k-passed m f))
 
-    model-ok-same : modelOk m ≡ modelOkBefore m
+    pub model-ok-same : modelOk m ≡ modelOkBefore m
     unfolding modelOk modelOkBefore
     model-ok-same =
         one-less (positive (m .k)) (positive (m .gamma)) (positive (m .a)) (positive (m .sigma2)) (positive (m .alpha)) (positive (m .eta)) (positive (m .base)) (finite (m .beta)) beta-finite
@@ -88,12 +83,6 @@ module _ (c : GLFTConfig) (e : c .drift ≡ pos 0) where
     made-same : (mid h : ℤ) (tau : Float) → let a = newModel mid h c vol in (exactFrom a tau ≡ exactFromBefore a tau) × (stepsFrom a tau ≡ stepsFromBefore a tau) × (planFrom a tau ≡ planFromBefore a tau)
     unfolding newModel
     made-same mid h tau = from-same tau (outcome _ _ _ _ _ _ _ _)
-
-    -- the vector, where the model passed
-    vector-same : (tau : Float) (f : Bool) → modelOk m ≡ f → reckonIf f m tau ≡ cond f (valueVectorBefore (m .alpha) (m .eta) (m .«q_max») tau) (refusedVector outside)
-    unfolding reckonIf
-    vector-same tau true f = vector-zero .vectors (m .alpha) (m .beta) (m .eta) (m .«q_max») tau (beta-zero f)
-    vector-same tau false f = refl
 
 module _ (mid h : ℤ) (c : GLFTConfig) (vol : ℤ) (t : ℕ) (e : c .drift ≡ pos 0) where
   abbrev tau : Float
@@ -124,7 +113,7 @@ module _ (mid h : ℤ) (c : GLFTConfig) (vol : ℤ) (t : ℕ) (e : c .drift ≡ 
       go false = refl
 
 pub drift-zero : DriftZero
-unfolding newConfig exactQuotes optimalQuotes closedFormQuotes closedAnswer driftlessModel newModel checkCall checkCallBefore reckoning reckoningBefore
+unfolding newConfig exactQuotes optimalQuotes closedFormQuotes closedAnswer driftlessModel newModel checkCall checkCallBefore
 drift-zero = record {
   limits-fit = λ mid h c vol e. limits-with c e vol mid h;
   config = λ c e. rw (limits-same c e);
@@ -136,7 +125,4 @@ drift-zero = record {
   closed = λ mid h c vol e. rw (none-is c e) (ap (λ (a : ModelAnswer). closedBy mid (c .«min_spread») (closedFrom a)) (model-same c e vol mid h));
   plan = plan-same;
   check = λ mid c vol t e. rw (limits-with c e vol mid (pos 0));
-  reckoned = λ c vol t e. let m = modelOf c vol in
-      ap (λ (v : VectorAnswer). record { k = m .k; base = m .base; vector = v })
-      (vector-same c e vol (tauOf (c .«terminal_time») t) (modelOk m) refl ∙ rw (model-ok-same c e vol));
 }

@@ -21,18 +21,19 @@ use Rattle.distances.specs.declared.FloatAnswer.{FloatAnswer}
 use Rattle.distances.proofs.Drift.{drift-zero-entry}
 use Rattle.distances.proofs.FloatMirror.{float-mirror, sides-exchanged}
 use Rattle.distances.proofs.Counting.{steps-counted}
-use Rattle.quote.specs.Configuration.{amountOk, timeOk, configOk}
-use Rattle.quote.specs.Model.{lots, holdingOk, modelBy, modelFrom, modelOf, modelOk, driftless, modelIf, modelLimits, modelWith, newModel, driftlessModel, tauOf}
+use Rattle.amounts.specs.Amounts.{amountOk, timeOk, tauOf}
+use Rattle.model.specs.Configuration.{configOk, turned}
+use Rattle.model.specs.Model.{lots, holdingOk, modelBy, modelFrom, modelOf, modelOk, driftless, modelIf, modelLimits, modelWith, newModel, driftlessModel}
 use Rattle.quote.specs.ClosedForm.{slope, formBid, formAsk, bidForm, askForm, formIf, closedFormDistances}
 use Rattle.quote.specs.Quotes.{exactFrom, exactIf, exactAnswer, closedFrom, closedAnswer, stepsFrom, stepsIf, exactSteps}
-use Rattle.quote.specs.Promises.{turned, ExactMirror, ClosedMirror}
-use Rattle.quote.specs.declared.GLFTConfig.{GLFTConfig}
-use Rattle.quote.specs.declared.Model.{Model}
-use Rattle.quote.specs.declared.ModelAnswer.{ModelAnswer}
-use Rattle.quote.specs.declared.ModelAnswer.the-variants as ModelAnswer
-use Rattle.quote.proofs.Signed.{natAbs-neg, quot-neg, rem-neg, times-neg, whole-neg, ltZ-neg}
-use Rattle.quote.proofs.Turned.{betaOf, beta-neg, beta-none, limits-turned, model-ok-turned, driftless-turned}
-use Rattle.quote.proofs.Passed.{Outcome, stopped, passed, outcome, k-passed, few-lots}
+use Rattle.quote.specs.Promises.{ExactMirror, ClosedMirror}
+use Rattle.model.specs.declared.GLFTConfig.{GLFTConfig}
+use Rattle.model.specs.declared.Model.{Model}
+use Rattle.model.specs.declared.ModelAnswer.{ModelAnswer}
+use Rattle.model.specs.declared.ModelAnswer.the-variants as ModelAnswer
+use Rattle.amounts.proofs.Signed.{natAbs-neg, quot-neg, rem-neg, times-neg, whole-neg, ltZ-neg}
+use Rattle.model.proofs.Turned.{betaOf, beta-neg, beta-none, limits-turned, model-ok-turned, driftless-turned}
+use Rattle.model.proofs.Passed.{Outcome, stopped, passed, outcome, k-passed, few-lots}
 
 -- ---- the model
 -- another model, and the lots with the other sign

@@ -2,14 +2,12 @@
 use mathlib.Core.Path.{_≡_, refl, sym, ap, subst}
 use Prim.Native.Nat.{ℕ, _+_, _*_, _/_}
 use native.Mathlib.Omega.{arith}
-use mathlib.Core.Bool.{Bool, true, false, _&&_}
+use mathlib.Core.Bool.{Bool, true, false}
 use lib.IntN.{ℤ, pos, negsuc, negℤ, _+ℤ_, _-ℤ_, _*ℤ_, +ℤ-comm, +ℤ-assoc, +ℤ-invr, +ℤ-idl, +ℤ-negℤ-cancel, negℤ-+ℤ, negℤ-negℤ}
 use lib.Dec.{T}
 use lib.Ieee.{Float, nan, inf, fin, down}
 use Rattle.elementary.specs.Float.{finite, positive}
-use Rattle.vector.specs.declared.VectorAnswer.{VectorAnswer}
 use Rattle.distances.specs.Distances.{fine}
-use Rattle.distances.specs.Reading.{answerFrom}
 use Rattle.distances.specs.Promises.{Finite}
 use Rattle.distances.specs.declared.Distance.{Distance}
 use Rattle.distances.specs.declared.Distance.the-variants as Distance
@@ -18,26 +16,26 @@ use Rattle.distances.specs.declared.Sides.the-variants as Sides
 use Rattle.distances.specs.declared.Answer.{Answer}
 use Rattle.distances.specs.declared.Answer.the-variants as Answer
 use Rattle.distances.proofs.Finite.{sides-fine, finite-distances}
-use Rattle.quote.specs.Configuration.{amountOk, above0, timeOk}
-use Rattle.quote.specs.Model.{newModel, driftlessModel, tauOf}
+use Rattle.amounts.specs.Amounts.{timeOk, tauOf}
+use Rattle.model.specs.Model.{newModel, driftlessModel}
 use Rattle.quote.specs.ClosedForm.{slope, bidForm, askForm, formIf, closedFormDistances}
-use Rattle.quote.specs.Rounding.{billionths, exactly, AtMost}
-use Rattle.quote.specs.Quotes.{side, halfUp, widening, bidPrice, askPrice, quoted, buildQuotes, exactFrom, exactIf, exactAnswer, withoutReport, optimalAnswer, exactBy, exactQuotes, optimalQuotes, closedFrom, closedAnswer, closedBy, closedFormQuotes}
-use Rattle.quote.specs.Reckoning.{fromIf, quotesFrom, holdingOf, lotsIf, quotesOfLots}
-use Rattle.quote.specs.Outward.{OnSide, Outside, OutsideOf, NeverInside}
-use Rattle.quote.specs.declared.GLFTConfig.{GLFTConfig}
-use Rattle.quote.specs.declared.ModelAnswer.{ModelAnswer}
-use Rattle.quote.specs.declared.ModelAnswer.the-variants as ModelAnswer
-use Rattle.quote.specs.declared.Price.{Price}
-use Rattle.quote.specs.declared.Price.the-variants.{At, Absent}
-use Rattle.quote.specs.declared.GlftQuotes.{GlftQuotes}
+use Rattle.amounts.specs.Rounding.{billionths, exactly, AtMost}
+use Rattle.prices.specs.Prices.{side, halfUp, widening, bidPrice, askPrice, quoted, buildQuotes}
+use Rattle.quote.specs.Quotes.{exactFrom, exactIf, exactAnswer, withoutReport, optimalAnswer, exactBy, exactQuotes, optimalQuotes, closedFrom, closedAnswer, closedBy, closedFormQuotes}
+use Rattle.prices.specs.Outward.{OnSide, Outside}
+use Rattle.quote.specs.Outward.{OutsideOf, NeverInside}
+use Rattle.model.specs.declared.GLFTConfig.{GLFTConfig}
+use Rattle.model.specs.declared.ModelAnswer.{ModelAnswer}
+use Rattle.model.specs.declared.ModelAnswer.the-variants as ModelAnswer
+use Rattle.prices.specs.declared.Price.{Price}
+use Rattle.prices.specs.declared.Price.the-variants.{At, Absent}
+use Rattle.prices.specs.declared.GlftQuotes.{GlftQuotes}
 use Rattle.quote.specs.declared.ExactQuotes.the-variants as Exact
 use Rattle.quote.specs.declared.OptimalQuotes.the-variants as Optimal
 use Rattle.quote.specs.declared.ClosedFormQuotes.the-variants as Closed
-use Rattle.quote.specs.declared.reckoning.Reckoning.{Reckoning}
-use Rattle.quote.proofs.Differences.{over, under, add-parts, over-times, under-times, le-parts, parts-le}
+use Rattle.amounts.proofs.Differences.{over, under, add-parts, over-times, under-times, le-parts, parts-le}
 use Rattle.quote.proofs.Pairs.{built-is, with-steps-is, wrapped-is, of-judged-is}
-use Rattle.quote.proofs.Least.{rounding-is-right}
+use Rattle.amounts.proofs.Least.{rounding-is-right}
 
 -- ---- n billionths more
 further : (x : Float) (z : ℤ) (n : ℕ) → AtMost x z → AtMost x (z +ℤ pos n)
@@ -90,7 +88,7 @@ outside mid least b a q f e =
     rw (built-is mid least b a q e, w .1) (record { bid = bid-outside mid (w .0) b (f .0); ask = ask-outside mid (w .0) a (f .1) })
 
 -- ---- quotes of an answer
-exact-outside : (mid least : ℤ) (r : Answer) (q : GlftQuotes) (s : ℕ) → ((b a : Distance) (n : ℕ) → r ≡ Answer.Distances b a n → Finite b a)
+pub exact-outside : (mid least : ℤ) (r : Answer) (q : GlftQuotes) (s : ℕ) → ((b a : Distance) (n : ℕ) → r ≡ Answer.Distances b a n → Finite b a)
     → exactBy mid least r ≡ Exact.Quotes q s → OutsideOf mid r q s
 unfolding exactBy
 exact-outside mid least (Answer.Distances b a n) q s f e =
@@ -140,29 +138,10 @@ optimal-never mid h c vol t q s e =
     let u = exact-never mid h c vol t q s (wrapped-is (exactQuotes mid h c vol t) q s e) in
     (u .0, u .1, ap withoutReport (u .2), u .3)
 
-from-never : (mid least : ℤ) (k base : Float) (l : ℤ) (v : VectorAnswer) (q : GlftQuotes) (s : ℕ) → quotesFrom mid least k base l v ≡ Exact.Quotes q s → OutsideOf mid (answerFrom v k base l) q s
-unfolding quotesFrom fromIf
-from-never mid least k base l v q s = go (amountOk mid && amountOk least)
-  where
-    go : (t : Bool) → fromIf t (exactBy mid least (answerFrom v k base l)) ≡ Exact.Quotes q s → OutsideOf mid (answerFrom v k base l) q s
-    go true e = exact-outside mid least (answerFrom v k base l) q s (finite-distances .answer v k base l) e
-    go false e = let z : _≡_ {A = ℕ} 0 1 = cc in absurd (omega arith)
-
-lots-never : (mid : ℤ) (c : GLFTConfig) (r : Reckoning) (l : ℤ) (q : GlftQuotes) (s : ℕ) → quotesOfLots mid c r l ≡ Exact.Quotes q s → OutsideOf mid (answerFrom (r .vector) (r .k) (r .base) l) q s
-unfolding quotesOfLots lotsIf
-lots-never mid c r l q s = go (above0 (c .«lot_size»)) (amountOk (holdingOf c l))
-  where
-    go : (x y : Bool) → lotsIf x y (quotesFrom mid (c .«min_spread») (r .k) (r .base) l (r .vector)) ≡ Exact.Quotes q s → OutsideOf mid (answerFrom (r .vector) (r .k) (r .base) l) q s
-    go true true e = from-never mid (c .«min_spread») (r .k) (r .base) l (r .vector) q s e
-    go true false e = let z : _≡_ {A = ℕ} 0 1 = cc in absurd (omega arith)
-    go false y e = let z : _≡_ {A = ℕ} 0 1 = cc in absurd (omega arith)
-
 pub never-inside : NeverInside
 unfolding closedFormQuotes closedAnswer
 never-inside = record {
   exact = exact-never;
   optimal = optimal-never;
   closed = λ mid h c vol q e. closed-outside mid (c .«min_spread») (closedAnswer mid h c vol) q (closed-finite (driftlessModel mid h c vol)) e;
-  from = from-never;
-  lots = lots-never;
 }

@@ -10,16 +10,18 @@ use Rattle.distances.specs.declared.Sides.{Sides}
 use Rattle.distances.specs.declared.Sides.the-variants as Sides
 use Rattle.distances.specs.declared.Answer.{Answer}
 use Rattle.distances.specs.declared.Answer.the-variants as Answer
-use Rattle.quote.specs.Quotes.{side, widening, bidPrice, askPrice, Judged, quoted, refused, judgeIf, judge, quotesBy, buildQuotes, withSteps, exactBy, exactAnswer, exactQuotes, wrapped, optimalQuotes, ofJudged, closedBy, closedAnswer, closedFormQuotes, exactSteps}
-use Rattle.quote.specs.Promises.{Facing, Pair, ExactPairs, OptimalPairs, ClosedPairs}
-use Rattle.quote.specs.declared.Price.{Price}
-use Rattle.quote.specs.declared.Price.the-variants.{At, Absent}
-use Rattle.quote.specs.declared.GlftQuotes.{GlftQuotes}
+use Rattle.prices.specs.Prices.{side, widening, bidPrice, askPrice, Judged, quoted, refused, judgeIf, judge, quotesBy, buildQuotes}
+use Rattle.quote.specs.Quotes.{withSteps, exactBy, exactAnswer, exactQuotes, wrapped, optimalQuotes, ofJudged, closedBy, closedAnswer, closedFormQuotes, exactSteps}
+use Rattle.prices.specs.Facing.{Facing, Pair}
+use Rattle.quote.specs.Promises.{ExactPairs, OptimalPairs, ClosedPairs}
+use Rattle.prices.specs.declared.Price.{Price}
+use Rattle.prices.specs.declared.Price.the-variants.{At, Absent}
+use Rattle.prices.specs.declared.GlftQuotes.{GlftQuotes}
 use Rattle.quote.specs.declared.ExactQuotes.{ExactQuotes}
 use Rattle.quote.specs.declared.ExactQuotes.the-variants as Exact
 use Rattle.quote.specs.declared.OptimalQuotes.the-variants as Optimal
 use Rattle.quote.specs.declared.ClosedFormQuotes.the-variants as Closed
-use Rattle.quote.proofs.Signed.{around}
+use Rattle.amounts.proofs.Signed.{around}
 use Rattle.quote.proofs.Mirrors.{exact-mirror, exact-counted, closed-mirror}
 
 -- ---- prices

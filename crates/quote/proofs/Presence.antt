@@ -17,20 +17,22 @@ use Rattle.distances.specs.declared.Sides.the-variants as Sides
 use Rattle.distances.specs.declared.Answer.{Answer}
 use Rattle.distances.specs.declared.Answer.the-variants as Answer
 use Rattle.distances.proofs.Presence.{float-presence, sides-are}
-use Rattle.quote.specs.Configuration.{timeOk, configOk}
-use Rattle.quote.specs.Model.{lots, holdingOk, modelOf, modelFrom, modelBy, newModel, driftlessModel, tauOf}
+use Rattle.amounts.specs.Amounts.{timeOk, tauOf}
+use Rattle.model.specs.Configuration.{configOk}
+use Rattle.model.specs.Model.{lots, holdingOk, modelOf, modelFrom, modelBy, newModel, driftlessModel}
 use Rattle.quote.specs.ClosedForm.{slope, formBid, formAsk, bidForm, askForm, formIf, closedFormDistances}
-use Rattle.quote.specs.Quotes.{side, widening, bidPrice, askPrice, quoted, buildQuotes, exactFrom, exactIf, exactAnswer, exactBy, exactQuotes, optimalQuotes, closedFrom, closedAnswer, closedBy, closedFormQuotes}
+use Rattle.prices.specs.Prices.{side, widening, bidPrice, askPrice, quoted, buildQuotes}
+use Rattle.quote.specs.Quotes.{exactFrom, exactIf, exactAnswer, exactBy, exactQuotes, optimalQuotes, closedFrom, closedAnswer, closedBy, closedFormQuotes}
 use Rattle.quote.specs.Presence.{Presence, ExactPresence, OptimalPresence, ClosedPresence}
-use Rattle.quote.specs.declared.GLFTConfig.{GLFTConfig}
-use Rattle.quote.specs.declared.Model.{Model}
-use Rattle.quote.specs.declared.ModelAnswer.{ModelAnswer}
-use Rattle.quote.specs.declared.Price.the-variants.{Absent}
-use Rattle.quote.specs.declared.GlftQuotes.{GlftQuotes}
+use Rattle.model.specs.declared.GLFTConfig.{GLFTConfig}
+use Rattle.model.specs.declared.Model.{Model}
+use Rattle.model.specs.declared.ModelAnswer.{ModelAnswer}
+use Rattle.prices.specs.declared.Price.the-variants.{Absent}
+use Rattle.prices.specs.declared.GlftQuotes.{GlftQuotes}
 use Rattle.quote.specs.declared.ExactQuotes.the-variants as Exact
 use Rattle.quote.specs.declared.ClosedFormQuotes.the-variants as Closed
-use Rattle.quote.proofs.Signed.{natAbs-neg, ltZ-neg}
-use Rattle.quote.proofs.Passed.{Outcome, stopped, passed, outcome, lots-passed}
+use Rattle.amounts.proofs.Signed.{natAbs-neg, ltZ-neg}
+use Rattle.model.proofs.Passed.{Outcome, stopped, passed, outcome, lots-passed}
 use Rattle.quote.proofs.Pairs.{built-is, with-steps-is, wrapped-is, of-judged-is}
 
 -- ---- a price is absent where its distance is

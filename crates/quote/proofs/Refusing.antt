@@ -19,21 +19,24 @@ use Rattle.distances.specs.declared.Answer.{Answer}
 use Rattle.distances.specs.declared.Answer.the-variants as Answer
 use Rattle.distances.proofs.Refusing.{never, float-refusals}
 use Rattle.quote.specs.Refusals.{capped}
-use Rattle.quote.specs.Configuration.{timeOk, configLimits, configOk, configIf, newConfig}
-use Rattle.quote.specs.Model.{lots, marketOk, holdingOk, modelOk, modelOf, modelFrom, modelBy, modelIf, modelLimits, newModel, driftless, driftlessModel, tauOf}
+use Rattle.amounts.specs.Amounts.{timeOk, tauOf}
+use Rattle.model.specs.Configuration.{configOk}
+use Rattle.model.specs.Model.{lots, marketOk, holdingOk, modelOk, modelOf, modelFrom, modelBy, modelIf, modelLimits, newModel, driftless, driftlessModel}
 use Rattle.quote.specs.ClosedForm.{slope, bidForm, askForm, formIf, closedFormDistances}
-use Rattle.quote.specs.Quotes.{side, widening, bidPrice, askPrice, Judged, quoted, refused, judgeIf, judge, quotesBy, buildQuotes, withSteps, exactBy, exactFrom, exactIf, exactAnswer, exactQuotes, wrapped, optimalQuotes, ofJudged, closedBy, closedFrom, closedAnswer, closedFormQuotes}
-use Rattle.quote.specs.Promises.{Checked, Passed, Within, Ordered, Priced, PricedOf, by-13, by-14, ConfigRefused, config-2, config-1, ConfigRefusals, ModelRefusals, FormFails, by-slope, by-bid, by-ask, ExactRefusals, OptimalRefusals, ClosedRefusals}
-use Rattle.quote.specs.declared.GLFTConfig.{GLFTConfig}
-use Rattle.quote.specs.declared.ConfigAnswer.the-variants as ConfigAnswer
-use Rattle.quote.specs.declared.Model.{Model}
-use Rattle.quote.specs.declared.ModelAnswer.{ModelAnswer}
-use Rattle.quote.specs.declared.ModelAnswer.the-variants as ModelAnswer
+use Rattle.prices.specs.Prices.{side, widening, bidPrice, askPrice, Judged, quoted, refused, judgeIf, judge, quotesBy, buildQuotes}
+use Rattle.quote.specs.Quotes.{withSteps, exactBy, exactFrom, exactIf, exactAnswer, exactQuotes, wrapped, optimalQuotes, ofJudged, closedBy, closedFrom, closedAnswer, closedFormQuotes}
+use Rattle.model.specs.Refusing.{Checked, Passed}
+use Rattle.prices.specs.Refusing.{Within, Ordered, Priced, by-13, by-14}
+use Rattle.quote.specs.Promises.{PricedOf, FormFails, by-slope, by-bid, by-ask, ExactRefusals, OptimalRefusals, ClosedRefusals}
+use Rattle.model.specs.declared.GLFTConfig.{GLFTConfig}
+use Rattle.model.specs.declared.Model.{Model}
+use Rattle.model.specs.declared.ModelAnswer.{ModelAnswer}
+use Rattle.model.specs.declared.ModelAnswer.the-variants as ModelAnswer
 use Rattle.quote.specs.declared.ExactQuotes.{ExactQuotes}
 use Rattle.quote.specs.declared.ExactQuotes.the-variants as Exact
 use Rattle.quote.specs.declared.OptimalQuotes.the-variants as Optimal
 use Rattle.quote.specs.declared.ClosedFormQuotes.the-variants as Closed
-use Rattle.quote.proofs.Passed.{Outcome, stopped, passed, outcome, stops, bound-passed, lots-passed, tau-passed, floats-passed}
+use Rattle.model.proofs.Passed.{Outcome, stopped, passed, outcome, stops, bound-passed, lots-passed, tau-passed, floats-passed}
 
 -- ---- by the prices
 module _ (mid least : ℤ) where
@@ -69,28 +72,6 @@ module _ {R : Type 0} (refusal : ℕ → R) (g : ModelAnswer → R) (kept : (r :
     stopped-at n (outcome l v d m h f b q),
     λ x. elim x [ inl k ↦ ap g (stops b q k) ∙ kept n | inr k ↦ ap g (goes-on l v d m h f b q (k .0)) ∙ k .1 ],
   )
-
--- ---- the constructors
-pub config-refusals : ConfigRefusals
-unfolding newConfig configIf
-config-refusals c n = (to (configLimits c) (configOk c) refl refl, from n)
-  where
-    to : (l v : Bool) → configLimits c ≡ l → configOk c ≡ v → configIf l v c ≡ ConfigAnswer.Refused n → ConfigRefused c n
-    to false v el ev e = subst (λ (i : ℕ). ConfigRefused c i) (cc) (config-2 el)
-    to true false el ev e = subst (λ (i : ℕ). ConfigRefused c i) (cc) (config-1 el ev)
-    to true true el ev e = let z : _≡_ {A = ℕ} 0 1 = cc in absurd (omega arith)
-
-    from : (m : ℕ) → ConfigRefused c m → configIf (configLimits c) (configOk c) c ≡ ConfigAnswer.Refused m
-    from m (config-2 el) = rw el
-    from m (config-1 el ev) = rw (el, ev)
-
-model-stopped : {l v d m h f : Bool} {b : Model} {q : ℤ} {x : ModelAnswer} (n : ℕ) → Outcome l v d m h f b q x → x ≡ ModelAnswer.Refused n → Checked l v d m h f n
-model-stopped {l} {v} {d} {m} {h} {f} n (stopped {n = r} k) e = let z : r ≡ n = cc in subst (λ (i : ℕ). Checked l v d m h f i) z k
-model-stopped n (passed l v d m h f) e = let z : _≡_ {A = ℕ} 0 1 = cc in absurd (omega arith)
-
-pub model-refusals : ModelRefusals
-unfolding newModel
-model-refusals mid h c vol n = (model-stopped n (outcome _ _ _ _ _ _ _ _), stops _ _)
 
 -- both ways, put together
 joined : {A B C D P : Type 0} → (A ↔ (B ⊎ P)) → (B ↔ (C ⊎ D)) → (A ↔ (C ⊎ (D ⊎ P)))

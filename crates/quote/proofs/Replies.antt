@@ -16,17 +16,19 @@ use Rattle.distances.specs.declared.Distance.{Distance}
 use Rattle.distances.specs.declared.Answer.{Answer}
 use Rattle.distances.specs.declared.Answer.the-variants as Answer
 use Rattle.distances.proofs.Refusing.{never, float-reports}
-use Rattle.quote.specs.Refusals.{crossed}
-use Rattle.quote.specs.Configuration.{amountLimit, amountOk, above0, timeOk}
-use Rattle.quote.specs.Model.{newModel, tauOf}
-use Rattle.quote.specs.Quotes.{each, inOrder, judgeIf, judge, quotesBy, buildQuotes, withSteps, exactFrom, exactIf, exactAnswer, exactBy, exactQuotes, exactSteps}
-use Rattle.quote.specs.Promises.{Checked, by-2, by-1, by-22, by-3, by-4, by-5, Priced, by-13, by-14}
+use Rattle.prices.specs.Refusals.{crossed}
+use Rattle.amounts.specs.Amounts.{amountLimit, amountOk, above0, timeOk, tauOf}
+use Rattle.model.specs.Model.{newModel}
+use Rattle.prices.specs.Prices.{each, inOrder, judgeIf, judge, quotesBy, buildQuotes}
+use Rattle.quote.specs.Quotes.{withSteps, exactFrom, exactIf, exactAnswer, exactBy, exactQuotes, exactSteps}
+use Rattle.model.specs.Refusing.{Checked, by-2, by-1, by-22, by-3, by-4, by-5}
+use Rattle.prices.specs.Refusing.{Priced, by-13, by-14}
 use Rattle.quote.specs.Replies.{PriceKept, ReplyKept, RepliesKept}
-use Rattle.quote.specs.declared.GLFTConfig.{GLFTConfig}
-use Rattle.quote.specs.declared.ModelAnswer.{ModelAnswer}
-use Rattle.quote.specs.declared.ModelAnswer.the-variants as ModelAnswer
-use Rattle.quote.specs.declared.Price.{Price}
-use Rattle.quote.specs.declared.Price.the-variants.{At, Absent}
+use Rattle.model.specs.declared.GLFTConfig.{GLFTConfig}
+use Rattle.model.specs.declared.ModelAnswer.{ModelAnswer}
+use Rattle.model.specs.declared.ModelAnswer.the-variants as ModelAnswer
+use Rattle.prices.specs.declared.Price.{Price}
+use Rattle.prices.specs.declared.Price.the-variants.{At, Absent}
 use Rattle.quote.specs.declared.ExactQuotes.the-variants as Exact
 use Rattle.quote.proofs.Mirrors.{exact-counted}
 use Rattle.quote.proofs.Refusing.{exact-refusals}

@@ -11,7 +11,7 @@ use Rattle.distances.specs.declared.Distance.{Distance}
 use Rattle.distances.specs.declared.Distance.the-variants.{At, Absent}
 use Rattle.distances.specs.declared.Sides.{Sides}
 use Rattle.distances.specs.declared.Sides.the-variants as Sides
-use Rattle.quote.specs.declared.Model.{Model}
+use Rattle.model.specs.declared.Model.{Model}
 
 -- the slope c; a NaN where an elementary function refuses
 unfoldable pub slope : Model → Float

@@ -5,26 +5,22 @@ use mathlib.Core.Bool.{Bool, true, cond, _&&_}
 use lib.IntN.{ℤ, pos}
 use lib.Ieee.{Float}
 use Rattle.elementary.specs.Float.{positive}
-use Rattle.elementary.specs.Elementary.{outside}
-use Rattle.vector.specs.Values.{refusedVector}
-use Rattle.vector.specs.Drift.{valueVectorBefore}
 use Rattle.vector.specs.declared.FirstPlan.{FirstPlan}
 use Rattle.vector.specs.declared.FirstPlan.the-variants as FirstPlan
 use Rattle.distances.specs.Drift.{floatEntryBefore, floatStepsBefore, stepCountBefore}
 use Rattle.distances.specs.declared.Answer.{Answer}
 use Rattle.distances.specs.declared.Answer.the-variants as Answer
-use Rattle.quote.specs.Refusals.{limits}
-use Rattle.quote.specs.Configuration.{amountOk, timeOk, configOk, configIf, newConfig}
-use Rattle.quote.specs.Model.{lots, holdingOk, marketOk, modelOf, tauOf, modelIf, modelLimits, newModel}
+use Rattle.amounts.specs.Refusals.{limits}
+use Rattle.amounts.specs.Amounts.{amountOk, timeOk, tauOf}
+use Rattle.model.specs.Configuration.{configOk, configIf, newConfig}
+use Rattle.model.specs.Model.{lots, holdingOk, marketOk, modelOf, modelIf, modelLimits, newModel, checkIf, checkCall}
 use Rattle.quote.specs.Quotes.{exactBy, exactQuotes, wrapped, optimalQuotes, closedFrom, closedBy, closedFormQuotes, exactAnswer, exactSteps}
-use Rattle.quote.specs.Reckoning.{checkIf, checkCall, reckoning}
 use Rattle.quote.specs.Horizon.{deskPlan}
-use Rattle.quote.specs.declared.GLFTConfig.{GLFTConfig}
-use Rattle.quote.specs.declared.Model.{Model}
-use Rattle.quote.specs.declared.ModelAnswer.{ModelAnswer}
-use Rattle.quote.specs.declared.ModelAnswer.the-variants as ModelAnswer
-use Rattle.quote.specs.declared.reckoning.Check.{Check}
-use Rattle.quote.specs.declared.reckoning.Reckoning.{Reckoning}
+use Rattle.model.specs.declared.GLFTConfig.{GLFTConfig}
+use Rattle.model.specs.declared.Model.{Model}
+use Rattle.model.specs.declared.ModelAnswer.{ModelAnswer}
+use Rattle.model.specs.declared.ModelAnswer.the-variants as ModelAnswer
+use Rattle.model.specs.declared.Check.{Check}
 
 -- ---- the checks: no drift among the amounts, and seven floats
 unfoldable pub configLimitsBefore : GLFTConfig → Bool
@@ -66,16 +62,11 @@ planFromBefore (ModelAnswer.Model m q) tau = stepCountBefore (m .k) (m .alpha) (
 unfoldable pub deskPlanBefore : ℤ → ℤ → GLFTConfig → ℤ → ℕ → FirstPlan
 deskPlanBefore mid h c vol t = cond (timeOk t) (planFromBefore (newModelBefore mid h c vol) (tauOf (c .«terminal_time») t)) (FirstPlan.Refused limits)
 
--- ---- for a ladder: what refuses it as a whole, and its reckoning
+-- ---- for a ladder: what refuses it as a whole
 unfoldable pub checkCallBefore : ℤ → GLFTConfig → ℤ → ℕ → Check
 checkCallBefore mid c vol t = checkIf (timeOk t && modelLimitsBefore mid (pos 0) c vol) (configOk c) (marketOk mid vol)
 
-unfoldable pub reckoningBefore : GLFTConfig → ℤ → ℕ → Reckoning
-reckoningBefore c vol t =
-    let m = modelOf c vol in
-    record { k = m .k; base = m .base; vector = cond (modelOkBefore m) (valueVectorBefore (m .alpha) (m .eta) (m .«q_max») (tauOf (c .«terminal_time») t)) (refusedVector outside) }
-
--- ---- the limits, the constructors, the answers before prices, the quotes, the steps, the plan; and for a ladder the check and the reckoning
+-- ---- the limits, the constructors, the answers before prices, the quotes, the steps, the plan; and for a ladder the check
 pub record DriftZero : Type 0 where
   pub limits-fit : (mid h : ℤ) (c : GLFTConfig) (vol : ℤ) → c .drift ≡ pos 0 → modelLimits mid h c vol ≡ modelLimitsBefore mid h c vol
   pub config : (c : GLFTConfig) → c .drift ≡ pos 0 → newConfig c ≡ configIf (configLimitsBefore c) (configOk c) c
@@ -87,4 +78,3 @@ pub record DriftZero : Type 0 where
   pub closed : (mid h : ℤ) (c : GLFTConfig) (vol : ℤ) → c .drift ≡ pos 0 → closedFormQuotes mid h c vol ≡ closedBy mid (c .«min_spread») (closedFrom (newModelBefore mid h c vol))
   pub plan : (mid h : ℤ) (c : GLFTConfig) (vol : ℤ) (t : ℕ) → c .drift ≡ pos 0 → deskPlan mid h c vol t ≡ deskPlanBefore mid h c vol t
   pub check : (mid : ℤ) (c : GLFTConfig) (vol : ℤ) (t : ℕ) → c .drift ≡ pos 0 → checkCall mid c vol t ≡ checkCallBefore mid c vol t
-  pub reckoned : (c : GLFTConfig) (vol : ℤ) (t : ℕ) → c .drift ≡ pos 0 → reckoning c vol t ≡ reckoningBefore c vol t

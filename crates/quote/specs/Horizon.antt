@@ -12,15 +12,17 @@ use Rattle.vector.specs.Count.{firstSize, FirstGoes}
 use Rattle.vector.specs.declared.FirstPlan.{FirstPlan}
 use Rattle.vector.specs.declared.FirstPlan.the-variants as FirstPlan
 use Rattle.distances.specs.Count.{stepCount}
-use Rattle.quote.specs.Refusals.{limits}
-use Rattle.quote.specs.Configuration.{timeOk, configOk}
-use Rattle.quote.specs.Model.{marketOk, holdingOk, modelOk, modelOf, modelLimits, newModel, tauOf}
+use Rattle.amounts.specs.Refusals.{limits}
+use Rattle.amounts.specs.Amounts.{timeOk, tauOf}
+use Rattle.model.specs.Configuration.{configOk}
+use Rattle.model.specs.Model.{marketOk, holdingOk, modelOk, modelOf, modelLimits, newModel}
 use Rattle.quote.specs.Quotes.{exactQuotes, exactSteps}
-use Rattle.quote.specs.Promises.{Passed, ExactChecked}
-use Rattle.quote.specs.declared.GLFTConfig.{GLFTConfig}
-use Rattle.quote.specs.declared.Model.{Model}
-use Rattle.quote.specs.declared.ModelAnswer.{ModelAnswer}
-use Rattle.quote.specs.declared.ModelAnswer.the-variants as ModelAnswer
+use Rattle.model.specs.Refusing.{Passed}
+use Rattle.quote.specs.Promises.{ExactChecked}
+use Rattle.model.specs.declared.GLFTConfig.{GLFTConfig}
+use Rattle.model.specs.declared.Model.{Model}
+use Rattle.model.specs.declared.ModelAnswer.{ModelAnswer}
+use Rattle.model.specs.declared.ModelAnswer.the-variants as ModelAnswer
 use Rattle.quote.specs.declared.ExactQuotes.the-variants as ExactQuotes
 
 -- the count of the model's floats

@@ -1,14 +1,10 @@
 pub mod Refusals
-pub mod Configuration
-pub mod Model
 pub mod ClosedForm
-pub mod Rounding
 pub mod Quotes
 pub mod Inner
 pub mod Promises
 pub mod Replies
 pub mod Presence
-pub mod Reckoning
 pub mod Outward
 pub mod Horizon
 pub mod Drift

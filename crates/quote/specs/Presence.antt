@@ -3,11 +3,11 @@ use mathlib.Core.Path.{_≡_}
 use mathlib.Core.Logic.{_↔_}
 use Prim.Native.Nat.{ℕ}
 use lib.IntN.{ℤ, pos, negℤ}
-use Rattle.quote.specs.Model.{lots}
+use Rattle.model.specs.Model.{lots}
 use Rattle.quote.specs.Quotes.{exactQuotes, optimalQuotes, closedFormQuotes}
-use Rattle.quote.specs.declared.GLFTConfig.{GLFTConfig}
-use Rattle.quote.specs.declared.Price.the-variants.{Absent}
-use Rattle.quote.specs.declared.GlftQuotes.{GlftQuotes}
+use Rattle.model.specs.declared.GLFTConfig.{GLFTConfig}
+use Rattle.prices.specs.declared.Price.the-variants.{Absent}
+use Rattle.prices.specs.declared.GlftQuotes.{GlftQuotes}
 use Rattle.quote.specs.declared.ExactQuotes.the-variants as Exact
 use Rattle.quote.specs.declared.OptimalQuotes.the-variants as Optimal
 use Rattle.quote.specs.declared.ClosedFormQuotes.the-variants as Closed

@@ -1,14 +1,12 @@
 -- The buyer's first and third demands for the entries of this layer, as named statements. Each is proved once, in proofs/. Definitions only.
 use mathlib.Core.Path.{_≡_}
 use Prim.Native.Nat.{ℕ, _≤_}
-use mathlib.Core.Bool.{Bool, true, false, _&&_}
+use mathlib.Core.Bool.{true, false, _&&_}
 use mathlib.Core.Logic.{_⊎_, _↔_}
-use lib.IntN.{ℤ, negℤ, _+ℤ_}
+use lib.IntN.{ℤ, negℤ}
 use lib.Ieee.{Float}
 use Rattle.elementary.specs.Float.{positive}
-use Rattle.elementary.specs.Elementary.{outside}
-use Rattle.vector.specs.Refusals.{configuration, numerical}
-use Rattle.distances.specs.Refusals.{holding}
+use Rattle.vector.specs.Refusals.{numerical}
 use Rattle.vector.specs.Run.{cap}
 use Rattle.distances.specs.Distances.{fine}
 use Rattle.distances.specs.Refusing.{EntryFails}
@@ -17,37 +15,24 @@ use Rattle.distances.specs.declared.Distance.{Distance}
 use Rattle.distances.specs.declared.Sides.the-variants as Sides
 use Rattle.distances.specs.declared.Answer.{Answer}
 use Rattle.distances.specs.declared.Answer.the-variants as Answer
-use Rattle.quote.specs.Refusals.{limits, market, capped, beyond, crossed, drifting}
-use Rattle.quote.specs.Configuration.{amountOk, above0, timeOk, configLimits, configOk, newConfig}
-use Rattle.quote.specs.Model.{lots, modelLimits, driftless, marketOk, holdingOk, modelOk, modelOf, tauOf, newModel}
+use Rattle.quote.specs.Refusals.{capped}
+use Rattle.amounts.specs.Amounts.{timeOk, tauOf}
+use Rattle.model.specs.Configuration.{configOk, turned}
+use Rattle.model.specs.Model.{lots, modelLimits, driftless, marketOk, holdingOk, modelOk, modelOf}
 use Rattle.quote.specs.ClosedForm.{slope, bidForm, askForm}
-use Rattle.quote.specs.Quotes.{side, widening, bidPrice, askPrice, each, inOrder, exactAnswer, optimalAnswer, closedAnswer, exactSteps, exactBy, exactQuotes, wrapped, optimalQuotes, closedFormQuotes}
-use Rattle.quote.specs.declared.GLFTConfig.{GLFTConfig}
-use Rattle.quote.specs.declared.ConfigAnswer.the-variants as ConfigAnswer
-use Rattle.quote.specs.declared.Model.{Model}
-use Rattle.quote.specs.declared.ModelAnswer.the-variants as ModelAnswer
-use Rattle.quote.specs.declared.Price.{Price}
-use Rattle.quote.specs.declared.Price.the-variants.{At, Absent}
-use Rattle.quote.specs.declared.GlftQuotes.{GlftQuotes}
+use Rattle.quote.specs.Quotes.{exactAnswer, optimalAnswer, closedAnswer, exactSteps, exactBy, exactQuotes, wrapped, optimalQuotes, closedFormQuotes}
+use Rattle.model.specs.declared.GLFTConfig.{GLFTConfig}
+use Rattle.model.specs.declared.Model.{Model}
+use Rattle.prices.specs.declared.GlftQuotes.{GlftQuotes}
 use Rattle.quote.specs.declared.ExactQuotes.the-variants as Exact
 use Rattle.quote.specs.declared.OptimalQuotes.the-variants as Optimal
 use Rattle.quote.specs.declared.ClosedFormQuotes.the-variants as Closed
+use Rattle.model.specs.Refusing.{Checked, Passed}
+use Rattle.prices.specs.Refusing.{Priced}
+use Rattle.prices.specs.Facing.{Pair}
 
 -- ==== Demand 3, as change request 7 has it: two calls of one entry, alike in all but the holding and the drift, which the second has with the other sign.
 -- The opposite of a 64-bit number is a number of ℤ always, so nothing is asked here; where 64 bits hold both, there is a second call.
-abbrev pub turned : GLFTConfig → GLFTConfig
-turned c =
-    record {
-      «risk_aversion» = c .«risk_aversion»;
-      «order_intensity_k» = c .«order_intensity_k»;
-      «intensity_scale_a» = c .«intensity_scale_a»;
-      «max_inventory_lots» = c .«max_inventory_lots»;
-      «lot_size» = c .«lot_size»;
-      «terminal_time» = c .«terminal_time»;
-      «min_spread» = c .«min_spread»;
-      drift = negℤ (c .drift);
-    }
-
 -- ---- (a) before prices: the same report or refusal, or the distances exchanged bit for bit, an absent side facing an absent one; the defined run's
 -- steps agree, under a refusal too, and are at most 11,000
 abbrev pub ExactMirror : Type 0
@@ -62,18 +47,7 @@ OptimalMirror = (mid h : ℤ) (c : GLFTConfig) (vol : ℤ) (t : ℕ)
 abbrev pub ClosedMirror : Type 0
 ClosedMirror = (mid h : ℤ) (c : GLFTConfig) (vol : ℤ) → closedAnswer mid (negℤ h) (turned c) vol ≡ exchangedSides (closedAnswer mid h c vol)
 
--- ---- (b) prices that face each other: both absent, or adding up to exactly twice the mid
-unfoldable pub Facing : ℤ → Price → Price → Type 0
-Facing mid Absent Absent = Unit {0}
-Facing mid Absent (At a) = ⊥
-Facing mid (At b) Absent = ⊥
-Facing mid (At b) (At a) = b +ℤ a ≡ mid +ℤ mid
-
--- the bid of each call faces the ask of the other: this covers every q from minus the bound to one below it, widened or not
-pub record Pair (mid : ℤ) (q q′ : GlftQuotes) : Type 0 where
-  pub bid : Facing mid (q .bid) (q′ .ask)
-  pub ask : Facing mid (q′ .bid) (q .ask)
-
+-- ---- (b) prices that face each other (prices, Facing)
 -- Quotes may be refused at one sign alone: 13 and 14 look at prices, and prices are not exchanged. With mid 9 × 10^15 billionths, tau 0 and bound 1,
 -- the holding of 1 lot has an ask alone, above the limit: 13; minus 1 lot has a bid alone, which is fine.
 abbrev pub ExactPairs : Type 0
@@ -95,38 +69,11 @@ ClosedPairs = (mid h : ℤ) (c : GLFTConfig) (vol : ℤ) (q q′ : GlftQuotes)
 
 -- ==== Demand 1: each refusal is the reply in just the situation that document 01 names
 
--- the numbers' checks, in order: the situation of 2, 1, 22, 3, 4 and 5, each where none before it holds; the closed form alone asks for no drift
-pub data Checked : Bool → Bool → Bool → Bool → Bool → Bool → ℕ → Type 0 where
-  by-2 : {v d m h f : Bool} → Checked false v d m h f limits
-  by-1 : {d m h f : Bool} → Checked true false d m h f configuration
-  by-22 : {m h f : Bool} → Checked true true false m h f drifting
-  by-3 : {h f : Bool} → Checked true true true false h f market
-  by-4 : {f : Bool} → Checked true true true true false f holding
-  by-5 : Checked true true true true true false outside
-
--- they all pass
-abbrev pub Passed : Bool → Bool → Bool → Bool → Bool → Bool → Type 0
-Passed l v d m h f = (l ≡ true) × (v ≡ true) × (d ≡ true) × (m ≡ true) × (h ≡ true) × (f ≡ true)
-
 abbrev pub ExactChecked : ℤ → ℤ → GLFTConfig → ℤ → ℕ → ℕ → Type 0
 ExactChecked mid h c vol t n = Checked (timeOk t && modelLimits mid h c vol) (configOk c) true (marketOk mid vol) (holdingOk h c) (modelOk (modelOf c vol)) n
 
-abbrev pub ModelChecked : ℤ → ℤ → GLFTConfig → ℤ → ℕ → Type 0
-ModelChecked mid h c vol n = Checked (modelLimits mid h c vol) (configOk c) true (marketOk mid vol) (holdingOk h c) (modelOk (modelOf c vol)) n
-
 abbrev pub ClosedChecked : ℤ → ℤ → GLFTConfig → ℤ → ℕ → Type 0
 ClosedChecked mid h c vol n = Checked (modelLimits mid h c vol) (configOk c) (driftless c) (marketOk mid vol) (holdingOk h c) (modelOk (modelOf c vol)) n
-
--- the two constructors: the configuration's is refused by 2, then 1; the model's by all but 22
-pub data ConfigRefused (c : GLFTConfig) : ℕ → Type 0 where
-  config-2 : configLimits c ≡ false → ConfigRefused c limits
-  config-1 : configLimits c ≡ true → configOk c ≡ false → ConfigRefused c configuration
-
-abbrev pub ConfigRefusals : Type 0
-ConfigRefusals = (c : GLFTConfig) (n : ℕ) → (newConfig c ≡ ConfigAnswer.Refused n) ↔ ConfigRefused c n
-
-abbrev pub ModelRefusals : Type 0
-ModelRefusals = (mid h : ℤ) (c : GLFTConfig) (vol : ℤ) (n : ℕ) → (newModel mid h c vol ≡ ModelAnswer.Refused n) ↔ ModelChecked mid h c vol n
 
 -- 11: they all pass, and the float entry fails from the model's floats: its run does, or a read of its vector
 abbrev pub ExactFails : ℤ → ℤ → GLFTConfig → ℤ → ℕ → Type 0
@@ -144,22 +91,6 @@ pub data FormFails (m : Model) (q : ℤ) : Type 0 where
 abbrev pub ClosedFails : ℤ → ℤ → GLFTConfig → ℤ → Type 0
 ClosedFails mid h c vol =
     let m = modelOf c vol in Passed (modelLimits mid h c vol) (configOk c) (driftless c) (marketOk mid vol) (holdingOk h c) (modelOk m) × FormFails m (lots h c)
-
--- prices from distances: 13 where a rounded distance or a price in its last form is beyond the limit; 14 where that is not so and a price is not positive or
--- bid is not below ask
-abbrev pub Within : ℤ → ℤ → Distance → Distance → Bool
-Within mid least b a =
-    let w = widening least (side b) (side a) in
-    each amountOk (side b) && each amountOk (side a) && each amountOk (bidPrice mid w (side b)) && each amountOk (askPrice mid w (side a))
-
-abbrev pub Ordered : ℤ → ℤ → Distance → Distance → Bool
-Ordered mid least b a =
-    let w = widening least (side b) (side a) in
-    each above0 (bidPrice mid w (side b)) && each above0 (askPrice mid w (side a)) && inOrder (bidPrice mid w (side b)) (askPrice mid w (side a))
-
-pub data Priced (mid least : ℤ) (b a : Distance) : ℕ → Type 0 where
-  by-13 : Within mid least b a ≡ false → Priced mid least b a beyond
-  by-14 : Within mid least b a ≡ true → Ordered mid least b a ≡ false → Priced mid least b a crossed
 
 -- an answer has distances, and their prices are refused
 abbrev pub PricedOf : ℤ → ℤ → Answer → ℕ → Type 0

@@ -6,12 +6,12 @@ use lib.IntN.{ℤ, pos, negsuc}
 use lib.Dec.{T}
 use lib.Ieee.{isNan}
 use Rattle.vector.specs.Run.{cap}
-use Rattle.quote.specs.Refusals.{crossed}
-use Rattle.quote.specs.Configuration.{amountLimit}
+use Rattle.prices.specs.Refusals.{crossed}
+use Rattle.amounts.specs.Amounts.{amountLimit}
 use Rattle.quote.specs.Quotes.{exactQuotes}
-use Rattle.quote.specs.declared.GLFTConfig.{GLFTConfig}
-use Rattle.quote.specs.declared.Price.{Price}
-use Rattle.quote.specs.declared.Price.the-variants.{At, Absent}
+use Rattle.model.specs.declared.GLFTConfig.{GLFTConfig}
+use Rattle.prices.specs.declared.Price.{Price}
+use Rattle.prices.specs.declared.Price.the-variants.{At, Absent}
 use Rattle.quote.specs.declared.ExactQuotes.{ExactQuotes}
 use Rattle.quote.specs.declared.ExactQuotes.the-variants.{Quotes, OverStepCap, Refused}
 

@@ -1,35 +1,9 @@
-// The model of a closed-form call, and the distances of the closed form.
+// The distances of the closed form.
 ghost use mathlib.Core.Path.{_≡_};
-ghost use Rattle.quote.specs.Model.{driftlessModel};
 ghost use Rattle.quote.specs.ClosedForm.{slope, formBid, formAsk, closedFormDistances};
-use crate::GLFTConfig;
-use crate::Model;
-use crate::ModelAnswer;
-use crate::refusals;
 use distances::Distance;
 use distances::Sides;
-
-// The model, where there is no drift: refused by 2, then 1, 22, 3, 4 and 5.
-pub(crate) fn driftless_model(
-    mid_price: i64,
-    inventory: i64,
-    config: GLFTConfig,
-    volatility: i64,
-) -> ModelAnswer
-    ensures { λ r. ⌜ r ≡ driftlessModel «mid_price» inventory config volatility ⌝ }
-{
-    let no_drift = config.drift == 0;
-    if no_drift {
-        return Model::new(mid_price, inventory, config, volatility);
-    }
-    if crate::parameters::limits_fit(mid_price, inventory, config, volatility) {
-        if crate::config::validate(config) {
-            return ModelAnswer::Refused(refusals::DRIFT);
-        }
-        return ModelAnswer::Refused(vector::refusals::CONFIGURATION);
-    }
-    ModelAnswer::Refused(refusals::LIMITS)
-}
+use model::Model;
 
 // The slope c, or a NaN.
 fn slope_of(m: Model) -> f64

@@ -1,11 +1,11 @@
 // Whether a horizon is too long: the steps of the first plan, before anything runs.
 ghost use mathlib.Core.Path.{_≡_};
 ghost use Rattle.quote.specs.Horizon.{deskPlan};
-use crate::GLFTConfig;
-use crate::Model;
-use crate::ModelAnswer;
-use crate::parameters;
-use crate::refusals;
+use amounts::refusals::LIMITS;
+use amounts::seconds_to_terminal;
+use model::GLFTConfig;
+use model::Model;
+use model::ModelAnswer;
 use vector::FirstPlan;
 
 // The steps of the first plan that `exact_quotes` makes, or its cap report; 0 where no time is left.
@@ -20,12 +20,12 @@ pub fn first_plan(
     ensures { λ r. ⌜ r ≡ deskPlan «mid_price» inventory config volatility «current_time» ⌝ }
 {
     if current_time > GLFTConfig::MAX_TIME {
-        return FirstPlan::Refused(refusals::LIMITS);
+        return FirstPlan::Refused(LIMITS);
     }
     let terminal = config.terminal_time;
     match Model::new(mid_price, inventory, config, volatility) {
         ModelAnswer::Model(m, q) => {
-            let tau = parameters::seconds_to_terminal(terminal, current_time);
+            let tau = seconds_to_terminal(terminal, current_time);
             distances::step_count(m.k, m.alpha, m.beta, m.eta, m.base, m.q_max, tau, q)
         }
         ModelAnswer::Refused(number) => FirstPlan::Refused(number),

@@ -1,20 +1,9 @@
-// The numbers that refuse in this layer, as specs/Refusals.antt has them. 1, 4, 5 and 11 stand in the
-// layers below.
-
-// An amount or a time beyond its limit.
-pub const LIMITS: u8 = 2;
-
-// Mid or volatility not positive.
-pub const MARKET: u8 = 3;
+// The numbers that refuse, as specs/Refusals.antt of this layer and of those below have them.
+pub use amounts::refusals::BEYOND;
+pub use amounts::refusals::LIMITS;
+pub use model::refusals::DRIFT;
+pub use model::refusals::MARKET;
+pub use prices::refusals::CROSSED;
 
 // Over the step cap, from the wrapper alone.
 pub const CAPPED: u8 = 12;
-
-// A rounded distance or a price beyond the limit.
-pub const BEYOND: u8 = 13;
-
-// Bid not positive, ask not positive, or bid not below ask.
-pub const CROSSED: u8 = 14;
-
-// A drift in a closed-form call.
-pub const DRIFT: u8 = 22;

@@ -2,8 +2,9 @@
 use mathlib.Core.Path.{_≡_, refl, ap}
 use Prim.Native.Nat.{ℕ}
 use lib.IntN.{ℤ, pos}
-use Rattle.quote.specs.declared.GLFTConfig.{GLFTConfig}
+use Rattle.model.specs.declared.GLFTConfig.{GLFTConfig}
 use Rattle.quote.proofs.Drift.{drift-zero as quote-zero}
+use Rattle.lots.proofs.Drift.{drift-zero as reckoned-zero}
 use Rattle.sheet.specs.Record.{configOf, recordOk}
 use Rattle.sheet.specs.Lines.{answerLine}
 use Rattle.sheet.specs.Sheet.{recordLine}
@@ -22,7 +23,7 @@ line-same r = ap answerLine (quote-zero .exact (r .«mid_price») (r .inventory)
 
 ladder-same : (mid : ℤ) (c : GLFTConfig) (vol : ℤ) (t room : ℕ) → c .drift ≡ pos 0 → ladderFor mid c vol t room ≡ ladderForBefore mid c vol t room
 unfolding ladderFor ladderForBefore ladder
-ladder-same mid c vol t room e = rw (quote-zero .check mid c vol t e, quote-zero .reckoned c vol t e)
+ladder-same mid c vol t room e = rw (quote-zero .check mid c vol t e, reckoned-zero c vol t e)
 
 pub drift-zero : DriftZero
 unfolding recordOk recordOkBefore recordPlan recordPlanBefore recordLadder recordLadderBefore

@@ -9,7 +9,7 @@ use mathlib.Core.List.{List}
 use borrow.Author.Tests.{ltb-true, ltb-false, leb-true, leb-false}
 use lib.ListN.{length, drop}
 use lib.Dec.{ltb, leb, lit<}
-use Rattle.quote.specs.Refusals.{limits}
+use Rattle.amounts.specs.Refusals.{limits}
 use Rattle.sheet.specs.Refusals.{longSheet}
 use Rattle.sheet.specs.Record.{Read, taken, refused, numbers, fields, recordOf, recordOk, recordIf, recordFrom, asHeld, heldAs, readAs}
 use Rattle.sheet.specs.Lines.{refusalLine}

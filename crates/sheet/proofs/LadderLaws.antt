@@ -10,13 +10,14 @@ use borrow.Author.Tests.{leb-true, leb-false, lt-leb, lt-ltb, le-ltb, ltb-true, 
 use lib.IntN.{ℤ, pos, negsuc, negℤ, subℕ, _-ℤ_}
 use lib.ListN.{length}
 use lib.Dec.{leb, ltb}
-use Rattle.quote.specs.Promises.{turned}
-use Rattle.quote.specs.Reckoning.{checkCall, reckoning, holdingOf}
-use Rattle.quote.specs.declared.GLFTConfig.{GLFTConfig}
-use Rattle.quote.specs.declared.reckoning.Check.{Check}
-use Rattle.quote.specs.declared.reckoning.Check.the-variants as Check
-use Rattle.quote.proofs.Lots.{lots-are-single}
-use Rattle.quote.proofs.OneRun.{check-turned, lots-mirror, one-run, check-refusals}
+use Rattle.model.specs.Configuration.{turned}
+use Rattle.model.specs.Model.{checkCall}
+use Rattle.lots.specs.Reckoning.{reckoning, holdingOf}
+use Rattle.model.specs.declared.GLFTConfig.{GLFTConfig}
+use Rattle.model.specs.declared.Check.{Check}
+use Rattle.model.specs.declared.Check.the-variants as Check
+use Rattle.lots.proofs.Lots.{lots-are-single}
+use Rattle.lots.proofs.OneRun.{check-turned, lots-mirror, one-run, check-refusals}
 use Rattle.sheet.specs.Refusals.{smallLadderBuffer}
 use Rattle.sheet.specs.Record.{configOf}
 use Rattle.sheet.specs.Lines.{answerLine}

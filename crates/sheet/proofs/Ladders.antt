@@ -9,11 +9,11 @@ use borrow.Author.Tests.{leb-true, le-leb}
 use lib.IntN.{ℤ}
 use lib.ListN.{length}
 use lib.Dec.{leb, lit<}
-use Rattle.quote.specs.Refusals.{limits}
-use Rattle.quote.specs.Reckoning.{checkIf, checkCall}
-use Rattle.quote.specs.declared.GLFTConfig.{GLFTConfig}
-use Rattle.quote.specs.declared.reckoning.Check.{Check}
-use Rattle.quote.specs.declared.reckoning.Check.the-variants as Check
+use Rattle.amounts.specs.Refusals.{limits}
+use Rattle.model.specs.Model.{checkIf, checkCall}
+use Rattle.model.specs.declared.GLFTConfig.{GLFTConfig}
+use Rattle.model.specs.declared.Check.{Check}
+use Rattle.model.specs.declared.Check.the-variants as Check
 use Rattle.sheet.specs.Refusals.{smallLadderBuffer}
 use Rattle.sheet.specs.Record.{configOf}
 use Rattle.sheet.specs.Lines.{refusalLine}

@@ -11,9 +11,10 @@ use lib.Signed.{leZ, nonNeg}
 use lib.Dec.{T, leb, eqb, leb→le}
 use mir.Syntax.{w64}
 use mir.Val.{Fits, toZ, ofZ}
-use Rattle.quote.specs.Configuration.{amountLimit, timeLimit, amountOk, timeOk, configLimits}
-use Rattle.quote.specs.Model.{modelLimits}
-use Rattle.quote.proofs.Limits.{kept}
+use Rattle.amounts.specs.Amounts.{amountLimit, timeLimit, amountOk, timeOk}
+use Rattle.model.specs.Configuration.{configLimits}
+use Rattle.model.specs.Model.{modelLimits}
+use Rattle.amounts.proofs.Limits.{kept}
 use Rattle.sheet.specs.Record.{holdingBy, holding, recordOf, configOf, mostBound, recordOk}
 
 -- ---- an amount within the limit, as the machine holds it

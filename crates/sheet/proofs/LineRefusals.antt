@@ -9,11 +9,13 @@ use borrow.Author.Tests.{leb-true, leb-false}
 use lib.IntN.{ℤ}
 use lib.ListN.{length, getD, drop}
 use lib.Dec.{leb}
-use Rattle.quote.specs.Refusals.{limits}
-use Rattle.quote.specs.Configuration.{timeOk}
-use Rattle.quote.specs.Model.{modelLimits}
+use Rattle.amounts.specs.Refusals.{limits}
+use Rattle.amounts.specs.Amounts.{timeOk}
+use Rattle.model.specs.Model.{modelLimits}
 use Rattle.quote.specs.Quotes.{exactQuotes}
-use Rattle.quote.specs.Promises.{Checked, by-2, by-1, by-22, by-3, by-4, by-5, Priced, by-13, by-14, ExactRefused}
+use Rattle.model.specs.Refusing.{Checked, by-2, by-1, by-22, by-3, by-4, by-5}
+use Rattle.prices.specs.Refusing.{Priced, by-13, by-14}
+use Rattle.quote.specs.Promises.{ExactRefused}
 use Rattle.quote.specs.declared.ExactQuotes.{ExactQuotes}
 use Rattle.quote.specs.declared.ExactQuotes.the-variants as ExactQuotes
 use Rattle.quote.proofs.Refusing.{exact-refusals}

@@ -7,7 +7,7 @@ use mathlib.Core.Bool.{Bool, true, false}
 use mathlib.Core.List.{List}
 use borrow.Author.Tests.{leb-false, lt-leb}
 use lib.ListN.{length, drop}
-use Rattle.quote.specs.Refusals.{limits}
+use Rattle.amounts.specs.Refusals.{limits}
 use Rattle.sheet.specs.Refusals.{smallBuffer}
 use Rattle.sheet.specs.Record.{Read, taken, refused, numbers, fields, recordOf, recordOk, recordIf, recordFrom, readRecord}
 use Rattle.sheet.specs.Sheet.{leastRoom, Step, line, end, lineAt, hasRoom, answered}

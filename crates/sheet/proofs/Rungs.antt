@@ -11,14 +11,15 @@ use borrow.Rule.Slice.PartMut.{midOf, putMid}
 use lib.IntN.{ℤ, pos, negsuc, natAbs, _-ℤ_}
 use lib.ListN.{length, length-append}
 use lib.Dec.{leb, ltb}
-use Rattle.quote.specs.Reckoning.{checkCall, reckoning, holdingOf, quotesOfLots}
+use Rattle.model.specs.Model.{checkCall}
+use Rattle.lots.specs.Reckoning.{reckoning, holdingOf, quotesOfLots}
 use Rattle.quote.specs.Replies.{ReplyKept}
-use Rattle.quote.specs.declared.GLFTConfig.{GLFTConfig}
-use Rattle.quote.specs.declared.reckoning.Check.the-variants as Check
-use Rattle.quote.specs.declared.reckoning.Reckoning.{Reckoning}
-use Rattle.quote.proofs.Passed.{bound-passed}
+use Rattle.model.specs.declared.GLFTConfig.{GLFTConfig}
+use Rattle.model.specs.declared.Check.the-variants as Check
+use Rattle.lots.specs.declared.Reckoning.{Reckoning}
+use Rattle.model.proofs.Passed.{bound-passed}
 use Rattle.quote.proofs.Replies.{replies-kept}
-use Rattle.quote.proofs.Lots.{config-checked, lots-are-single}
+use Rattle.lots.proofs.Lots.{config-checked, lots-are-single}
 use Rattle.sheet.specs.Lines.{refusalLine, over}
 use Rattle.sheet.specs.Sheet.{leastRoom}
 use Rattle.sheet.specs.Ladder.{rungs, lotAt, ladderLine, ladderLines, ladder, ladderRoom, Ladder, written, refused, ladderIf, ladderFor, ladderAnswer, ladderLeft, laddered, ladderedIn, ladderText}

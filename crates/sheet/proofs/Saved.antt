@@ -10,7 +10,7 @@ use lib.ListN.{length, take, drop, length-append, length-drop}
 use lib.Seq.{take-at, drop-at, take-append-seam}
 use lib.Dec.{T, leb, leb·zero}
 use mir.Facts.{and-yes}
-use Rattle.quote.specs.Refusals.{limits}
+use Rattle.amounts.specs.Refusals.{limits}
 use Rattle.sheet.specs.Refusals.{smallRecordBuffer}
 use Rattle.sheet.specs.Record.{Read, taken, refused, numbers, fields, recordOf, recordOk, recordIf, recordFrom, readRecord}
 use Rattle.sheet.specs.Lines.{over}

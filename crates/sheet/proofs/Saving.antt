@@ -14,8 +14,8 @@ use lib.Signed.{leZ}
 use lib.Dec.{T, lit<}
 use mir.Facts.{and-yes}
 use borrow.Rule.Slice.PartMut.{midOf, putMid}
-use Rattle.quote.specs.Refusals.{limits}
-use Rattle.quote.specs.Configuration.{amountLimit}
+use Rattle.amounts.specs.Refusals.{limits}
+use Rattle.amounts.specs.Amounts.{amountLimit}
 use Rattle.sheet.specs.Refusals.{smallRecordBuffer}
 use Rattle.sheet.specs.Record.{taken, _then_, number, numbers, mostGroups, fields, stored, recordOf, recordOk}
 use Rattle.sheet.specs.Lines.{over}

@@ -10,7 +10,7 @@ use lib.IntN.{ℤ, pos, negsuc}
 use lib.ListN.{length, drop, length-drop, drop-of-length-le}
 use lib.Dec.{ltb, leb, eqb}
 use Rattle.quote.proofs.Replies.{replies-kept}
-use Rattle.quote.specs.Refusals.{limits}
+use Rattle.amounts.specs.Refusals.{limits}
 use Rattle.sheet.specs.Refusals.{longSheet}
 use Rattle.sheet.specs.Record.{Read, taken, refused, _then_, group, groups, number, numbers, fields, stored, holdingBy, holding, recordOf, configOf, recordOk, recordIf, recordFrom, readRecord, readAs}
 use Rattle.sheet.specs.Lines.{refusalLine}

@@ -7,9 +7,9 @@ use lib.ListN.{length, length-append}
 use lib.IntN.{pos, negsuc}
 use lib.Ieee.{Float, binary64, toBits}
 use Rattle.quote.specs.Replies.{PriceKept, ReplyKept}
-use Rattle.quote.specs.declared.Price.{Price}
-use Rattle.quote.specs.declared.Price.the-variants.{At, Absent}
-use Rattle.quote.specs.declared.GlftQuotes.{GlftQuotes}
+use Rattle.prices.specs.declared.Price.{Price}
+use Rattle.prices.specs.declared.Price.the-variants.{At, Absent}
+use Rattle.prices.specs.declared.GlftQuotes.{GlftQuotes}
 use Rattle.quote.specs.declared.ExactQuotes.{ExactQuotes}
 use Rattle.quote.specs.declared.ExactQuotes.the-variants as ExactQuotes
 use Rattle.sheet.specs.Lines.{digits, count, price, side, hex, joined, quotesLine, capLine, refusalLine, answerLine}

@@ -5,10 +5,11 @@ use mathlib.Core.Bool.{Bool, _&&_}
 use mathlib.Core.List.{List}
 use lib.IntN.{ℤ, pos}
 use lib.Dec.{leb}
-use Rattle.quote.specs.Configuration.{timeOk}
+use Rattle.amounts.specs.Amounts.{timeOk}
 use Rattle.quote.specs.Quotes.{exactBy}
-use Rattle.quote.specs.Drift.{modelLimitsBefore, exactAnswerBefore, deskPlanBefore, checkCallBefore, reckoningBefore}
-use Rattle.quote.specs.declared.GLFTConfig.{GLFTConfig}
+use Rattle.quote.specs.Drift.{modelLimitsBefore, exactAnswerBefore, deskPlanBefore, checkCallBefore}
+use Rattle.lots.specs.Drift.{reckoningBefore}
+use Rattle.model.specs.declared.GLFTConfig.{GLFTConfig}
 use Rattle.sheet.specs.Record.{configOf, mostBound, recordOk}
 use Rattle.sheet.specs.Lines.{answerLine}
 use Rattle.sheet.specs.Sheet.{recordLine}

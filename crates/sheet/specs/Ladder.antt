@@ -8,14 +8,16 @@ use lib.IntN.{ℤ, pos, _-ℤ_}
 use lib.ListN.{length}
 use lib.Dec.{leb}
 use Rattle.quote.specs.Quotes.{exactQuotes}
-use Rattle.quote.specs.Promises.{turned, Pair}
-use Rattle.quote.specs.Reckoning.{checkCall, reckoning, holdingOf, quotesOfLots, Carries, Opposed, Early}
-use Rattle.quote.specs.declared.GLFTConfig.{GLFTConfig}
-use Rattle.quote.specs.declared.GlftQuotes.{GlftQuotes}
+use Rattle.model.specs.Configuration.{turned}
+use Rattle.prices.specs.Facing.{Pair}
+use Rattle.model.specs.Model.{checkCall}
+use Rattle.lots.specs.Reckoning.{reckoning, holdingOf, quotesOfLots, Carries, Opposed, Early}
+use Rattle.model.specs.declared.GLFTConfig.{GLFTConfig}
+use Rattle.prices.specs.declared.GlftQuotes.{GlftQuotes}
 use Rattle.quote.specs.declared.ExactQuotes.the-variants as Exact
-use Rattle.quote.specs.declared.reckoning.Check.{Check}
-use Rattle.quote.specs.declared.reckoning.Check.the-variants as Check
-use Rattle.quote.specs.declared.reckoning.Reckoning.{Reckoning}
+use Rattle.model.specs.declared.Check.{Check}
+use Rattle.model.specs.declared.Check.the-variants as Check
+use Rattle.lots.specs.declared.Reckoning.{Reckoning}
 use Rattle.sheet.specs.Refusals.{smallLadderBuffer}
 use Rattle.sheet.specs.Record.{configOf, readAs}
 use Rattle.sheet.specs.Lines.{answerLine, refusalLine, over}

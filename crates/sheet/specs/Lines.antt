@@ -6,10 +6,10 @@ use lib.IntN.{natAbs}
 use lib.ListN.{length, drop}
 use lib.Dec.{ltb}
 use lib.Ieee.{Float, binary64, toBits}
-use Rattle.quote.specs.Configuration.{billion}
-use Rattle.quote.specs.declared.Price.{Price}
-use Rattle.quote.specs.declared.Price.the-variants.{At, Absent}
-use Rattle.quote.specs.declared.GlftQuotes.{GlftQuotes}
+use Rattle.amounts.specs.Amounts.{billion}
+use Rattle.prices.specs.declared.Price.{Price}
+use Rattle.prices.specs.declared.Price.the-variants.{At, Absent}
+use Rattle.prices.specs.declared.GlftQuotes.{GlftQuotes}
 use Rattle.quote.specs.declared.ExactQuotes.{ExactQuotes}
 use Rattle.quote.specs.declared.ExactQuotes.the-variants as ExactQuotes
 

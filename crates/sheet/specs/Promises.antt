@@ -6,7 +6,7 @@ use Prim.Native.Nat.{ℕ, suc, _+_, _-_, _^_, _<_, _≤_}
 use mathlib.Core.List.{List, [], _∷_, _++_}
 use lib.IntN.{ℤ}
 use lib.ListN.{length, getD, take, drop}
-use Rattle.quote.specs.Configuration.{billion}
+use Rattle.amounts.specs.Amounts.{billion}
 use Rattle.sheet.specs.Record.{taken, number, stored, holding, readRecord}
 use Rattle.sheet.specs.Lines.{over}
 use Rattle.sheet.specs.Sheet.{leastRoom, line, end, lineAt, printed}

@@ -5,10 +5,10 @@ use mathlib.Core.List.{List, [], _∷_, _++_}
 use lib.IntN.{ℤ, pos, negsuc}
 use lib.ListN.{set, length, getD, drop}
 use lib.Dec.{ltb, leb, eqb}
-use Rattle.quote.specs.Refusals.{limits}
-use Rattle.quote.specs.Configuration.{timeOk}
-use Rattle.quote.specs.Model.{modelLimits}
-use Rattle.quote.specs.declared.GLFTConfig.{GLFTConfig}
+use Rattle.amounts.specs.Refusals.{limits}
+use Rattle.amounts.specs.Amounts.{timeOk}
+use Rattle.model.specs.Model.{modelLimits}
+use Rattle.model.specs.declared.GLFTConfig.{GLFTConfig}
 use Rattle.sheet.specs.Refusals.{cutShort, malformed}
 use Rattle.sheet.specs.declared.record.Record.{Record}
 use Rattle.sheet.specs.declared.record.RecordAnswer.{RecordAnswer}

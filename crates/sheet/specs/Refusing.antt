@@ -6,7 +6,7 @@ use mathlib.Core.Bool.{Bool, true, false, _&&_}
 use mathlib.Core.List.{List, [], _∷_, _++_}
 use lib.ListN.{length, drop}
 use lib.Dec.{leb}
-use Rattle.quote.specs.Refusals.{limits}
+use Rattle.amounts.specs.Refusals.{limits}
 use Rattle.sheet.specs.Refusals.{cutShort, malformed, smallBuffer, longSheet, smallRecordBuffer}
 use Rattle.sheet.specs.Record.{taken, mostGroups, numbers, fields, recordOf, recordOk, readRecord}
 use Rattle.sheet.specs.Lines.{refusalLine}

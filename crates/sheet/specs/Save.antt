@@ -6,7 +6,7 @@ use lib.IntN.{pos, natAbs}
 use lib.ListN.{length}
 use lib.Signed.{leZ}
 use lib.Dec.{ltb, leb}
-use Rattle.quote.specs.Refusals.{limits}
+use Rattle.amounts.specs.Refusals.{limits}
 use Rattle.sheet.specs.Refusals.{smallRecordBuffer}
 use Rattle.sheet.specs.Record.{mostGroups, fields, stored, recordOk}
 use Rattle.sheet.specs.Lines.{over}

@@ -4,7 +4,7 @@ use mathlib.Core.Bool.{Bool, true, false}
 use mathlib.Core.List.{List, [], _∷_, _++_}
 use lib.ListN.{length}
 use lib.Dec.{ltb, leb}
-use Rattle.quote.specs.Refusals.{limits}
+use Rattle.amounts.specs.Refusals.{limits}
 use Rattle.quote.specs.Quotes.{exactQuotes}
 use Rattle.sheet.specs.Refusals.{smallBuffer, longSheet}
 use Rattle.sheet.specs.Record.{Read, taken, refused, numbers, fields, recordOf, configOf, recordOk, readRecord}

@@ -3,8 +3,8 @@
 ghost use mathlib.Core.Path.{_≡_};
 ghost use Prim.Native.Nat.{_≤_};
 ghost use lib.ListN.{length};
-ghost use Rattle.quote.specs.Reckoning.{checkCall};
-ghost use Rattle.quote.specs.declared.reckoning.Check.the-variants as Check;
+ghost use Rattle.model.specs.Model.{checkCall};
+ghost use Rattle.model.specs.declared.Check.the-variants as Check;
 ghost use Rattle.sheet.specs.Lines.{over};
 ghost use Rattle.sheet.specs.Sheet.{leastRoom, hasRoom, answered, left};
 ghost use Rattle.sheet.specs.Ladder.{rungs, lotAt, ladder, ladderRoom, laddered, ladderedIn, recordLadder, ladderAt};
@@ -58,7 +58,7 @@ fn write_rungs(
     ensures { λ _. ⌜ now (out .exit) ≡ over (ladder «mid_price» config volatility «current_time») (now (out .entry)) ⌝ }
     ensures { λ r. ⌜ r ≡ length (ladder «mid_price» config volatility «current_time») ⌝ }
 {
-    let r = quote::reckon(config, volatility, current_time);
+    let r = lots::reckon(config, volatility, current_time);
     let a = r.vector;
     let outcome = a.outcome;
     let n = rungs_of(config);
@@ -66,7 +66,7 @@ fn write_rungs(
     let mut i: usize = 0;
     while i < n {
         let lot = lot_at(config, i);
-        let answer = quote::quotes_in(
+        let answer = lots::quotes_in(
             mid_price,
             config,
             r.k,

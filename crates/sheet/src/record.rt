@@ -3,7 +3,7 @@ ghost use mathlib.Core.Path.{_≡_};
 ghost use Prim.Native.Nat.{_*_, _≤_};
 ghost use lib.ListN.{length};
 ghost use lib.Dec.{T};
-ghost use Rattle.quote.specs.Configuration.{amountLimit};
+ghost use Rattle.amounts.specs.Amounts.{amountLimit};
 ghost use Rattle.sheet.specs.Record.{configOf, holding, asHeld, recordOf, recordOk, readAs, readRecord};
 ghost use Rattle.sheet.specs.Inner.{NumberIs, NumbersAre};
 use crate::refusals::CUT_SHORT;

@@ -3,7 +3,7 @@ ghost use mathlib.Core.Path.{_≡_};
 ghost use Prim.Native.Nat.{_≤_};
 ghost use lib.ListN.{length};
 ghost use lib.Dec.{T};
-ghost use Rattle.quote.specs.Configuration.{amountOk};
+ghost use Rattle.amounts.specs.Amounts.{amountOk};
 ghost use Rattle.sheet.specs.Record.{fields, stored};
 ghost use Rattle.sheet.specs.Lines.{over};
 ghost use Rattle.sheet.specs.Save.{inGroups, allInGroups, numbersOf, noneBelow, saveOk, saved, savedIn};

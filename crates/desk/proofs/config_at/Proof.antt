@@ -1,6 +1,6 @@
 -- `desk::config_at` meets its contract: each field is the word that the definition names. Assumes nothing.
 use borrow.Author.Needs.{needs}
-use Rattle.quote.proofs.Limits.{kept}
+use Rattle.amounts.proofs.Limits.{kept}
 use Rattle.desk.specs.Desk.{configAt}
 use Rattle.desk.proofs.config_at.Statement.{statement}
 use Rattle.desk.proofs.config_at.Tie as tie

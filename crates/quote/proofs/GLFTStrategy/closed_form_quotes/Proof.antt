@@ -1,9 +1,10 @@
 use mathlib.Core.Path.{_≡_, _∙_}
 use mir.Facts.{toZ-ofZ}
 use borrow.Author.Needs.{needs}
-use Rattle.quote.specs.Model.{driftless, driftlessModel}
+use Rattle.model.specs.Model.{driftless, driftlessModel}
 use Rattle.quote.specs.Quotes.{closedFrom, closedAnswer, closedBy, closedFormQuotes}
-use Rattle.quote.proofs.Limits.{kept, made-amounts}
+use Rattle.amounts.proofs.Limits.{kept}
+use Rattle.model.proofs.Passed.{made-amounts}
 use Rattle.quote.proofs.GLFTStrategy.closed_form_quotes.Statement.{statement}
 use Rattle.quote.proofs.GLFTStrategy.closed_form_quotes.Tie as tie
 

@@ -3,10 +3,11 @@ use mathlib.Core.Bool.{true}
 use mir.Facts.{toZ-ofZ}
 use borrow.Author.Needs.{needs}
 use borrow.Author.Tests.{le-leb, lt-leb}
-use Rattle.quote.specs.Configuration.{timeLimit, timeOk}
-use Rattle.quote.specs.Model.{newModel}
+use Rattle.amounts.specs.Amounts.{timeLimit, timeOk}
+use Rattle.model.specs.Model.{newModel}
 use Rattle.quote.specs.Quotes.{exactFrom, exactIf, exactAnswer, exactBy, exactQuotes}
-use Rattle.quote.proofs.Limits.{kept, made-amounts}
+use Rattle.amounts.proofs.Limits.{kept}
+use Rattle.model.proofs.Passed.{made-amounts}
 use Rattle.quote.proofs.GLFTStrategy.exact_quotes.Statement.{statement}
 use Rattle.quote.proofs.GLFTStrategy.exact_quotes.Tie as tie
 

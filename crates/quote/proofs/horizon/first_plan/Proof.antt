@@ -4,10 +4,10 @@ use mathlib.Core.Bool.{true}
 use mir.Facts.{toZ-ofZ}
 use borrow.Author.Needs.{needs}
 use borrow.Author.Tests.{le-leb, lt-leb}
-use Rattle.quote.specs.Configuration.{timeLimit, timeOk}
-use Rattle.quote.specs.Model.{newModel}
+use Rattle.amounts.specs.Amounts.{timeLimit, timeOk}
+use Rattle.model.specs.Model.{newModel}
 use Rattle.quote.specs.Horizon.{planFrom, deskPlanIf, deskPlan}
-use Rattle.quote.proofs.Limits.{kept}
+use Rattle.amounts.proofs.Limits.{kept}
 use Rattle.quote.proofs.horizon.first_plan.Statement.{statement}
 use Rattle.quote.proofs.horizon.first_plan.Tie as tie
 

@@ -1,12 +1,13 @@
 use mathlib.Core.Path.{_≡_, refl}
 use mir.Facts.{toZ-ofZ}
 use borrow.Author.Needs.{needs}
-use Rattle.quote.specs.Quotes.{Judged, quoted, refused, ofJudged, closedBy}
-use Rattle.quote.specs.Inner.{builtOf}
+use Rattle.prices.specs.Prices.{Judged, quoted, refused}
+use Rattle.quote.specs.Quotes.{ofJudged, closedBy}
+use Rattle.prices.specs.Inner.{builtOf}
 use Rattle.quote.specs.declared.ClosedFormQuotes.{ClosedFormQuotes}
 use Rattle.quote.specs.declared.ClosedFormQuotes.the-variants as ClosedFormQuotes
-use Rattle.quote.specs.declared.quotes.Built.{Built}
-use Rattle.quote.specs.declared.quotes.Built.the-variants as Built
+use Rattle.prices.specs.declared.Built.{Built}
+use Rattle.prices.specs.declared.Built.the-variants as Built
 use Rattle.quote.proofs.quotes.closed_of.Statement.{statement}
 use Rattle.quote.proofs.quotes.closed_of.Tie as tie
 

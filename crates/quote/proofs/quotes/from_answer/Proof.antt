@@ -2,8 +2,10 @@ use mathlib.Core.Path.{_≡_, refl}
 use Prim.Native.Nat.{ℕ}
 use mir.Facts.{toZ-ofZ}
 use borrow.Author.Needs.{needs}
-use Rattle.quote.specs.Quotes.{Judged, quoted, refused, withSteps, exactBy}
-use Rattle.quote.specs.Inner.{builtOf, stepsWith}
+use Rattle.prices.specs.Prices.{Judged, quoted, refused}
+use Rattle.quote.specs.Quotes.{withSteps, exactBy}
+use Rattle.prices.specs.Inner.{builtOf}
+use Rattle.quote.specs.Inner.{stepsWith}
 use Rattle.quote.proofs.quotes.from_answer.Statement.{statement}
 use Rattle.quote.proofs.quotes.from_answer.Tie as tie
 

@@ -5,7 +5,7 @@ use mir.Syntax.{w64}
 use mir.Val.{SFits, toZ}
 use mir.Facts.{toZ-ofZ, toZ-pos}
 use borrow.Author.Needs.{needs}
-use Rattle.quote.proofs.Sizes.{size-sub, size-fits}
+use Rattle.amounts.proofs.Sizes.{size-sub, size-fits}
 use Rattle.sheet.specs.Ladder.{lotAt}
 use Rattle.sheet.proofs.ladder.lot_at.Statement.{statement}
 use Rattle.sheet.proofs.ladder.lot_at.Tie as tie

@@ -5,7 +5,7 @@ use native.Mathlib.Omega.{arith}
 use lib.ListN.{length}
 use denote.Ref.{now}
 use borrow.Author.Needs.{needs}
-use Rattle.quote.proofs.Limits.{kept}
+use Rattle.amounts.proofs.Limits.{kept}
 use Rattle.sheet.specs.Record.{configOf}
 use Rattle.sheet.specs.Lines.{refusalLine, over}
 use Rattle.sheet.specs.Ladder.{laddered, ladderedIn, recordLadder}

@@ -9,11 +9,11 @@ use mir.Facts.{toZ-ofZ}
 use borrow.Author.Needs.{needs}
 use borrow.Rule.Slice.PartMut.{midOf, putMid}
 use denote.Ref.{now}
-use Rattle.quote.specs.Reckoning.{reckoning, quotesOfLots}
+use Rattle.lots.specs.Reckoning.{reckoning, quotesOfLots}
 use Rattle.quote.specs.Replies.{ReplyKept}
 use Rattle.sheet.specs.Ladder.{rungs, lotAt, ladderLine, ladderLines, ladder}
 use Rattle.quote.specs.declared.ExactQuotes.{ExactQuotes}
-use Rattle.quote.specs.declared.reckoning.Reckoning.{Reckoning}
+use Rattle.lots.specs.declared.Reckoning.{Reckoning}
 use Rattle.sheet.specs.Lines.{answerLine, over}
 use Rattle.sheet.specs.Sheet.{leastRoom}
 use Rattle.sheet.proofs.Texts.{part-room, wrote-as}

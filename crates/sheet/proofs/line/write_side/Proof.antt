@@ -9,7 +9,7 @@ use mir.Syntax.{w64}
 use mir.Val.{SFits, Fits, toZ, ofZ}
 use mir.Facts.{toZ-ofZ}
 use Rattle.quote.specs.Replies.{PriceKept}
-use Rattle.quote.specs.declared.Price.the-variants.{At}
+use Rattle.prices.specs.declared.Price.the-variants.{At}
 use Rattle.sheet.specs.Lines.{side, price}
 use Rattle.sheet.proofs.Texts.{wrote-none, wrote-byte}
 use borrow.Author.Needs.{needs}

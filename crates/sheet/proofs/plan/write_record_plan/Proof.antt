@@ -1,7 +1,7 @@
 -- `sheet::plan::write_record_plan` meets its contract: the plan is the definition's, and such a plan is one that `write_plan` takes. Assumes nothing.
 use mathlib.Core.Path.{_≡_}
 use borrow.Author.Needs.{needs}
-use Rattle.quote.proofs.Limits.{kept}
+use Rattle.amounts.proofs.Limits.{kept}
 use Rattle.sheet.specs.Horizon.{planOf, recordPlan}
 use Rattle.sheet.proofs.Plans.{plans-kept}
 use Rattle.sheet.proofs.plan.write_record_plan.Statement.{statement}

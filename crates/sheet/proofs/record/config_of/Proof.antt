@@ -1,5 +1,5 @@
 -- `sheet::record::config_of` meets its contract: the machine holds each amount as it is. Assumes nothing.
-use Rattle.quote.proofs.Limits.{kept}
+use Rattle.amounts.proofs.Limits.{kept}
 use Rattle.sheet.specs.Record.{configOf}
 use Rattle.sheet.proofs.record.config_of.Statement.{statement}
 use Rattle.sheet.proofs.record.config_of.Tie as tie

@@ -6,7 +6,7 @@ use lib.IntN.{pos}
 use mir.Syntax.{w64}
 use mir.Val.{SFits, toZ}
 use mir.Facts.{toZ-ofZ, toZ-pos}
-use Rattle.quote.specs.Configuration.{amountLimit}
+use Rattle.amounts.specs.Amounts.{amountLimit}
 use Rattle.sheet.specs.Record.{recordOf}
 use Rattle.sheet.proofs.Limits.{Bounds, bounds}
 use borrow.Author.Needs.{needs}

@@ -1,8 +1,9 @@
 -- `sheet::record::within_limits` meets its contract: a stored holding is within twice the limit where the holding is within it. Assumes nothing.
 use mathlib.Core.Bool.{and-true}
 use lib.ListN.{getD}
-use Rattle.quote.specs.Configuration.{amountLimit, amountOk, timeOk, configLimits}
-use Rattle.quote.specs.Model.{modelLimits}
+use Rattle.amounts.specs.Amounts.{amountLimit, amountOk, timeOk}
+use Rattle.model.specs.Configuration.{configLimits}
+use Rattle.model.specs.Model.{modelLimits}
 use Rattle.sheet.specs.Record.{recordOf, configOf, recordOk}
 use Rattle.sheet.proofs.Limits.{holding-limit}
 use borrow.Author.Needs.{needs}

@@ -3,8 +3,8 @@ use native.Mathlib.Omega.{arith}
 use mathlib.Core.Bool.{and-true}
 use borrow.Author.Tests.{le-leb}
 use borrow.Author.Needs.{needs}
-use Rattle.quote.specs.Configuration.{timeOk}
-use Rattle.quote.proofs.Limits.{kept}
+use Rattle.amounts.specs.Amounts.{timeOk}
+use Rattle.amounts.proofs.Limits.{kept}
 use Rattle.sheet.specs.Record.{mostBound, recordOk}
 use Rattle.sheet.specs.Save.{saveOk}
 use Rattle.sheet.proofs.save.can_save.Statement.{statement}

@@ -1,5 +1,5 @@
 -- `sheet::save::none_below` meets its contract: the machine holds each amount as it is. Assumes nothing.
-use Rattle.quote.proofs.Limits.{kept}
+use Rattle.amounts.proofs.Limits.{kept}
 use Rattle.sheet.specs.Save.{noneBelow}
 use Rattle.sheet.proofs.save.none_below.Statement.{statement}
 use Rattle.sheet.proofs.save.none_below.Tie as tie

@@ -2,7 +2,7 @@
 use lib.Dec.{le→leb}
 use lib.IntN.{natAbs}
 use borrow.Author.Needs.{needs}
-use Rattle.quote.specs.Configuration.{amountLimit, amountOk}
+use Rattle.amounts.specs.Amounts.{amountLimit, amountOk}
 use Rattle.sheet.specs.Save.{numbersOf}
 use Rattle.sheet.proofs.Limits.{same-bits, casts, Bounds}
 use Rattle.sheet.proofs.Saving.{NotBelow, not-below, limits-kept, holding-kept}

@@ -9,7 +9,7 @@ use lib.Signed.{ltZ}
 use lib.Dec.{T, leb→le}
 use mir.Syntax.{w64}
 use mir.Val.{toZ, ofZ}
-use Rattle.quote.specs.Configuration.{amountLimit, amountOk}
+use Rattle.amounts.specs.Amounts.{amountLimit, amountOk}
 use Rattle.sheet.specs.Record.{stored}
 use Rattle.sheet.proofs.Limits.{same-bits}
 use Rattle.sheet.proofs.save.stored_of.Statement.{statement}

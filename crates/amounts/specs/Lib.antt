@@ -1,0 +1,4 @@
+pub mod Refusals
+pub mod Amounts
+pub mod Rounding
+pub mod Inner

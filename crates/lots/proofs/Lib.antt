@@ -1,0 +1,4 @@
+pub mod Lots
+pub mod OneRun
+pub mod Outward
+pub mod Drift

@@ -1,0 +1,183 @@
+-- All replies from one reckoning: how they end, their steps, and opposite lots; and what refuses them all. Assumes nothing.
+use mathlib.Core.Path.{_≡_, refl, sym, ap, _∙_}
+use mathlib.Core.Logic.{_⊎_, _↔_, inl, inr}
+use Prim.Native.Nat.{ℕ, suc, _≤_}
+use native.Mathlib.Omega.{arith}
+use mathlib.Core.Bool.{Bool, true, false, _&&_}
+use lib.IntN.{ℤ, pos, negsuc, negℤ, _*ℤ_, *ℤ-comm, *ℤ-negsuc}
+use lib.Ieee.{Float}
+use Rattle.vector.specs.Refusals.{configuration}
+use Rattle.vector.specs.declared.ValueVector.{ValueVector}
+use Rattle.vector.specs.declared.Outcome.{Outcome}
+use Rattle.vector.specs.declared.Outcome.the-variants as Outcome
+use Rattle.distances.specs.Distances.{exactDistances}
+use Rattle.distances.specs.Reading.{sidesWith, readBy, answerFrom}
+use Rattle.distances.specs.declared.Distance.{Distance}
+use Rattle.distances.specs.declared.Sides.{Sides}
+use Rattle.distances.specs.declared.Sides.the-variants as Sides
+use Rattle.distances.specs.declared.Answer.the-variants as Answer
+use Rattle.amounts.specs.Refusals.{limits}
+use Rattle.model.specs.Refusals.{market}
+use Rattle.amounts.specs.Amounts.{amountOk, above0}
+use Rattle.model.specs.Configuration.{configOk, turned}
+use Rattle.model.specs.Model.{modelLimits, checkIf, checkCall}
+use Rattle.prices.specs.Prices.{Judged, quoted, refused, buildQuotes}
+use Rattle.quote.specs.Quotes.{withSteps, exactBy, fromIf, quotesByAnswer}
+use Rattle.model.specs.Refusing.{Checked, by-2, by-1, by-22, by-3, by-4, by-5}
+use Rattle.prices.specs.Refusing.{Priced, by-13, by-14}
+use Rattle.quote.specs.Promises.{PricedOf}
+use Rattle.lots.specs.Reckoning.{quotesFrom, holdingOf, lotsIf, quotesOfLots, by-report, by-refusal, LotsEnd, Carries, OneRun, LotsMirror, Early, CheckRefusals, FromRefusals, LotsRefusals}
+use Rattle.model.specs.declared.GLFTConfig.{GLFTConfig}
+use Rattle.quote.specs.declared.ExactQuotes.{ExactQuotes}
+use Rattle.quote.specs.declared.ExactQuotes.the-variants as Exact
+use Rattle.model.specs.declared.Check.{Check}
+use Rattle.model.specs.declared.Check.the-variants as Check
+use Rattle.lots.specs.declared.Reckoning.{Reckoning}
+use Rattle.amounts.proofs.Signed.{natAbs-neg, times-neg}
+use Rattle.model.proofs.Turned.{limits-turned}
+use Rattle.quote.proofs.Mirrors.{exact-mirror}
+use Rattle.quote.proofs.Pairs.{exact-pairs}
+use Rattle.quote.proofs.Refusing.{exact-by, exact-refusals}
+use Rattle.lots.proofs.Lots.{amounts-checked, lot-checked, lots-are-single}
+
+-- ---- a reckoning that ends in a report or a refusal
+pub lots-end : LotsEnd
+unfolding quotesOfLots quotesFrom quotesByAnswer fromIf answerFrom readBy exactBy
+lots-end mid c vol t q x e (by-report h) = rw (lot-checked mid c vol t e, amounts-checked mid c vol t e, h)
+lots-end mid c vol t q x e (by-refusal h) = rw (lot-checked mid c vol t e, amounts-checked mid c vol t e, h)
+
+-- ---- the steps of a run, by its outcome
+spent : Outcome → ℕ
+spent (Outcome.Done s) = s
+spent (Outcome.OverCap need b s) = s
+spent (Outcome.Refused r) = 0
+
+judged-carries : (s n : ℕ) (j : Judged) → Carries (withSteps s j) n → s ≡ n
+unfolding Carries withSteps
+judged-carries s n (quoted q) h = h
+judged-carries s n (refused r) h = absurd h
+
+module _ (mid least : ℤ) (v : ValueVector) (k base : Float) (q : ℤ) (n : ℕ) where
+  sides-carry : (s : ℕ) (x : Sides) → Carries (exactBy mid least (sidesWith s x)) n → s ≡ n
+  unfolding Carries exactBy sidesWith
+  sides-carry s (Sides.Distances b a) h = judged-carries s n (buildQuotes mid least b a) h
+  sides-carry s (Sides.Refused r) h = absurd h
+
+  outcome-carries : (o : Outcome) → Carries (exactBy mid least (readBy o v k base q)) n → spent o ≡ n
+  unfolding Carries exactBy readBy spent
+  outcome-carries (Outcome.Done s) h = sides-carry s (exactDistances v k base q) h
+  outcome-carries (Outcome.OverCap need b s) h = h
+  outcome-carries (Outcome.Refused r) h = absurd h
+
+from-carries : (t : Bool) (x : ExactQuotes) (n : ℕ) → Carries (fromIf t x) n → Carries x n
+unfolding fromIf Carries
+from-carries true x n h = h
+from-carries false x n h = absurd h
+
+lots-carry : (a b : Bool) (x : ExactQuotes) (n : ℕ) → Carries (lotsIf a b x) n → Carries x n
+unfolding lotsIf Carries
+lots-carry true true x n h = h
+lots-carry true false x n h = absurd h
+lots-carry false b x n h = absurd h
+
+run-carries : (mid : ℤ) (c : GLFTConfig) (r : Reckoning) (q : ℤ) (n : ℕ) → Carries (quotesOfLots mid c r q) n → spent (r .vector .outcome) ≡ n
+unfolding quotesOfLots quotesFrom quotesByAnswer answerFrom
+run-carries mid c r q n h =
+    outcome-carries mid (c .«min_spread») (r .vector .vector) (r .k) (r .base) q n (r .vector .outcome) (from-carries _ _ n (lots-carry _ _ _ n h))
+
+pub one-run : OneRun
+one-run mid c r q p n m h g = sym (run-carries mid c r q n h) ∙ run-carries mid c r p m g
+
+-- ---- opposite lots and drifts
+negated-by : (q : ℤ) (n : ℕ) → negℤ q *ℤ pos n ≡ negℤ (q *ℤ pos n)
+negated-by q n = *ℤ-comm (negℤ q) (pos n) ∙ times-neg n q ∙ ap negℤ (*ℤ-comm (pos n) q)
+
+negated-times : (q d : ℤ) → negℤ q *ℤ d ≡ negℤ (q *ℤ d)
+negated-times q (pos n) = negated-by q n
+negated-times q (negsuc n) = *ℤ-negsuc (negℤ q) n ∙ ap negℤ (negated-by q (suc n)) ∙ ap negℤ (sym (*ℤ-negsuc q n))
+
+holding-negated : (c : GLFTConfig) (q : ℤ) → holdingOf c (negℤ q) ≡ negℤ (holdingOf c q)
+unfolding holdingOf
+holding-negated c q = negated-times q (c .«lot_size»)
+
+pub check-turned : (mid : ℤ) (c : GLFTConfig) (vol : ℤ) (t : ℕ) → checkCall mid (turned c) vol t ≡ checkCall mid c vol t
+unfolding checkCall modelLimits configOk
+check-turned mid c vol t = rw (limits-turned c)
+
+pub lots-mirror : LotsMirror
+unfolding holdingOf
+lots-mirror mid c vol t q e h =
+    let n = holding-negated c q in (
+      rw n (exact-mirror mid (holdingOf c q) c vol t .0),
+      λ x y s r u w.
+          exact-pairs mid (holdingOf c q) c vol t x y s r (sym (lots-are-single mid c vol t q e h) ∙ u)
+          (rw (← n) (sym (lots-are-single mid (turned c) vol t (negℤ q) (check-turned mid c vol t ∙ e) (rw (natAbs-neg q) h)) ∙ w)) .0,
+    )
+
+-- ---- what refuses a call whatever the holding
+checked-early : {h f : Bool} (l v m : Bool) (n : ℕ) → checkIf l v m ≡ Check.Refused n → Early n × Checked l v true m h f n
+unfolding checkIf
+checked-early false v m n e = let z : n ≡ limits = cc in rw z (inl refl, by-2)
+checked-early true false m n e = let z : n ≡ configuration = cc in rw z (inr (inl refl), by-1)
+checked-early true true false n e = let z : n ≡ market = cc in rw z (inr (inr refl), by-3)
+checked-early true true true n e = let z : _≡_ {A = ℕ} 0 1 = cc in absurd (omega arith)
+
+-- 4 and later numbers are not early
+not-early : {A : Type 0} (n : ℕ) → 4 ≤ n → Early n → A
+not-early n h (inl e) = absurd (omega arith)
+not-early n h (inr (inl e)) = absurd (omega arith)
+not-early n h (inr (inr e)) = absurd (omega arith)
+
+early-checked : {l v d m h f : Bool} {n : ℕ} → Early n → Checked l v d m h f n → checkIf l v m ≡ Check.Refused n
+unfolding checkIf
+early-checked y by-2 = refl
+early-checked y by-1 = refl
+early-checked y by-22 = not-early 22 (omega arith) y
+early-checked y by-3 = refl
+early-checked y by-4 = not-early 4 (omega arith) y
+early-checked y by-5 = not-early 5 (omega arith) y
+
+priced-late : {mid least : ℤ} {b a : Distance} {n : ℕ} → Priced mid least b a n → 4 ≤ n
+priced-late (by-13 h) = omega arith
+priced-late (by-14 h k) = omega arith
+
+pub check-refusals : CheckRefusals
+unfolding checkCall
+check-refusals mid c vol t n = (
+  λ e. let k = checked-early _ _ _ n e in (k .0, exact-refusals mid (pos 0) c vol t n .1 (inl (k .1))),
+  λ x.
+      elim (exact-refusals mid (pos 0) c vol t n .0 (x .1)) [
+        | inl k ↦ early-checked (x .0) k
+        | inr k ↦ elim k [ inl f ↦ not-early n (omega (arith, f .0)) (x .0) | inr p ↦ not-early n (priced-late (p .4)) (x .0) ]
+      ],
+)
+
+-- ---- what refuses quotes from a vector, and those of so many lots
+pub from-refusals : FromRefusals
+unfolding quotesFrom quotesByAnswer fromIf
+from-refusals mid least k base q a n = (to (amountOk mid && amountOk least) refl, λ x. elim x [ inl y ↦ rw (y .1, y .0) | inr y ↦ rw (y .0) (exact-by mid least (answerFrom a k base q) n .1 (y .1)) ])
+  where
+    to : (t : Bool) → (amountOk mid && amountOk least) ≡ t → fromIf t (exactBy mid least (answerFrom a k base q)) ≡ Exact.Refused n
+        → ((n ≡ limits) × ((amountOk mid && amountOk least) ≡ false))
+        ⊎ (((amountOk mid && amountOk least) ≡ true) × ((answerFrom a k base q ≡ Answer.Refused n) ⊎ PricedOf mid least (answerFrom a k base q) n))
+    to false h e = inl (cc, h)
+    to true h e = inr (h, exact-by mid least (answerFrom a k base q) n .0 e)
+
+lots-refused : (a b : Bool) (x : ExactQuotes) (n : ℕ)
+    → (lotsIf a b x ≡ Exact.Refused n)
+    ↔ (((n ≡ configuration) × (a ≡ false)) ⊎ (((n ≡ limits) × (a ≡ true) × (b ≡ false)) ⊎ ((a ≡ true) × (b ≡ true) × (x ≡ Exact.Refused n))))
+unfolding lotsIf
+lots-refused a b x n = (
+  to a b,
+  λ y. elim y [ inl z ↦ rw (z .1, z .0) | inr z ↦ elim z [ inl u ↦ rw (u .1, u .2, u .0) | inr u ↦ rw (u .0, u .1) (u .2) ] ],
+)
+  where
+    to : (a b : Bool) → lotsIf a b x ≡ Exact.Refused n
+        → ((n ≡ configuration) × (a ≡ false)) ⊎ (((n ≡ limits) × (a ≡ true) × (b ≡ false)) ⊎ ((a ≡ true) × (b ≡ true) × (x ≡ Exact.Refused n)))
+    to false b e = inl (cc, refl)
+    to true false e = inr (inl (cc, refl, refl))
+    to true true e = inr (inr (refl, refl, e))
+
+pub lots-refusals : LotsRefusals
+unfolding quotesOfLots
+lots-refusals mid c r q n = lots-refused (above0 (c .«lot_size»)) (amountOk (holdingOf c q)) (quotesFrom mid (c .«min_spread») (r .k) (r .base) q (r .vector)) n

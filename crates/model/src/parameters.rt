@@ -1,0 +1,127 @@
+// The model's floats, and the holding in lots.
+ghost use mathlib.Core.Path.{_≡_};
+ghost use lib.Dec.{T};
+ghost use Rattle.amounts.specs.Amounts.{above0};
+ghost use Rattle.model.specs.Model.{lots, holdingOk, modelFrom, modelOf, modelOk, modelLimits, driftlessModel};
+ghost use Rattle.model.specs.Inner.{modelAfter};
+use crate::GLFTConfig;
+use crate::Model;
+use crate::ModelAnswer;
+use crate::refusals;
+use amounts::amount_fits;
+use amounts::refusals::LIMITS;
+use amounts::to_f64;
+
+const SECONDS_PER_YEAR: f64 = 31536000.0;
+
+// Whether every amount and time of a call is within its limit.
+pub fn limits_fit(mid: i64, inventory: i64, config: GLFTConfig, volatility: i64) -> bool
+    ensures { λ r. ⌜ r ≡ modelLimits mid inventory config volatility ⌝ }
+{
+    amount_fits(mid)
+        & amount_fits(inventory)
+        & amount_fits(volatility)
+        & crate::config::within_limits(config)
+}
+
+// The holding in lots, cut toward zero.
+fn lots_of(inventory: i64, config: GLFTConfig) -> i64
+    requires { ⌜ T (above0 (config .«lot_size»)) ⌝ }
+    ensures { λ r. ⌜ r ≡ lots inventory config ⌝ }
+{
+    inventory / config.lot_size
+}
+
+// Whether a holding is a whole number of lots within the bound.
+fn holding_fits(inventory: i64, config: GLFTConfig) -> bool
+    requires { ⌜ T (above0 (config .«lot_size»)) ⌝ }
+    ensures { λ r. ⌜ r ≡ holdingOk inventory config ⌝ }
+{
+    let q = lots_of(inventory, config);
+    (inventory % config.lot_size == 0) & distances::within(q, config.max_inventory_lots)
+}
+
+// The model from its five given floats; the drift is a second's.
+fn from_floats(k: f64, gamma: f64, a: f64, sigma2: f64, drift: f64, bound: u32) -> Model
+    ensures { λ r. ⌜ r ≡ modelFrom k gamma a sigma2 drift bound ⌝ }
+{
+    let log1p_ratio = elementary::or_nan(elementary::ln_1p(gamma / k));
+    let decay = elementary::or_nan(elementary::exp(-(1.0 + k / gamma) * log1p_ratio));
+    Model {
+        k,
+        gamma,
+        a,
+        sigma2,
+        alpha: k * gamma * sigma2 / 2.0,
+        eta: a * decay,
+        base: log1p_ratio / gamma,
+        beta: k * drift,
+        q_max: bound,
+    }
+}
+
+// The model of a configuration and a volatility; a NaN stands where an elementary function refuses.
+pub fn model_of(config: GLFTConfig, volatility: i64) -> Model
+    ensures { λ r. ⌜ r ≡ modelOf config volatility ⌝ }
+{
+    let sigma = to_f64(volatility);
+    from_floats(
+        to_f64(config.order_intensity_k),
+        to_f64(config.risk_aversion) * to_f64(config.lot_size),
+        to_f64(config.intensity_scale_a),
+        sigma * sigma / SECONDS_PER_YEAR,
+        to_f64(config.drift) / SECONDS_PER_YEAR,
+        config.max_inventory_lots,
+    )
+}
+
+// Whether the seven floats are finite and above zero, and beta is finite.
+pub fn floats_fit(m: Model) -> bool
+    ensures { λ r. ⌜ r ≡ modelOk m ⌝ }
+{
+    elementary::is_positive_finite(m.k)
+        & elementary::is_positive_finite(m.gamma)
+        & elementary::is_positive_finite(m.a)
+        & elementary::is_positive_finite(m.sigma2)
+        & elementary::is_positive_finite(m.alpha)
+        & elementary::is_positive_finite(m.eta)
+        & elementary::is_positive_finite(m.base)
+        & elementary::is_finite(m.beta)
+}
+
+// The model of a configuration and a market that pass: refused by 4, then 5.
+pub(crate) fn from_amounts(inventory: i64, config: GLFTConfig, volatility: i64) -> ModelAnswer
+    requires { ⌜ T (above0 (config .«lot_size»)) ⌝ }
+    ensures { λ r. ⌜ r ≡ modelAfter inventory config volatility ⌝ }
+{
+    if holding_fits(inventory, config) {
+        let m = model_of(config, volatility);
+        if floats_fit(m) {
+            return ModelAnswer::Model(m, lots_of(inventory, config));
+        }
+        return ModelAnswer::Refused(elementary::OUTSIDE);
+    }
+    ModelAnswer::Refused(distances::refusals::HOLDING)
+}
+
+// The model, where there is no drift: refused by 2, then 1, 22, 3, 4 and 5.
+pub fn driftless_model(
+    mid_price: i64,
+    inventory: i64,
+    config: GLFTConfig,
+    volatility: i64,
+) -> ModelAnswer
+    ensures { λ r. ⌜ r ≡ driftlessModel «mid_price» inventory config volatility ⌝ }
+{
+    let no_drift = config.drift == 0;
+    if no_drift {
+        return Model::new(mid_price, inventory, config, volatility);
+    }
+    if limits_fit(mid_price, inventory, config, volatility) {
+        if crate::config::validate(config) {
+            return ModelAnswer::Refused(refusals::DRIFT);
+        }
+        return ModelAnswer::Refused(vector::refusals::CONFIGURATION);
+    }
+    ModelAnswer::Refused(LIMITS)
+}
