@@ -1,3 +1,4 @@
+pub mod Checks
 pub mod Signs
 pub mod Exact
 pub mod Zeros

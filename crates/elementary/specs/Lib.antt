@@ -1,5 +1,6 @@
 pub mod Float
 pub mod Reply
+pub mod Checks
 pub mod Elementary
 pub mod Inner
 pub mod Root
