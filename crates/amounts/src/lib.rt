@@ -4,7 +4,6 @@ pub mod refusals;
 mod rounding;
 
 pub use rounding::Billionths;
-pub use rounding::count_of;
 pub use rounding::to_billionths;
 ghost use mathlib.Core.Path.{_≡_};
 ghost use Rattle.amounts.specs.Amounts.{amountOk, timeOk, above0, toFloat, tauOf};

@@ -118,7 +118,7 @@ fn below_zero(x: f64) -> Billionths
 }
 
 // The count of a finite distance. Of what is not finite it is 0.
-pub fn count_of(d: f64) -> Billionths
+fn count_of(d: f64) -> Billionths
     ensures { λ r. ⌜ r ≡ countOf (billionths d) ⌝ }
 {
     if elementary::is_positive_finite(d) {

@@ -14,7 +14,7 @@ use Rattle.amounts.specs.Amounts.{amountOk, timeOk, above0, toFloat, tauOf}
 use Rattle.model.specs.Configuration.{configLimits, configOk, configIf, newConfig}
 use Rattle.model.specs.Model.{lots, holdingOk, marketOk, modelBy, modelFrom, modelOf, modelOk, driftless, modelIf, modelLimits, newModel, driftlessModel}
 use Rattle.amounts.specs.Rounding.{billionths}
-use Rattle.prices.specs.Prices.{side, halfUp, widening, bidPrice, askPrice, each, inOrder, judgeIf, judge, quotesBy, buildQuotes}
+use Rattle.prices.specs.Prices.{side, halfUp, widening, bidPrice, askPrice, each, inOrder, roundedIf, rounded, widened, judgeIf, judge, quotesBy, buildQuotes}
 use Rattle.quote.specs.Quotes.{exactFrom, exactIf, exactAnswer, closedFrom, closedAnswer, withSteps, exactBy, exactQuotes, wrapped, optimalQuotes, closedBy, closedFormQuotes}
 use Rattle.cases.specs.Cases.{ofConfig, ofModel, ofExact, ofOptimal, ofClosed, ofAnswer, ofFloats, reckonedFrom, ofTurn, reply, configurationCases, holdingCases, vectorCases, quoteCases, driftCases, table, Cases}
 
@@ -26,7 +26,7 @@ unfolding
     from everyFrom fold larger abs orNan diagonalAt leftAt rightAt magnitudes norm needed start begin runOn fixed firstIf runFor run
     padded vectorOf place distance bidAt askAt fine sides exactAt refusedEntry withVector answerBy entryIf floatsOk floatEntry
     amountOk timeOk above0 toFloat configLimits configOk configIf newConfig lots holdingOk marketOk modelBy modelFrom modelOf modelOk tauOf driftless modelIf modelLimits newModel driftlessModel
-    billionths side halfUp widening bidPrice askPrice each inOrder judgeIf judge quotesBy buildQuotes
+    billionths side halfUp widening bidPrice askPrice each inOrder roundedIf rounded widened judgeIf judge quotesBy buildQuotes
     exactFrom exactIf exactAnswer closedFrom closedAnswer withSteps exactBy exactQuotes wrapped optimalQuotes closedBy closedFormQuotes
     ofConfig ofModel ofExact ofOptimal ofClosed ofAnswer ofFloats reckonedFrom ofTurn reply configurationCases holdingCases vectorCases quoteCases driftCases table
 cases = refl

@@ -21,7 +21,9 @@ use Rattle.model.specs.Refusals.{market}
 use Rattle.amounts.specs.Amounts.{amountOk, above0}
 use Rattle.model.specs.Configuration.{configOk, turned}
 use Rattle.model.specs.Model.{modelLimits, checkIf, checkCall}
-use Rattle.prices.specs.Prices.{Judged, quoted, refused, buildQuotes}
+use Rattle.prices.specs.Prices.{buildQuotes}
+use Rattle.prices.specs.declared.QuotesAnswer.{QuotesAnswer}
+use Rattle.prices.specs.declared.QuotesAnswer.the-variants.{Quotes as quoted, Refused as refused}
 use Rattle.quote.specs.Quotes.{withSteps, exactBy, fromIf, quotesByAnswer}
 use Rattle.model.specs.Refusing.{Checked, by-2, by-1, by-22, by-3, by-4, by-5}
 use Rattle.prices.specs.Refusing.{Priced, by-13, by-14}
@@ -37,6 +39,7 @@ use Rattle.amounts.proofs.Signed.{natAbs-neg, times-neg}
 use Rattle.model.proofs.Turned.{limits-turned}
 use Rattle.quote.proofs.Mirrors.{exact-mirror}
 use Rattle.quote.proofs.Pairs.{exact-pairs}
+use Rattle.distances.proofs.Finite.{finite-distances}
 use Rattle.quote.proofs.Refusing.{exact-by, exact-refusals}
 use Rattle.lots.proofs.Lots.{amounts-checked, lot-checked, lots-are-single}
 
@@ -52,7 +55,7 @@ spent (Outcome.Done s) = s
 spent (Outcome.OverCap need b s) = s
 spent (Outcome.Refused r) = 0
 
-judged-carries : (s n : ℕ) (j : Judged) → Carries (withSteps s j) n → s ≡ n
+judged-carries : (s n : ℕ) (j : QuotesAnswer) → Carries (withSteps s j) n → s ≡ n
 unfolding Carries withSteps
 judged-carries s n (quoted q) h = h
 judged-carries s n (refused r) h = absurd h
@@ -155,13 +158,13 @@ check-refusals mid c vol t n = (
 -- ---- what refuses quotes from a vector, and those of so many lots
 pub from-refusals : FromRefusals
 unfolding quotesFrom quotesByAnswer fromIf
-from-refusals mid least k base q a n = (to (amountOk mid && amountOk least) refl, λ x. elim x [ inl y ↦ rw (y .1, y .0) | inr y ↦ rw (y .0) (exact-by mid least (answerFrom a k base q) n .1 (y .1)) ])
+from-refusals mid least k base q a n = (to (amountOk mid && amountOk least) refl, λ x. elim x [ inl y ↦ rw (y .1, y .0) | inr y ↦ rw (y .0) (exact-by mid least (answerFrom a k base q) n (finite-distances .answer a k base q) .1 (y .1)) ])
   where
     to : (t : Bool) → (amountOk mid && amountOk least) ≡ t → fromIf t (exactBy mid least (answerFrom a k base q)) ≡ Exact.Refused n
         → ((n ≡ limits) × ((amountOk mid && amountOk least) ≡ false))
         ⊎ (((amountOk mid && amountOk least) ≡ true) × ((answerFrom a k base q ≡ Answer.Refused n) ⊎ PricedOf mid least (answerFrom a k base q) n))
     to false h e = inl (cc, h)
-    to true h e = inr (h, exact-by mid least (answerFrom a k base q) n .0 e)
+    to true h e = inr (h, exact-by mid least (answerFrom a k base q) n (finite-distances .answer a k base q) .0 e)
 
 lots-refused : (a b : Bool) (x : ExactQuotes) (n : ℕ)
     → (lotsIf a b x ≡ Exact.Refused n)

@@ -7,7 +7,6 @@ use lib.IntN.{ℤ}
 use lib.Ieee.{Float}
 use Rattle.vector.specs.declared.VectorAnswer.{VectorAnswer}
 use Rattle.distances.specs.Reading.{answerFrom}
-use Rattle.distances.proofs.Finite.{finite-distances}
 use Rattle.amounts.specs.Amounts.{amountOk, above0}
 use Rattle.quote.specs.Quotes.{exactBy, fromIf, quotesByAnswer}
 use Rattle.lots.specs.Reckoning.{quotesFrom, holdingOf, lotsIf, quotesOfLots}
@@ -24,7 +23,7 @@ unfolding quotesFrom quotesByAnswer fromIf
 from-never mid least k base l v q s = go (amountOk mid && amountOk least)
   where
     go : (t : Bool) → fromIf t (exactBy mid least (answerFrom v k base l)) ≡ Exact.Quotes q s → OutsideOf mid (answerFrom v k base l) q s
-    go true e = exact-outside mid least (answerFrom v k base l) q s (finite-distances .answer v k base l) e
+    go true e = exact-outside mid least (answerFrom v k base l) q s e
     go false e = let z : _≡_ {A = ℕ} 0 1 = cc in absurd (omega arith)
 
 lots-never : (mid : ℤ) (c : GLFTConfig) (r : Reckoning) (l : ℤ) (q : GlftQuotes) (s : ℕ) → quotesOfLots mid c r l ≡ Exact.Quotes q s → OutsideOf mid (answerFrom (r .vector) (r .k) (r .base) l) q s

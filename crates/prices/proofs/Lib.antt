@@ -1,1 +1,4 @@
 pub mod Building
+pub mod Refusing
+pub mod Facing
+pub mod Outward

@@ -2,14 +2,13 @@
 use lib.IntN.{ℤ}
 use mathlib.Core.Bool.{Bool, true, false}
 use Rattle.amounts.specs.Amounts.{amountOk}
-use Rattle.prices.specs.Prices.{Judged, quoted, refused, quotesBy}
 use Rattle.amounts.specs.Refusals.{beyond}
 use Rattle.prices.specs.declared.Price.{Price}
 use Rattle.prices.specs.declared.Price.the-variants as Price
-use Rattle.prices.specs.declared.build.Side.{Side}
-use Rattle.prices.specs.declared.build.Side.the-variants as Side
-use Rattle.prices.specs.declared.Built.{Built}
-use Rattle.prices.specs.declared.Built.the-variants as Built
+use Rattle.prices.specs.declared.Rounded.{Rounded}
+use Rattle.prices.specs.declared.Rounded.the-variants as Rounded
+use Rattle.prices.specs.declared.rounding.Side.{Side}
+use Rattle.prices.specs.declared.rounding.Side.the-variants as Side
 
 -- a side's rounded distance, where it is within the limit
 unfoldable pub sideBy : Bool → ℤ → Side
@@ -20,18 +19,8 @@ unfoldable pub sideOf : Price → Side
 sideOf Price.Absent = Side.Absent
 sideOf (Price.At z) = sideBy (amountOk z) z
 
-unfoldable pub builtOf : Judged → Built
-builtOf (quoted q) = Built.Quotes q
-builtOf (refused r) = Built.Refused r
-
--- is a distance that a side holds within the limit
-unfoldable pub sideOk : Side → Bool
-sideOk (Side.At z) = amountOk z
-sideOk Side.Absent = true
-sideOk Side.Beyond = true
-
--- quotes from a bid's rounded distance and the ask's side
-unfoldable pub builtWith : ℤ → ℤ → Price → Side → Built
-builtWith mid least b (Side.At a) = builtOf (quotesBy mid least b (Price.At a))
-builtWith mid least b Side.Absent = builtOf (quotesBy mid least b Price.Absent)
-builtWith mid least b Side.Beyond = Built.Refused beyond
+-- a bid that is within the limit, with the ask's side
+unfoldable pub roundedWith : Price → Side → Rounded
+roundedWith b (Side.At a) = Rounded.Sides b (Price.At a)
+roundedWith b Side.Absent = Rounded.Sides b Price.Absent
+roundedWith b Side.Beyond = Rounded.Refused beyond

@@ -1,16 +1,19 @@
-// From distances to bid and ask.
-mod build;
+// From distances to bid and ask, in three parts: distances to whole billionths, the widening, and the
+// judgement of any two prices.
+mod judging;
 pub mod refusals;
+mod rounding;
+mod widening;
 
+pub use judging::judge;
+pub use rounding::round_sides;
+pub use widening::widen;
 ghost use mathlib.Core.Path.{_≡_};
-ghost use lib.Dec.{T};
 ghost use Rattle.amounts.specs.Amounts.{amountOk};
-ghost use Rattle.prices.specs.Prices.{buildQuotes};
-ghost use Rattle.prices.specs.Inner.{builtOf};
-use build::Side;
-use distances::Distance;
+ghost use Rattle.prices.specs.Prices.{each};
 
-// A price; at the bound one side is withheld.
+// A price; at the bound one side is withheld. Before it is a price it is a side's distance in
+// billionths.
 pub enum Price {
     At(i64),
     Absent,
@@ -21,22 +24,24 @@ pub struct GlftQuotes {
     pub ask: Price,
 }
 
-// Quotes, or a refusal by 13 or 14.
-pub enum Built {
+// The two sides in whole billionths, or a refusal by 11 or 13.
+pub enum Rounded {
+    Sides(Price, Price),
+    Refused(u8),
+}
+
+// Two prices, or a refusal's number.
+pub enum QuotesAnswer {
     Quotes(GlftQuotes),
     Refused(u8),
 }
 
-// Builds the quotes from the distances, applies the min spread and checks them: refused by 13, then
-// 14.
-pub fn build_quotes(mid: i64, least: i64, bid: Distance, ask: Distance) -> Built
-    requires { ⌜ T (amountOk mid) × T (amountOk least) ⌝ }
-    ensures { λ r. ⌜ r ≡ builtOf (buildQuotes mid least bid ask) ⌝ }
+// Whether a side is absent or within the amount limit.
+pub(crate) fn side_fits(p: Price) -> bool
+    ensures { λ r. ⌜ r ≡ each amountOk p ⌝ }
 {
-    let a = build::side_of(ask);
-    match build::side_of(bid) {
-        Side::At(b) => build::with_bid(mid, least, b, a),
-        Side::Absent => build::without_bid(mid, least, a),
-        Side::Beyond => Built::Refused(amounts::refusals::BEYOND),
+    match p {
+        Price::At(x) => amounts::amount_fits(x),
+        Price::Absent => true,
     }
 }

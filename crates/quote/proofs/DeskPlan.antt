@@ -22,7 +22,9 @@ use Rattle.distances.proofs.Count.{step-counts, count-is-first-plan}
 use Rattle.amounts.specs.Amounts.{timeOk, tauOf}
 use Rattle.model.specs.Configuration.{configOk}
 use Rattle.model.specs.Model.{lots, marketOk, holdingOk, modelOk, modelOf, modelFrom, modelBy, modelIf, modelLimits, newModel}
-use Rattle.prices.specs.Prices.{Judged, quoted, refused, buildQuotes}
+use Rattle.prices.specs.Prices.{buildQuotes}
+use Rattle.prices.specs.declared.QuotesAnswer.{QuotesAnswer}
+use Rattle.prices.specs.declared.QuotesAnswer.the-variants.{Quotes as quoted, Refused as refused}
 use Rattle.quote.specs.Quotes.{exactFrom, exactIf, exactAnswer, withSteps, exactBy, exactQuotes, stepsFrom, stepsIf, exactSteps}
 use Rattle.quote.specs.Horizon.{planFrom, deskPlanIf, deskPlan, DeskPlanIsFirst, DeskPlanRefusals}
 use Rattle.model.specs.declared.GLFTConfig.{GLFTConfig}
@@ -34,7 +36,7 @@ use Rattle.model.proofs.Passed.{bound-passed, lots-passed, tau-passed, floats-p
 use Rattle.quote.proofs.Refusing.{after-checks, late, right}
 
 -- ---- the report of an exact call is that of its answer
-judged-report : (s : ℕ) (j : Judged) (need : Float) (b : ℕ) → withSteps s j ≡ ExactQuotes.OverStepCap need b 0 → _≡_ {A = ℕ} 0 1
+judged-report : (s : ℕ) (j : QuotesAnswer) (need : Float) (b : ℕ) → withSteps s j ≡ ExactQuotes.OverStepCap need b 0 → _≡_ {A = ℕ} 0 1
 unfolding withSteps
 judged-report s (quoted q) need b e = cc
 judged-report s (refused r) need b e = cc

@@ -1,5 +1,6 @@
 pub mod Mirrors
 pub mod Pairs
+pub mod Finite
 pub mod Refusing
 pub mod Outward
 pub mod Replies

@@ -21,7 +21,8 @@ use Rattle.amounts.specs.Amounts.{timeOk, tauOf}
 use Rattle.model.specs.Configuration.{configOk}
 use Rattle.model.specs.Model.{lots, holdingOk, modelOf, modelFrom, modelBy, newModel, driftlessModel}
 use Rattle.quote.specs.ClosedForm.{slope, formBid, formAsk, bidForm, askForm, formIf, closedFormDistances}
-use Rattle.prices.specs.Prices.{side, widening, bidPrice, askPrice, quoted, buildQuotes}
+use Rattle.prices.specs.Prices.{widened, side, widening, bidPrice, askPrice, buildQuotes}
+use Rattle.prices.specs.declared.QuotesAnswer.the-variants.{Quotes as quoted}
 use Rattle.quote.specs.Quotes.{exactFrom, exactIf, exactAnswer, exactBy, exactQuotes, optimalQuotes, closedFrom, closedAnswer, closedBy, closedFormQuotes}
 use Rattle.quote.specs.Presence.{Presence, ExactPresence, OptimalPresence, ClosedPresence}
 use Rattle.model.specs.declared.GLFTConfig.{GLFTConfig}
@@ -33,7 +34,8 @@ use Rattle.quote.specs.declared.ExactQuotes.the-variants as Exact
 use Rattle.quote.specs.declared.ClosedFormQuotes.the-variants as Closed
 use Rattle.amounts.proofs.Signed.{natAbs-neg, ltZ-neg}
 use Rattle.model.proofs.Passed.{Outcome, stopped, passed, outcome, lots-passed}
-use Rattle.quote.proofs.Pairs.{built-is, with-steps-is, wrapped-is, of-judged-is}
+use Rattle.prices.proofs.Facing.{built-is}
+use Rattle.quote.proofs.Pairs.{with-steps-is, wrapped-is, of-quotes-is}
 
 -- ---- a price is absent where its distance is
 bid-absent : (mid w : ℤ) (b : Distance) → (bidPrice mid w (side b) ≡ Absent) ↔ (b ≡ Distance.Absent)
@@ -49,6 +51,7 @@ ask-absent mid w (Distance.At d) = (λ e. cc, λ e. cc)
 -- ---- quotes from distances that withhold a side at the bound alone
 module _ (mid least h : ℤ) (c : GLFTConfig) (q : GlftQuotes) where
   built : (b a : Distance) → Withheld (c .«max_inventory_lots») (lots h c) b a → buildQuotes mid least b a ≡ quoted q → Presence h c q
+  unfolding widened
   built b a w e =
       let m = widening least (side b) (side a) in
       rw (built-is mid least b a q e) (record { bid = Iff·trans (bid-absent mid m b) (w .0); ask = Iff·trans (ask-absent mid m a) (w .1) })
@@ -62,7 +65,7 @@ module _ (mid least h : ℤ) (c : GLFTConfig) (q : GlftQuotes) where
 
   closed-built : (r : Sides) → ((b a : Distance) → r ≡ Sides.Distances b a → Withheld (c .«max_inventory_lots») (lots h c) b a) → closedBy mid least r ≡ Closed.Quotes q → Presence h c q
   unfolding closedBy
-  closed-built (Sides.Distances b a) w e = built b a (w b a refl) (of-judged-is (buildQuotes mid least b a) q e)
+  closed-built (Sides.Distances b a) w e = built b a (w b a refl) (of-quotes-is (buildQuotes mid least b a) q e)
   closed-built (Sides.Refused r) w e = let z : _≡_ {A = ℕ} 0 1 = cc in absurd (omega arith)
 
 -- ---- exact quotes

@@ -23,10 +23,11 @@ use Rattle.amounts.specs.Amounts.{timeOk, tauOf}
 use Rattle.model.specs.Configuration.{configOk}
 use Rattle.model.specs.Model.{lots, marketOk, holdingOk, modelOk, modelOf, modelFrom, modelBy, modelIf, modelLimits, newModel, driftless, driftlessModel}
 use Rattle.quote.specs.ClosedForm.{slope, bidForm, askForm, formIf, closedFormDistances}
-use Rattle.prices.specs.Prices.{side, widening, bidPrice, askPrice, Judged, quoted, refused, judgeIf, judge, quotesBy, buildQuotes}
-use Rattle.quote.specs.Quotes.{withSteps, exactBy, exactFrom, exactIf, exactAnswer, exactQuotes, wrapped, optimalQuotes, ofJudged, closedBy, closedFrom, closedAnswer, closedFormQuotes}
+use Rattle.prices.specs.declared.QuotesAnswer.{QuotesAnswer}
+use Rattle.prices.specs.declared.QuotesAnswer.the-variants.{Quotes as quoted, Refused as refused}
+use Rattle.quote.specs.Quotes.{withSteps, exactBy, exactFrom, exactIf, exactAnswer, exactQuotes, wrapped, optimalQuotes, ofQuotes, closedBy, closedFrom, closedAnswer, closedFormQuotes}
 use Rattle.model.specs.Refusing.{Checked, Passed}
-use Rattle.prices.specs.Refusing.{Within, Ordered, Priced, by-13, by-14}
+use Rattle.prices.specs.Refusing.{Priced}
 use Rattle.quote.specs.Promises.{PricedOf, FormFails, by-slope, by-bid, by-ask, ExactRefusals, OptimalRefusals, ClosedRefusals}
 use Rattle.model.specs.declared.GLFTConfig.{GLFTConfig}
 use Rattle.model.specs.declared.Model.{Model}
@@ -37,23 +38,9 @@ use Rattle.quote.specs.declared.ExactQuotes.the-variants as Exact
 use Rattle.quote.specs.declared.OptimalQuotes.the-variants as Optimal
 use Rattle.quote.specs.declared.ClosedFormQuotes.the-variants as Closed
 use Rattle.model.proofs.Passed.{Outcome, stopped, passed, outcome, stops, bound-passed, lots-passed, tau-passed, floats-passed}
-
--- ---- by the prices
-module _ (mid least : ℤ) where
-  priced : (b a : Distance) (n : ℕ) → buildQuotes mid least b a ≡ refused n → Priced mid least b a n
-  unfolding buildQuotes quotesBy judge judgeIf
-  priced b a n = go (Within mid least b a) (Ordered mid least b a) refl refl
-    where
-      go : (x o : Bool) → Within mid least b a ≡ x → Ordered mid least b a ≡ o
-          → let w = widening least (side b) (side a) in judgeIf x o (bidPrice mid w (side b)) (askPrice mid w (side a)) ≡ refused n → Priced mid least b a n
-      go false o h k e = subst (λ (m : ℕ). Priced mid least b a m) (cc) (by-13 h)
-      go true false h k e = subst (λ (m : ℕ). Priced mid least b a m) (cc) (by-14 h k)
-      go true true h k e = let z : _≡_ {A = ℕ} 0 1 = cc in absurd (omega arith)
-
-  unpriced : (b a : Distance) (n : ℕ) → Priced mid least b a n → buildQuotes mid least b a ≡ refused n
-  unfolding buildQuotes quotesBy judge judgeIf
-  unpriced b a n (by-13 h) = rw h
-  unpriced b a n (by-14 h k) = rw (h, k)
+use Rattle.distances.specs.Promises.{Finite}
+use Rattle.prices.proofs.Refusing.{prices-refused}
+use Rattle.quote.proofs.Finite.{answer-finite, closed-finite}
 
 -- ---- by the numbers' checks, or after them: g reckons from a model, and answers a refusal by its number
 module _ {R : Type 0} (refusal : ℕ → R) (g : ModelAnswer → R) (kept : (r : ℕ) → g (ModelAnswer.Refused r) ≡ refusal r) (alike : (r n : ℕ) → refusal r ≡ refusal n → r ≡ n) where
@@ -111,21 +98,30 @@ answer-is mid h c vol t = go (timeOk t)
     go true = refl
     go false = refl
 
-with-steps-refused : (s : ℕ) (j : Judged) (n : ℕ) → withSteps s j ≡ Exact.Refused n → j ≡ refused n
+with-steps-refused : (s : ℕ) (j : QuotesAnswer) (n : ℕ) → withSteps s j ≡ Exact.Refused n → j ≡ refused n
 unfolding withSteps
 with-steps-refused s (quoted q) n e = cc
 with-steps-refused s (refused r) n e = cc
 
-module _ (mid least : ℤ) where
-  exact-refused : (r : Answer) (n : ℕ) → exactBy mid least r ≡ Exact.Refused n → (r ≡ Answer.Refused n) ⊎ PricedOf mid least r n
-  unfolding exactBy
-  exact-refused (Answer.Distances b a s) n e = inr (b, a, s, refl, priced mid least b a n (with-steps-refused s _ n e))
-  exact-refused (Answer.OverCap need b s) n e = let z : _≡_ {A = ℕ} 0 1 = cc in absurd (omega arith)
-  exact-refused (Answer.Refused r) n e = inl (cc)
+-- an answer whose distances, if it has any, are finite
+abbrev FiniteAnswer : Answer → Type 0
+FiniteAnswer r = (b a : Distance) (s : ℕ) → r ≡ Answer.Distances b a s → Finite b a
 
-  pub exact-by : (r : Answer) (n : ℕ) → (exactBy mid least r ≡ Exact.Refused n) ↔ ((r ≡ Answer.Refused n) ⊎ PricedOf mid least r n)
+module _ (mid least : ℤ) where
+  exact-refused : (r : Answer) (n : ℕ) → FiniteAnswer r → exactBy mid least r ≡ Exact.Refused n → (r ≡ Answer.Refused n) ⊎ PricedOf mid least r n
+  unfolding exactBy
+  exact-refused (Answer.Distances b a s) n f e =
+      let g = f b a s refl in
+      inr (b, a, s, refl, prices-refused mid least b a n (g .0) (g .1) .0 (with-steps-refused s _ n e))
+  exact-refused (Answer.OverCap need b s) n f e = let z : _≡_ {A = ℕ} 0 1 = cc in absurd (omega arith)
+  exact-refused (Answer.Refused r) n f e = inl (cc)
+
+  pub exact-by : (r : Answer) (n : ℕ) → FiniteAnswer r → (exactBy mid least r ≡ Exact.Refused n) ↔ ((r ≡ Answer.Refused n) ⊎ PricedOf mid least r n)
   unfolding exactBy withSteps
-  exact-by r n = (exact-refused r n, λ x. elim x [ inl e ↦ rw e | inr p ↦ rw (p .3, unpriced mid least (p .0) (p .1) n (p .4)) ])
+  exact-by r n f = (
+    exact-refused r n f,
+    λ x. elim x [ inl e ↦ rw e | inr p ↦ let g = f (p .0) (p .1) (p .2) (p .3) in rw (p .3, prices-refused mid least (p .0) (p .1) n (g .0) (g .1) .1 (p .4)) ],
+  )
 
 same-answer : (r n : ℕ) → Answer.Refused r ≡ Answer.Refused n → r ≡ n
 same-answer r n e = cc
@@ -135,7 +131,7 @@ unfolding exactQuotes exactFrom modelOf modelFrom modelBy
 exact-refusals mid h c vol t n =
     let tau = tauOf (c .«terminal_time») t in
     let m = modelOf c vol in
-    joined (exact-by mid (c .«min_spread») (exactAnswer mid h c vol t) n)
+    joined (exact-by mid (c .«min_spread») (exactAnswer mid h c vol t) n (answer-finite mid h c vol t))
     (rw (answer-is mid h c vol t) (Iff·trans (after-checks Answer.Refused (λ x. exactFrom x tau) (λ r. refl) same-answer (timeOk t && modelLimits mid h c vol) (configOk c) true (marketOk mid vol) (holdingOk h c) (modelOk m) m (lots h c) n)
     (right (late (λ p. float-fails (m .k) (m .alpha) (m .beta) (m .eta) (m .base) (m .«q_max») tau (lots h c) n (floats-passed m tau (p .5) (tau-passed mid h c vol t (p .0))) (bound-passed c (p .1)) (lots-passed h c (p .4)))))))
 
@@ -172,23 +168,31 @@ form-fails m q n = (to (positive (slope m)) refl, from)
     from (e, by-bid s x) = rw (e, s, x)
     from (e, by-ask s x) = rw (e, s, x, neither)
 
-of-judged-refused : (j : Judged) (n : ℕ) → ofJudged j ≡ Closed.Refused n → j ≡ refused n
-unfolding ofJudged
-of-judged-refused (quoted q) n e = cc
-of-judged-refused (refused r) n e = cc
+of-quotes-refused : (j : QuotesAnswer) (n : ℕ) → ofQuotes j ≡ Closed.Refused n → j ≡ refused n
+unfolding ofQuotes
+of-quotes-refused (quoted q) n e = cc
+of-quotes-refused (refused r) n e = cc
+
+abbrev FiniteSides : Sides → Type 0
+FiniteSides r = (b a : Distance) → r ≡ Sides.Distances b a → Finite b a
 
 abbrev PricedSides : ℤ → ℤ → Sides → ℕ → Type 0
 PricedSides mid least r n = (b : Distance) × (a : Distance) × (r ≡ Sides.Distances b a) × Priced mid least b a n
 
 module _ (mid least : ℤ) where
-  closed-refused : (r : Sides) (n : ℕ) → closedBy mid least r ≡ Closed.Refused n → (r ≡ Sides.Refused n) ⊎ PricedSides mid least r n
+  closed-refused : (r : Sides) (n : ℕ) → FiniteSides r → closedBy mid least r ≡ Closed.Refused n → (r ≡ Sides.Refused n) ⊎ PricedSides mid least r n
   unfolding closedBy
-  closed-refused (Sides.Distances b a) n e = inr (b, a, refl, priced mid least b a n (of-judged-refused _ n e))
-  closed-refused (Sides.Refused r) n e = inl (cc)
+  closed-refused (Sides.Distances b a) n f e =
+      let g = f b a refl in
+      inr (b, a, refl, prices-refused mid least b a n (g .0) (g .1) .0 (of-quotes-refused _ n e))
+  closed-refused (Sides.Refused r) n f e = inl (cc)
 
-  closed-by : (r : Sides) (n : ℕ) → (closedBy mid least r ≡ Closed.Refused n) ↔ ((r ≡ Sides.Refused n) ⊎ PricedSides mid least r n)
-  unfolding closedBy ofJudged
-  closed-by r n = (closed-refused r n, λ x. elim x [ inl e ↦ rw e | inr p ↦ rw (p .2, unpriced mid least (p .0) (p .1) n (p .3)) ])
+  closed-by : (r : Sides) (n : ℕ) → FiniteSides r → (closedBy mid least r ≡ Closed.Refused n) ↔ ((r ≡ Sides.Refused n) ⊎ PricedSides mid least r n)
+  unfolding closedBy ofQuotes
+  closed-by r n f = (
+    closed-refused r n f,
+    λ x. elim x [ inl e ↦ rw e | inr p ↦ let g = f (p .0) (p .1) (p .2) in rw (p .2, prices-refused mid least (p .0) (p .1) n (g .0) (g .1) .1 (p .3)) ],
+  )
 
 same-sides : (r n : ℕ) → Sides.Refused r ≡ Sides.Refused n → r ≡ n
 same-sides r n e = cc
@@ -197,6 +201,6 @@ pub closed-refusals : ClosedRefusals
 unfolding closedFormQuotes closedAnswer closedFrom driftlessModel
 closed-refusals mid h c vol n =
     let m = modelOf c vol in
-    joined (closed-by mid (c .«min_spread») (closedAnswer mid h c vol) n)
+    joined (closed-by mid (c .«min_spread») (closedAnswer mid h c vol) n (closed-finite (driftlessModel mid h c vol)))
     (Iff·trans (after-checks Sides.Refused closedFrom (λ r. refl) same-sides (modelLimits mid h c vol) (configOk c) (driftless c) (marketOk mid vol) (holdingOk h c) (modelOk m) m (lots h c) n)
     (right (late (λ p. form-fails m (lots h c) n))))

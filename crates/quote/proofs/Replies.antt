@@ -19,7 +19,7 @@ use Rattle.distances.proofs.Refusing.{never, float-reports}
 use Rattle.prices.specs.Refusals.{crossed}
 use Rattle.amounts.specs.Amounts.{amountLimit, amountOk, above0, timeOk, tauOf}
 use Rattle.model.specs.Model.{newModel}
-use Rattle.prices.specs.Prices.{each, inOrder, judgeIf, judge, quotesBy, buildQuotes}
+use Rattle.prices.specs.Prices.{each, inOrder, judgeIf, judge, quotesBy, buildQuotes, rounded, roundedIf, side, widened}
 use Rattle.quote.specs.Quotes.{withSteps, exactFrom, exactIf, exactAnswer, exactBy, exactQuotes, exactSteps}
 use Rattle.model.specs.Refusing.{Checked, by-2, by-1, by-22, by-3, by-4, by-5}
 use Rattle.prices.specs.Refusing.{Priced, by-13, by-14}
@@ -28,10 +28,12 @@ use Rattle.model.specs.declared.GLFTConfig.{GLFTConfig}
 use Rattle.model.specs.declared.ModelAnswer.{ModelAnswer}
 use Rattle.model.specs.declared.ModelAnswer.the-variants as ModelAnswer
 use Rattle.prices.specs.declared.Price.{Price}
+use Rattle.prices.specs.declared.GlftQuotes.{GlftQuotes}
 use Rattle.prices.specs.declared.Price.the-variants.{At, Absent}
 use Rattle.quote.specs.declared.ExactQuotes.the-variants as Exact
 use Rattle.quote.proofs.Mirrors.{exact-counted}
 use Rattle.quote.proofs.Refusing.{exact-refusals}
+use Rattle.distances.specs.Distances.{fine}
 
 -- ---- a price that passed 13 and 14
 price-kept : (p : Price) → each amountOk p ≡ true → each above0 p ≡ true → PriceKept p
@@ -40,20 +42,29 @@ price-kept Absent a h = tt
 price-kept (At (pos n)) a h = (ltb-true 0 n h, leb-true n amountLimit a)
 price-kept (At (negsuc n)) a h = let z : false ≡ true = h in absurd (subst T (sym z) tt)
 
--- are the amounts within the limit, are the prices positive and in order
-quotes-kept : (s : ℕ) (db da b a : Price) → s ≤ cap → ReplyKept (withSteps s (judge db da b a))
+-- are the prices within the limit, are they positive and in order
+judged-kept : (s : ℕ) (q : GlftQuotes) → s ≤ cap → ReplyKept (withSteps s (judge q))
 unfolding judge judgeIf withSteps ReplyKept
-quotes-kept s db da b a h = go _ _ refl refl
+judged-kept s q h = go _ _ refl refl
   where
-    go : (x o : Bool) → (each amountOk db && each amountOk da && each amountOk b && each amountOk a) ≡ x → (each above0 b && each above0 a && inOrder b a) ≡ o
-        → ReplyKept (withSteps s (judgeIf x o b a))
+    go : (x o : Bool) → (each amountOk (q .bid) && each amountOk (q .ask)) ≡ x → (each above0 (q .bid) && each above0 (q .ask) && inOrder (q .bid) (q .ask)) ≡ o
+        → ReplyKept (withSteps s (judgeIf x o q))
     go false o e k = omega arith
     go true false e k = omega arith
     go true true e k =
-        let p = each amountOk db && each amountOk da in
-        let u = and-eq-true-iff (p && each amountOk b) (each amountOk a) .0 e in
-        let v = and-eq-true-iff (each above0 b) (each above0 a) .0 (and-eq-true-iff (each above0 b && each above0 a) (inOrder b a) .0 k .0) in
-        (price-kept b (and-eq-true-iff p (each amountOk b) .0 (u .0) .1) (v .0), price-kept a (u .1) (v .1), h)
+        let u = and-eq-true-iff (each amountOk (q .bid)) (each amountOk (q .ask)) .0 e in
+        let v = and-eq-true-iff (each above0 (q .bid)) (each above0 (q .ask)) .0 (and-eq-true-iff (each above0 (q .bid) && each above0 (q .ask)) (inOrder (q .bid) (q .ask)) .0 k .0) in
+        (price-kept (q .bid) (u .0) (v .0), price-kept (q .ask) (u .1) (v .1), h)
+
+-- from distances: a rounding that is refused is so by 11 or 13
+quotes-kept : (s : ℕ) (mid least : ℤ) (b a : Distance) → s ≤ cap → ReplyKept (withSteps s (buildQuotes mid least b a))
+unfolding buildQuotes quotesBy rounded roundedIf withSteps ReplyKept
+quotes-kept s mid least b a h = go (fine b && fine a) (each amountOk (side b) && each amountOk (side a))
+  where
+    go : (x y : Bool) → ReplyKept (withSteps s (quotesBy mid least (roundedIf x y (side b) (side a))))
+    go false y = omega arith
+    go true false = omega arith
+    go true true = judged-kept s (widened mid least (side b) (side a)) h
 
 -- ---- a report is of more steps than the budget, so of a number
 Reported : Answer → Type 0

@@ -1,7 +1,6 @@
 pub mod Refusals
 pub mod ClosedForm
 pub mod Quotes
-pub mod Inner
 pub mod Promises
 pub mod Replies
 pub mod Presence

@@ -23,7 +23,9 @@ use Rattle.quote.specs.declared.OptimalQuotes.{OptimalQuotes}
 use Rattle.quote.specs.declared.OptimalQuotes.the-variants as OptimalQuotes
 use Rattle.quote.specs.declared.ClosedFormQuotes.{ClosedFormQuotes}
 use Rattle.quote.specs.declared.ClosedFormQuotes.the-variants as ClosedFormQuotes
-use Rattle.prices.specs.Prices.{Judged, buildQuotes, quoted, refused}
+use Rattle.prices.specs.Prices.{buildQuotes}
+use Rattle.prices.specs.declared.QuotesAnswer.{QuotesAnswer}
+use Rattle.prices.specs.declared.QuotesAnswer.the-variants as QuotesAnswer
 
 -- ---- before prices: the distances with their steps, a report, or a refusal
 unfoldable pub exactFrom : ModelAnswer → Float → Answer
@@ -55,9 +57,9 @@ unfoldable pub closedAnswer : ℤ → ℤ → GLFTConfig → ℤ → Sides
 closedAnswer mid h c vol = closedFrom (driftlessModel mid h c vol)
 
 -- ---- the entries
-unfoldable pub withSteps : ℕ → Judged → ExactQuotes
-withSteps s (quoted q) = ExactQuotes.Quotes q s
-withSteps s (refused r) = ExactQuotes.Refused r
+unfoldable pub withSteps : ℕ → QuotesAnswer → ExactQuotes
+withSteps s (QuotesAnswer.Quotes q) = ExactQuotes.Quotes q s
+withSteps s (QuotesAnswer.Refused r) = ExactQuotes.Refused r
 
 unfoldable pub exactBy : ℤ → ℤ → Answer → ExactQuotes
 exactBy mid least (Answer.Distances b a s) = withSteps s (buildQuotes mid least b a)
@@ -76,12 +78,12 @@ wrapped (ExactQuotes.Refused r) = OptimalQuotes.Refused r
 unfoldable pub optimalQuotes : ℤ → ℤ → GLFTConfig → ℤ → ℕ → OptimalQuotes
 optimalQuotes mid h c vol t = wrapped (exactQuotes mid h c vol t)
 
-unfoldable pub ofJudged : Judged → ClosedFormQuotes
-ofJudged (quoted q) = ClosedFormQuotes.Quotes q
-ofJudged (refused r) = ClosedFormQuotes.Refused r
+unfoldable pub ofQuotes : QuotesAnswer → ClosedFormQuotes
+ofQuotes (QuotesAnswer.Quotes q) = ClosedFormQuotes.Quotes q
+ofQuotes (QuotesAnswer.Refused r) = ClosedFormQuotes.Refused r
 
 unfoldable pub closedBy : ℤ → ℤ → Sides → ClosedFormQuotes
-closedBy mid least (Sides.Distances b a) = ofJudged (buildQuotes mid least b a)
+closedBy mid least (Sides.Distances b a) = ofQuotes (buildQuotes mid least b a)
 closedBy mid least (Sides.Refused r) = ClosedFormQuotes.Refused r
 
 unfoldable pub closedFormQuotes : ℤ → ℤ → GLFTConfig → ℤ → ClosedFormQuotes

@@ -3,8 +3,8 @@ ghost use mathlib.Core.Path.{_≡_};
 ghost use lib.Dec.{T};
 ghost use Rattle.distances.specs.FloatEntry.{floatEntry};
 ghost use Rattle.amounts.specs.Amounts.{amountOk};
-ghost use Rattle.quote.specs.Quotes.{exactBy, closedBy, quotesByAnswer};
-ghost use Rattle.quote.specs.Inner.{stepsWith};
+ghost use Rattle.quote.specs.Quotes.{withSteps, exactBy, closedBy, quotesByAnswer};
+ghost use Rattle.prices.specs.Prices.{each, widened, judge, buildQuotes};
 use crate::ClosedFormQuotes;
 use crate::ExactQuotes;
 use amounts::amount_fits;
@@ -13,15 +13,38 @@ use distances::Answer;
 use distances::Distance;
 use distances::Sides;
 use model::Model;
-use prices::Built;
-use prices::build_quotes;
+use prices::Price;
+use prices::QuotesAnswer;
+use prices::Rounded;
 
-fn with_steps(b: Built, steps: u32) -> ExactQuotes
-    ensures { λ r. ⌜ r ≡ stepsWith steps b ⌝ }
+// The quotes of two sides in whole billionths: widened to the min spread, then judged.
+fn priced(mid: i64, least: i64, bid: Price, ask: Price) -> QuotesAnswer
+    requires { ⌜ T (amountOk mid) × T (amountOk least) × T (each amountOk bid) × T (each amountOk ask) ⌝ }
+    ensures { λ r. ⌜ r ≡ judge (widened mid least bid ask) ⌝ }
+{
+    match prices::widen(mid, least, bid, ask) {
+        QuotesAnswer::Quotes(q) => prices::judge(q),
+        QuotesAnswer::Refused(number) => QuotesAnswer::Refused(number),
+    }
+}
+
+// Builds the quotes from the distances: rounded, widened and judged.
+fn build_quotes(mid: i64, least: i64, bid: Distance, ask: Distance) -> QuotesAnswer
+    requires { ⌜ T (amountOk mid) × T (amountOk least) ⌝ }
+    ensures { λ r. ⌜ r ≡ buildQuotes mid least bid ask ⌝ }
+{
+    match prices::round_sides(bid, ask) {
+        Rounded::Sides(b, a) => priced(mid, least, b, a),
+        Rounded::Refused(number) => QuotesAnswer::Refused(number),
+    }
+}
+
+fn with_steps(b: QuotesAnswer, steps: u32) -> ExactQuotes
+    ensures { λ r. ⌜ r ≡ withSteps steps b ⌝ }
 {
     match b {
-        Built::Quotes(q) => ExactQuotes::Quotes(q, steps),
-        Built::Refused(number) => ExactQuotes::Refused(number),
+        QuotesAnswer::Quotes(q) => ExactQuotes::Quotes(q, steps),
+        QuotesAnswer::Refused(number) => ExactQuotes::Refused(number),
     }
 }
 
@@ -55,8 +78,8 @@ pub(crate) fn closed_of(mid: i64, least: i64, sides: Sides) -> ClosedFormQuotes
     match sides {
         Sides::Distances(bid, ask) => {
             match build_quotes(mid, least, bid, ask) {
-                Built::Quotes(q) => ClosedFormQuotes::Quotes(q),
-                Built::Refused(number) => ClosedFormQuotes::Refused(number),
+                QuotesAnswer::Quotes(q) => ClosedFormQuotes::Quotes(q),
+                QuotesAnswer::Refused(number) => ClosedFormQuotes::Refused(number),
             }
         }
         Sides::Refused(number) => ClosedFormQuotes::Refused(number),

@@ -1,33 +1,17 @@
-use mathlib.Core.Path.{_≡_, refl}
+use mathlib.Core.Path.{_≡_}
 use mir.Facts.{toZ-ofZ}
 use borrow.Author.Needs.{needs}
-use Rattle.prices.specs.Prices.{Judged, quoted, refused}
-use Rattle.quote.specs.Quotes.{ofJudged, closedBy}
-use Rattle.prices.specs.Inner.{builtOf}
-use Rattle.quote.specs.declared.ClosedFormQuotes.{ClosedFormQuotes}
-use Rattle.quote.specs.declared.ClosedFormQuotes.the-variants as ClosedFormQuotes
-use Rattle.prices.specs.declared.Built.{Built}
-use Rattle.prices.specs.declared.Built.the-variants as Built
+use Rattle.quote.specs.Quotes.{ofQuotes, closedBy}
 use Rattle.quote.proofs.quotes.closed_of.Statement.{statement}
 use Rattle.quote.proofs.quotes.closed_of.Tie as tie
 
--- the reply to what was built
-unfoldable reply : Built → ClosedFormQuotes
-reply (Built.Quotes q) = ClosedFormQuotes.Quotes q
-reply (Built.Refused r) = ClosedFormQuotes.Refused r
-
-reply-is : (j : Judged) → ofJudged j ≡ reply (builtOf j)
-unfolding reply ofJudged builtOf
-reply-is (quoted q) = refl
-reply-is (refused r) = refl
-
 closed-is : (c : tie.After-build-quotes) → let s = c .before .before .before .before in
-    closedBy (s .args .mid) (s .args .least) (s .args .sides) ≡ reply (c .build-quotes .result)
+    closedBy (s .args .mid) (s .args .least) (s .args .sides) ≡ ofQuotes (c .build-quotes .result)
 unfolding closedBy
 closed-is c =
     let a = c .before .before in
     let s = a .before .before in
-    rw (a .sides .given .1, c .build-quotes .ensures, toZ-ofZ (s .fits .mid), toZ-ofZ (s .fits .least), reply-is)
+    rw (a .sides .given .1, c .build-quotes .ensures, toZ-ofZ (s .fits .mid), toZ-ofZ (s .fits .least))
 
 enum-known-sides : tie.Need-enum-known-sides
 enum-known-sides c = search needs
@@ -45,11 +29,11 @@ enum-known-sides-2 : tie.Need-enum-known-sides-2
 enum-known-sides-2 c = search needs
 
 returns : tie.Need-returns
-unfolding reply
+unfolding ofQuotes
 returns c = rw (closed-is (c .before .before .before), c .before .q .given .1)
 
 returns-2 : tie.Need-returns-2
-unfolding reply
+unfolding ofQuotes
 returns-2 c = rw (closed-is (c .before .before .before), c .before .number .given .1)
 
 returns-3 : tie.Need-returns-3

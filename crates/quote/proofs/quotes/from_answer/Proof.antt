@@ -1,18 +1,8 @@
-use mathlib.Core.Path.{_≡_, refl}
-use Prim.Native.Nat.{ℕ}
 use mir.Facts.{toZ-ofZ}
 use borrow.Author.Needs.{needs}
-use Rattle.prices.specs.Prices.{Judged, quoted, refused}
-use Rattle.quote.specs.Quotes.{withSteps, exactBy}
-use Rattle.prices.specs.Inner.{builtOf}
-use Rattle.quote.specs.Inner.{stepsWith}
+use Rattle.quote.specs.Quotes.{exactBy}
 use Rattle.quote.proofs.quotes.from_answer.Statement.{statement}
 use Rattle.quote.proofs.quotes.from_answer.Tie as tie
-
-with-steps : (s : ℕ) (j : Judged) → withSteps s j ≡ stepsWith s (builtOf j)
-unfolding builtOf withSteps stepsWith
-with-steps s (quoted q) = refl
-with-steps s (refused r) = refl
 
 enum-known-answer : tie.Need-enum-known-answer
 enum-known-answer c = search needs
@@ -34,7 +24,7 @@ unfolding exactBy
 returns c =
     let b = c .before in
     let s = b .before .before .before .before in
-    rw (b .before .before .answer .given .1, c .with-steps .ensures, b .build-quotes .ensures, toZ-ofZ (s .fits .mid), toZ-ofZ (s .fits .least), with-steps)
+    rw (b .before .before .answer .given .1, c .with-steps .ensures, b .build-quotes .ensures, toZ-ofZ (s .fits .mid), toZ-ofZ (s .fits .least))
 
 returns-2 : tie.Need-returns-2
 unfolding exactBy

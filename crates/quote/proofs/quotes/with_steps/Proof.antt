@@ -1,5 +1,5 @@
 use borrow.Author.Needs.{needs}
-use Rattle.quote.specs.Inner.{stepsWith}
+use Rattle.quote.specs.Quotes.{withSteps}
 use Rattle.quote.proofs.quotes.with_steps.Statement.{statement}
 use Rattle.quote.proofs.quotes.with_steps.Tie as tie
 
@@ -10,11 +10,11 @@ enum-known-b-2 : tie.Need-enum-known-b-2
 enum-known-b-2 c = search needs
 
 returns : tie.Need-returns
-unfolding stepsWith
+unfolding withSteps
 returns c = rw (c .before .b .given .1)
 
 returns-2 : tie.Need-returns-2
-unfolding stepsWith
+unfolding withSteps
 returns-2 c = rw (c .before .b2 .given .1)
 
 pub with-steps-spec : {M : Type 1} → statement M

@@ -14,8 +14,8 @@ use Rattle.prices.specs.Prices.{halfUp}
 use Rattle.amounts.proofs.Limits.{divides}
 use Rattle.amounts.proofs.Sizes.{size-add, size-fits}
 use Rattle.prices.proofs.Building.{size-half}
-use Rattle.prices.proofs.build.half_shortfall.Statement.{statement}
-use Rattle.prices.proofs.build.half_shortfall.Tie as tie
+use Rattle.prices.proofs.widening.half_shortfall.Statement.{statement}
+use Rattle.prices.proofs.widening.half_shortfall.Tie as tie
 
 -- the half, by whether there is a shortfall
 some : (z : ℤ) → ltZ (pos 0) z ≡ true → quotZ (z +ℤ pos 1) (pos 2) ≡ halfUp z
