@@ -4,8 +4,8 @@ use lib.Ieee.{sub, mul, div, le, ofInt, ofBits, toSigned, toUnsigned}
 use Rattle.elementary.specs.Float.{finite, positive, count}
 use Rattle.elementary.specs.Reply.{given}
 use Rattle.elementary.specs.Elementary.{horner, mantissa, exponent, odds, lnSum, lnSeries, lnJoin, lnParts, lnHalved, lnOf, LN, ln1pOf, LN1P, factorials, expSum, expN, expRest, expBy, expOf, EXP, ceilOf, CEIL, orNan}
-use Rattle.vector.specs.Vectors.{from, everyFrom, fold, larger, abs}
-use Rattle.vector.specs.Series.{diagonalAt, leftAt, rightAt}
+use Rattle.series.specs.Vectors.{from, everyFrom, fold, larger, abs}
+use Rattle.series.specs.Series.{diagonalAt, leftAt, rightAt}
 use Rattle.vector.specs.Run.{magnitudes, norm, needed, start, begin, runOn, fixed, firstIf, runFor, run}
 use Rattle.vector.specs.Values.{padded, vectorOf}
 use Rattle.distances.specs.Distances.{place, distance, bidAt, askAt, fine, sides, exactAt}

@@ -7,7 +7,7 @@ use lib.Ieee.{Float}
 use Rattle.elementary.specs.Float.{_⊕_, _⊘_, hex, whole, 0ᶠ, ½ᶠ, 1ᶠ, 2ᶠ}
 use Rattle.elementary.specs.Elementary.{LN2}
 use Rattle.vector.specs.Refusals.{numerical}
-use Rattle.vector.specs.Vectors.{fill}
+use Rattle.series.specs.Vectors.{fill}
 use Rattle.vector.specs.Run.{Fixed, Turn, going, ended, vector, overCap, failed, cap, norm, firstTurn, fixed}
 use Rattle.distances.specs.FloatEntry.{floatEntry}
 use Rattle.distances.specs.declared.Distance.{Distance}

@@ -10,7 +10,7 @@ use lib.Dec.{leb, ltb}
 use lib.ListN.{length, List·getD-append}
 use lib.Ieee.{Float, nan, neg}
 use Rattle.elementary.proofs.Signs.{finite-neg}
-use Rattle.vector.specs.Vectors.{at}
+use Rattle.series.specs.Vectors.{at}
 use Rattle.vector.specs.Run.{Ended, vector, overCap, failed, boundOk, rows, run, spent}
 use Rattle.vector.specs.Values.{padded, vectorOf, blankVector}
 use Rattle.vector.specs.Promises.{Mirror, MirrorEnd}

@@ -8,7 +8,7 @@ use lib.Ieee.{Float}
 use Rattle.elementary.specs.Float.{_⊕_, _⊖_, _⊘_, finite, positive}
 use Rattle.elementary.specs.Elementary.{LN, outside, orNan}
 use Rattle.vector.specs.Refusals.{configuration, numerical}
-use Rattle.vector.specs.Vectors.{at}
+use Rattle.series.specs.Vectors.{at}
 use Rattle.vector.specs.Run.{boundOk, rows}
 use Rattle.vector.specs.declared.ValueVector.{ValueVector}
 use Rattle.distances.specs.Refusals.{holding}

@@ -7,7 +7,7 @@ use lib.IntN.{ℤ, pos, negℤ, natAbs}
 use lib.Dec.{T, ltb}
 use lib.Ieee.{Float, binary64, neg, lt, fits}
 use Rattle.elementary.specs.Float.{0ᶠ, 1ᶠ}
-use Rattle.vector.specs.Vectors.{fill}
+use Rattle.series.specs.Vectors.{fill}
 use Rattle.vector.specs.Run.{cap, boundOk, rows}
 use Rattle.vector.specs.Values.{vectorOf}
 use Rattle.vector.specs.Promises.{Mirror}

@@ -13,8 +13,8 @@ use lib.Ieee.Bits.{is-true, is-false}
 use Rattle.elementary.specs.Float.{_⊗_, _⊘_, whole, 0ᶠ, 1ᶠ, finite, positive}
 use Rattle.elementary.proofs.Order.{lt→not-ge}
 use Rattle.vector.specs.Refusals.{numerical}
-use Rattle.vector.specs.Vectors.{tab, at, fill, every}
-use Rattle.vector.specs.Series.{diagonalAt, leftAt, rightAt}
+use Rattle.series.specs.Vectors.{tab, at, fill, every}
+use Rattle.series.specs.Series.{diagonalAt, leftAt, rightAt}
 use Rattle.vector.specs.Run.{Ended, overCap, failed, Fixed, fixedOver, Turn, ended, runOn, run, runFor, spent, cap, rows, boundOk, needed, start, begin, wholePlan, diagonalFinite, firstIf, firstTurn, fixed}
 use Rattle.vector.specs.Values.{ratesOk}
 use Rattle.vector.specs.Count.{planIn, planWhen, planIf, firstPlan, firstNorm, firstSize, FirstIs, no-time, not-finite, fails, over, kept, FirstPlanIs, by-5, by-1, passed, FirstPlans, FirstGoes}

@@ -12,8 +12,8 @@ use Rattle.elementary.specs.Float.{_⊕_, _⊗_, whole, 0ᶠ, 1ᶠ, 2ᶠ, finit
 use Rattle.elementary.proofs.Signs.{nonneg, ofInt-neg, finite-neg}
 use Rattle.elementary.proofs.Exact.{zero-is}
 use Rattle.elementary.proofs.Zeros.{zero-test, zero-times, zero-finite, sub-nothing}
-use Rattle.vector.specs.Vectors.{tab, at, larger, abs}
-use Rattle.vector.specs.Series.{diagonalAt}
+use Rattle.series.specs.Vectors.{tab, at, larger, abs}
+use Rattle.series.specs.Series.{diagonalAt}
 use Rattle.vector.specs.Run.{magnitudes, Fixed, cap, boundOk, rows, start, runOn, fixed, wholePlan, diagonalFinite, firstIf, firstTurn, runFor, run}
 use Rattle.vector.specs.Values.{vectorBy, vectorIf, ratesOk, valueVector}
 use Rattle.vector.specs.Count.{planIn, planWhen, planIf, firstPlan, firstNorm, rowSum, TwoRows}
@@ -21,9 +21,9 @@ use Rattle.vector.specs.Refusals.{numerical}
 use Rattle.vector.specs.Inner.{planFor, aheadOf}
 use Rattle.vector.specs.declared.FirstPlan.the-variants as FirstPlan
 use Rattle.vector.specs.Drift.{diagonalBefore, fixedBefore, runForBefore, runBefore, planWhenBefore, ratesOkBefore, vectorIfBefore, valueVectorBefore, planIfBefore, firstPlanBefore, DriftZero}
-use Rattle.vector.proofs.Lists.{at-tab, tab-ext}
+use Rattle.series.proofs.Lists.{at-tab, tab-ext}
 use Rattle.vector.proofs.Bounds.{bound-range, rates-above}
-use Rattle.vector.proofs.Extremes.{above-zero}
+use Rattle.series.proofs.Extremes.{above-zero}
 use Rattle.vector.proofs.Lots.{lots, square-is}
 use Rattle.vector.proofs.Rows.{whole-finite, square-nonneg, few-lots, few-rows, entry-nonneg, two-rows-before, sized-finite}
 use Rattle.vector.proofs.Ahead.{begins, ahead-is, ahead-fails}

@@ -12,21 +12,25 @@ use lib.Seq.{length-take-le, drop-append-add, getD-take}
 use lib.Ieee.{Float, nan, inf, lt}
 use Rattle.elementary.specs.Float.{_⊕_, _⊗_, 0ᶠ, 1ᶠ, finite, positive}
 use Rattle.elementary.specs.Elementary.{LN, orNan}
-use Rattle.vector.specs.Vectors.{tab, at, fill, every, fold, smaller}
-use Rattle.vector.specs.Series.{diagonalAt, leftAt}
+use Rattle.series.specs.Vectors.{tab, at, fill, every, fold, smaller}
+use Rattle.series.specs.Series.{diagonalAt, leftAt}
 use Rattle.vector.specs.Run.{failed, cap, rows, fixedOver, begin, divided, rebalances, runOn, run}
 use Rattle.vector.specs.Values.{room, padded}
-use Rattle.vector.specs.Inner.{Fit, planOf, stoppedOf, AfterBy, AfterIs, BegunIs, EndIs}
-use Rattle.vector.specs.Half.{fullSize, fullFactors, full, fullFixed, rightBy, Centred, RowsStand, filledOut}
+use Rattle.series.specs.Slices.{Fit}
+use Rattle.vector.specs.Inner.{planOf, stoppedOf, AfterBy, AfterIs, BegunIs, EndIs}
+use Rattle.series.specs.Half.{filledOut, fullSize, fullFactors, full, Centred}
+use Rattle.vector.specs.Half.{fullFixed, RowsStand}
+use Rattle.series.specs.Slices.{rightBy}
 use Rattle.vector.specs.declared.Outcome.{Outcome}
 use Rattle.vector.specs.declared.Outcome.the-variants as Outcome
 use Rattle.vector.specs.declared.plan.Planned.{Planned}
 use Rattle.vector.specs.declared.plan.Planned.the-variants as Planned
 use Rattle.vector.specs.declared.run.Pace.{Pace}
-use Rattle.vector.proofs.Lists.{length-tab, tab-ext}
-use Rattle.vector.proofs.Loops.{drop-fill}
-use Rattle.vector.proofs.Half.{at-far}
-use Rattle.vector.proofs.Full.{at-full, size-full, full-own-tab, full-with, every-with, full-fill, divided-full, rebalances-full, left-full, right-full, centred-factors, finite-full, norm-full}
+use Rattle.series.proofs.Lists.{length-tab, tab-ext}
+use Rattle.series.proofs.Loops.{drop-fill}
+use Rattle.series.proofs.Half.{at-far}
+use Rattle.series.proofs.Full.{at-full, size-full, full-own-tab, full-with, every-with, full-fill, left-full, right-full, centred-factors, finite-full}
+use Rattle.vector.proofs.FullPlan.{divided-full, rebalances-full, norm-full}
 use Rattle.vector.proofs.RunLaws.{told, Scaled, begun, not-begun, run-later, run-refused}
 
 -- ---- a plan
@@ -138,7 +142,7 @@ module _ (h : Bool) (n : ℕ) (a l : List Float) (e : a ≡ padded n l) (long : 
   far-out false i f g = absurd (omega arith)
   far-out true i f g = let same : rows (n - 1) - 1 - i ≡ 2 * (n - 1) - i = omega arith in ap (at l) same ∙ sym (at-far (n - 1) l l i (omega arith) g)
 
-  filled-out : fullSize h n ≤ room → filledOut n (take (fullSize h n) a) ≡ full h n l
+  filled-out : fullSize h n ≤ room → filledOut (length (take (fullSize h n) a)) n (take (fullSize h n) a) (take (fullSize h n) a) ≡ full h n l
   unfolding filledOut
   filled-out within =
       let k = fullSize h n in
@@ -159,9 +163,9 @@ module _ (h : Bool) (n : ℕ) (a l : List Float) (e : a ≡ padded n l) (long : 
       let z : room - n - (k - n) ≡ room - k = omega arith in
       ap (drop k) e ∙ ap (λ (m : ℕ). drop m (l ++ fill (room - n) 0ᶠ)) c ∙ drop-append-add l (fill (room - n) 0ᶠ) (k - n) ∙ drop-fill (room - n) (k - n) 0ᶠ ∙ ap (λ (m : ℕ). fill m 0ᶠ) z
 
-  pub out-is : (all : ℕ) → fullSize h n ≡ all → all ≤ room → (m : List Float) → m ≡ filledOut n (take all a) → m ++ drop all a ≡ padded all (full h n l)
+  pub out-is : (all : ℕ) → fullSize h n ≡ all → all ≤ room → (m : List Float) → m ≡ filledOut (length (take all a)) n (take all a) (take all a) → m ++ drop all a ≡ padded all (full h n l)
   unfolding padded
   out-is all sized within m em =
       let f : n ≤ all = subst (λ (k : ℕ). n ≤ k) sized (size-full h n some) in
-      let rows-are : filledOut n (take all a) ≡ full h n l = subst (λ (k : ℕ). k ≤ room → filledOut n (take k a) ≡ full h n l) sized filled-out within in
+      let rows-are : filledOut (length (take all a)) n (take all a) (take all a) ≡ full h n l = subst (λ (k : ℕ). k ≤ room → filledOut (length (take k a)) n (take k a) (take k a) ≡ full h n l) sized filled-out within in
       ap₂ (λ (x y : List Float). x ++ y) (em ∙ rows-are) (rest-out all f)

@@ -1,16 +1,9 @@
-pub mod Lists
-pub mod Loops
-pub mod Terms
-pub mod Late
 pub mod Plans
 pub mod Room
 pub mod RunLaws
 pub mod Bounds
-pub mod Extremes
 pub mod Mirror
-pub mod Half
-pub mod Full
-pub mod Pairs
+pub mod FullPlan
 pub mod FullRun
 pub mod Lots
 pub mod Rows
@@ -19,7 +12,6 @@ pub mod Drift
 pub mod Stands
 pub mod Turned
 pub mod Turns
-pub mod Summing
 pub mod Causes
 pub mod Refusing
 pub mod Spent

@@ -18,14 +18,14 @@ use Rattle.elementary.specs.Elementary.{EXP, orNan}
 use Rattle.elementary.proofs.Signs.{nonneg, add-finite, mul-finite}
 use Rattle.elementary.proofs.Order.{ofInt-mono, le-refl-f, lt→le, finite-below, add-nonneg, add-mono, mul-nonneg, mul-number, mul-twice-number, mul-mono, positive-nonneg}
 use Rattle.elementary.proofs.ExpZero.{exp-at-zero}
-use Rattle.vector.specs.Vectors.{tab, at, fill, every, larger}
-use Rattle.vector.specs.Series.{leftAt, rightAt}
+use Rattle.series.specs.Vectors.{tab, at, fill, every, larger}
+use Rattle.series.specs.Series.{leftAt, rightAt}
 use Rattle.vector.specs.Run.{rows, norm, boundOk, diagonalFinite}
 use Rattle.vector.specs.Count.{firstNorm, rowSum}
 use Rattle.vector.specs.Drift.{diagonalBefore, fixedBefore}
-use Rattle.vector.proofs.Lists.{at-tab, every-ext, every-true}
-use Rattle.vector.proofs.Loops.{fold-at}
-use Rattle.vector.proofs.Extremes.{not-above, first-two}
+use Rattle.series.proofs.Lists.{at-tab, every-ext, every-true}
+use Rattle.series.proofs.Loops.{fold-at}
+use Rattle.series.proofs.Extremes.{not-above, first-two}
 use Rattle.vector.proofs.Lots.{lots, lots-of, lots-are, diagonal-is}
 use Rattle.vector.proofs.Plans.{whole-nonneg}
 use Rattle.vector.proofs.Bounds.{bound-range}

@@ -6,12 +6,13 @@ use mathlib.Core.Bool.{true, false}
 use lib.IntN.{pos}
 use lib.Ieee.{Float, eq}
 use Rattle.elementary.specs.Float.{_⊕_, _⊗_, whole, 0ᶠ, 2ᶠ, positive}
-use Rattle.vector.specs.Vectors.{tab}
-use Rattle.vector.specs.Series.{diagonalAt}
+use Rattle.series.specs.Vectors.{tab}
+use Rattle.series.specs.Series.{diagonalAt}
 use Rattle.vector.specs.Run.{boundOk, rows}
-use Rattle.vector.specs.Half.{fullSize, fullFactors, RowsStand}
+use Rattle.series.specs.Half.{fullSize, fullFactors}
+use Rattle.vector.specs.Half.{RowsStand}
 use Rattle.vector.proofs.Lots.{lots, lots-are, diagonal-is}
-use Rattle.vector.proofs.Full.{full-tab}
+use Rattle.series.proofs.Full.{full-tab}
 use Rattle.vector.proofs.Drift.{entry-before}
 
 pub all-stand : (b : ℕ) (alpha beta eta : Float) → RowsStand false (rows b) b alpha beta eta

@@ -13,15 +13,16 @@ use lib.Ieee.Fits.{mul-fits}
 use Rattle.elementary.specs.Float.{_⊕_, _⊖_, _⊗_, whole, 0ᶠ, 2ᶠ, finite, positive}
 use Rattle.elementary.proofs.Signs.{neg-neg, mul-neg-left, mul-neg-neg, ofInt-neg}
 use Rattle.elementary.proofs.Zeros.{Zero, zero-of, zero-neg, times-zero, sub-nothing}
-use Rattle.vector.specs.Vectors.{tab}
-use Rattle.vector.specs.Series.{diagonalAt}
+use Rattle.series.specs.Vectors.{tab}
+use Rattle.series.specs.Series.{diagonalAt}
 use Rattle.vector.specs.Run.{Ended, vector, overCap, failed, boundOk, rows, fixedOver, fixed, runFor, run}
 use Rattle.vector.specs.Values.{ratesOk}
 use Rattle.vector.specs.Promises.{TurnedMirror, FullLength}
 use Rattle.vector.proofs.Bounds.{rates-above}
 use Rattle.vector.proofs.Lots.{lots, lots-are, square-is}
 use Rattle.vector.proofs.Drift.{square-above}
-use Rattle.vector.proofs.Mirror.{tab-mirror, Ends, vectors, reports, failures, ends, mirror-end}
+use Rattle.series.proofs.Mirror.{tab-mirror}
+use Rattle.vector.proofs.Mirror.{Ends, vectors, reports, failures, ends, mirror-end}
 
 -- ---- opposite rows: the centre, or two whose lots are opposite numbers
 below-row : (b i : ℕ) → i < b → minus i b ≡ negsuc (b - suc i)

@@ -1,4 +1,4 @@
--- Which Taylor steps and runs end in 11, and which runs in a cap report, by the states that they reach: named statements, each proved once, in proofs/. Definitions only.
+-- Which runs end in 11, and which in a cap report, by the states that they reach: named statements, each proved once, in proofs/. Definitions only.
 use mathlib.Core.Path.{_≡_}
 use mathlib.Core.Logic.{_↔_}
 use Prim.Native.Nat.{ℕ, suc, _-_, _≤_}
@@ -7,46 +7,14 @@ use mathlib.Core.List.{List}
 use lib.IntN.{pos}
 use lib.Dec.{T}
 use lib.Ieee.{Float, inf, lt}
-use Rattle.elementary.specs.Float.{_⊕_, _⊖_, _⊗_, whole, 0ᶠ, 1ᶠ, finite, positive}
-use Rattle.elementary.specs.Reply.{Reply, value, refusal}
+use Rattle.elementary.specs.Float.{_⊕_, _⊖_, _⊗_, whole, 0ᶠ, finite, positive}
+use Rattle.elementary.specs.Reply.{Reply, value}
 use Rattle.elementary.specs.Elementary.{LN, orNan}
-use Rattle.vector.specs.Refusals.{numerical}
-use Rattle.vector.specs.Vectors.{tab, at, fill, every, fold, smaller}
-use Rattle.vector.specs.Series.{Operator, leftAt, rightAt, term, plus, bothFinite, converged, mostTerms, taylorStep}
+use Rattle.series.specs.Vectors.{tab, at, fill, every, fold, smaller}
+use Rattle.series.specs.Series.{leftAt, rightAt, taylorStep}
+use Rattle.series.specs.Causes.{SeriesFails}
 use Rattle.vector.specs.Run.{Ended, overCap, failed, Fixed, Going, Turn, going, ended, cap, norm, needed, divided, rebalances, stepOperator, turn, diagonalFinite, firstTurn, fixed, run}
 
--- ==== a Taylor step
--- From the last term t and the sum s before term j: the sum with term j; are term and sum finite; has every entry converged; is every entry of the sum above zero.
-abbrev pub sumWith : Operator → Float → ℕ → List Float → List Float → List Float
-sumWith p eta j t s = plus (p .n) s (term p eta j t)
-
-abbrev pub termFinite : Operator → Float → ℕ → List Float → List Float → Bool
-termFinite p eta j t s = bothFinite (p .n) (sumWith p eta j t s) (term p eta j t)
-
-abbrev pub termConverged : Operator → Float → ℕ → List Float → List Float → Bool
-termConverged p eta j t s = converged (p .n) (sumWith p eta j t s) (term p eta j t)
-
-abbrev pub sumPositive : Operator → Float → ℕ → List Float → List Float → Bool
-sumPositive p eta j t s = every (p .n) (λ i. lt 0ᶠ (at (sumWith p eta j t s) i))
-
--- what a series from v meets: the last term and the sum before term j, where terms 1 to j - 1 and their sums are finite and have not converged
-pub data Summing (p : Operator) (eta : Float) (v : List Float) : ℕ → List Float → List Float → Type 0 where
-  begun : Summing p eta v 1 v v
-  more : {j : ℕ} {t s : List Float} → Summing p eta v j t s → j ≤ mostTerms → termFinite p eta j t s ≡ true → termConverged p eta j t s ≡ false
-      → Summing p eta v (suc j) (term p eta j t) (sumWith p eta j t s)
-
--- why a series fails: one of its 100 terms or its sum is not finite; none of the 100 converges; one does, and an entry of the sum is not above zero
-pub data SeriesFails (p : Operator) (eta : Float) (v : List Float) : Type 0 where
-  not-finite : {j : ℕ} {t s : List Float} → Summing p eta v j t s → j ≤ mostTerms → termFinite p eta j t s ≡ false → SeriesFails p eta v
-  not-converged : {t s : List Float} → Summing p eta v (suc mostTerms) t s → SeriesFails p eta v
-  not-positive : {j : ℕ} {t s : List Float} → Summing p eta v j t s → j ≤ mostTerms → termFinite p eta j t s ≡ true → termConverged p eta j t s ≡ true
-      → sumPositive p eta j t s ≡ false → SeriesFails p eta v
-
--- a Taylor step refuses by 11 alone, and just where its series fails
-abbrev pub SeriesRefused : Type 0
-SeriesRefused = (p : Operator) (eta : Float) (v : List Float) (n : ℕ) → (taylorStep p eta v ≡ refusal n) ↔ ((n ≡ numerical) × SeriesFails p eta v)
-
--- ==== a run
 -- what a run over tau meets: its states, each with the budget left
 pub data Reached (p : Fixed) (tau : Float) : ℕ → Turn → Type 0 where
   first : Reached p tau cap (firstTurn p tau)

@@ -9,8 +9,8 @@ use lib.Ieee.{Float, eq, lt, le, toUnsigned}
 use Rattle.elementary.specs.Float.{_⊕_, _⊗_, whole, 0ᶠ, 1ᶠ, 2ᶠ, positive}
 use Rattle.elementary.specs.Elementary.{outside}
 use Rattle.vector.specs.Refusals.{configuration, numerical}
-use Rattle.vector.specs.Vectors.{tab, fill, larger}
-use Rattle.vector.specs.Series.{leftAt, rightAt}
+use Rattle.series.specs.Vectors.{tab, fill, larger}
+use Rattle.series.specs.Series.{leftAt, rightAt}
 use Rattle.vector.specs.Run.{vector, overCap, failed, Fixed, Going, Turn, going, ended, cap, boundOk, norm, needed, diagonalFinite, firstTurn, fixed}
 use Rattle.vector.specs.Values.{ratesOk}
 use Rattle.vector.specs.declared.FirstPlan.{FirstPlan}

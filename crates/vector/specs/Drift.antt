@@ -6,7 +6,7 @@ use lib.Ieee.{Float, eq, lt, minus}
 use Rattle.elementary.specs.Float.{_⊕_, _⊗_, whole, 0ᶠ, 1ᶠ, 2ᶠ, finite, positive}
 use Rattle.elementary.specs.Elementary.{outside}
 use Rattle.vector.specs.Refusals.{configuration}
-use Rattle.vector.specs.Vectors.{tab, fill}
+use Rattle.series.specs.Vectors.{tab, fill}
 use Rattle.vector.specs.Run.{Ended, vector, Fixed, cap, boundOk, rows, runOn, wholePlan, fixed, run}
 use Rattle.vector.specs.Values.{refusedVector, vectorBy, ratesOk, valueVector}
 use Rattle.vector.specs.Count.{planIn, planWhen, firstPlan}

@@ -1,18 +1,14 @@
 -- What the crate's own functions hand each other. No public contract cites this file. Definitions only.
 use mathlib.Core.Path.{_≡_}
-use Prim.Native.Nat.{ℕ, zero, suc, _+_, _-_, _≤_, _<_}
-use mathlib.Core.Bool.{Bool, true, false, _&&_}
+use Prim.Native.Nat.{ℕ, zero, suc, _+_, _-_, _≤_}
+use mathlib.Core.Bool.{Bool, true, false}
 use mathlib.Core.List.{List}
 use lib.IntN.{pos}
-use lib.ListN.{length}
-use lib.Dec.{T}
-use lib.Ieee.{Float, binary64, inf, eq, le, fits, toUnsigned}
+use lib.Ieee.{Float, inf, le, toUnsigned}
 use Rattle.elementary.specs.Float.{_⊕_, _⊖_, _⊗_, _⊘_, whole, 0ᶠ, 1ᶠ, positive}
-use Rattle.elementary.specs.Reply.{Reply, value, refusal}
 use Rattle.elementary.specs.Elementary.{LN, orNan}
 use Rattle.vector.specs.Refusals.{numerical}
-use Rattle.vector.specs.Vectors.{tab, at, fill, every, fold, smaller}
-use Rattle.vector.specs.Series.{Operator, term, plus, converged}
+use Rattle.series.specs.Vectors.{tab, at, fill, every, fold, smaller}
 use Rattle.vector.specs.Run.{Ended, vector, overCap, failed, Fixed, fixedOver, Going, going, cap, norm, needed, begin, rebalances, runOn}
 use Rattle.vector.specs.declared.Outcome.{Outcome}
 use Rattle.vector.specs.declared.Outcome.the-variants as Outcome
@@ -22,46 +18,8 @@ use Rattle.vector.specs.declared.plan.Planned.{Planned}
 use Rattle.vector.specs.declared.plan.Planned.the-variants as Planned
 use Rattle.vector.specs.declared.run.Pace.{Pace}
 
-abbrev pub operatorOver : ℕ → List Float → List Float → List Float → Operator
-operatorOver n d l r = record { n = n; diagonal = d; left = l; right = r }
-
 abbrev pub goingOver : List Float → List Float → List Float → List Float → Float → Float → ℕ → Going
 goingOver w o left right dt remaining steps = record { w = w; o = o; left = left; right = right; dt = dt; remaining = remaining; steps = steps }
-
--- ---- slices of floats, and factors
--- each entry is a binary64, past the end too
-abbrev pub Fit : List Float → Type 0
-Fit l = (i : ℕ) → T (fits binary64 (at l i))
-
--- the factors of row i are 1.0, and so are those of each row between the end rows
-abbrev pub OneAt : List Float → List Float → ℕ → Type 0
-OneAt left right i = (eq (at left i) 1ᶠ ≡ true) × (eq (at right i) 1ᶠ ≡ true)
-
-abbrev pub Ones : ℕ → List Float → List Float → Type 0
-Ones n left right = (i : ℕ) → 1 ≤ i → i + 1 < n → OneAt left right i
-
--- ---- a term more
--- t′ is term j after t and s′ the sum with it, and c says whether that has converged
-pub record Made (p : Operator) (eta : Float) (j : ℕ) (t s t′ s′ : List Float) (c : Bool) : Type 0 where
-  pub term-is : t′ ≡ term p eta j t
-  pub sum-is : s′ ≡ plus (p .n) s t′
-  pub settled : c ≡ converged (p .n) s′ t′
-
--- all as long as the vector
-pub record Sizes (n : ℕ) (diag left right term : List Float) : Type 0 where
-  pub diag-n : length diag ≡ n
-  pub left-n : length left ≡ n
-  pub right-n : length right ≡ n
-  pub term-n : length term ≡ n
-
--- a Taylor step's flag and sum
-unfoldable pub StepIs : Bool → List Float → Reply (List Float) → Type 0
-StepIs r l (value s) = (r ≡ true) × (l ≡ s)
-StepIs r l (refusal k) = r ≡ false
-
--- a series over n rows: whether it has converged, and its sum, each entry of which is still to be asked whether it is positive
-abbrev pub SumIs : ℕ → Bool → List Float → Reply (List Float) → Type 0
-SumIs n r l x = StepIs (r && every n (λ i. positive (at l i))) l x
 
 -- ---- a plan: is time × norm finite and positive, does it keep the budget
 unfoldable pub planBy : Bool → Bool → Float → Float → Planned

@@ -1,14 +1,10 @@
 pub mod Refusals
-pub mod Vectors
-pub mod Series
-pub mod Late
 pub mod Run
 pub mod Values
 pub mod Count
 pub mod Drift
 pub mod Inner
 pub mod Half
-pub mod Pairs
 pub mod Promises
 pub mod Causes
 pub mod Refusing

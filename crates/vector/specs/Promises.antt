@@ -1,6 +1,6 @@
 -- What holds of every run, as named statements. Each is proved once, in proofs/. Definitions only.
 use mathlib.Core.Path.{_≡_}
-use Prim.Native.Nat.{ℕ, suc, _+_, _≤_}
+use Prim.Native.Nat.{ℕ, _≤_}
 use mathlib.Core.Bool.{Bool, true}
 use mathlib.Core.List.{List}
 use lib.ListN.{length}
@@ -8,8 +8,9 @@ use lib.Ieee.{Float, neg}
 use Rattle.elementary.specs.Float.{_⊕_, _⊗_, 1ᶠ}
 use Rattle.elementary.specs.Reply.{value}
 use Rattle.elementary.specs.Elementary.{LN, orNan}
-use Rattle.vector.specs.Vectors.{at, tab, fill}
-use Rattle.vector.specs.Series.{taylorStep}
+use Rattle.series.specs.Vectors.{at, tab, fill}
+unfoldable pub use Rattle.series.specs.Vectors.{Mirror}
+use Rattle.series.specs.Series.{taylorStep}
 use Rattle.vector.specs.Run.{Ended, vector, overCap, failed, Fixed, fixedOver, Going, going, ended, cap, boundOk, rows, run, runFor, turn, stepOperator, divided, spent}
 use Rattle.vector.specs.Values.{ratesOk}
 
@@ -38,10 +39,7 @@ abbrev pub OwnSum : Type 0
 OwnSum = (p : Fixed) (b : ℕ) (g : Going)
     → ((g′ : Going) → turn p b g ≡ going g′ → SumOf p g (g′ .w) (g′ .o)) × ((w o : List Float) (s : ℕ) → turn p b g ≡ ended (vector w o s) → SumOf p g w o)
 
--- ---- the mirror: i and j are opposite places among n
-unfoldable pub Mirror : ℕ → List Float → List Float → Type 0
-Mirror n l r = (i j : ℕ) → suc (i + j) ≡ n → at l i ≡ at r j
-
+-- ---- the mirror
 unfoldable pub MirrorEnd : ℕ → Ended → Ended → Type 0
 MirrorEnd n (vector w o s) (vector w′ o′ s′) = Mirror n w w′ × Mirror n o o′ × (s ≡ s′)
 MirrorEnd n (vector w o s) (overCap need b) = ⊥

@@ -1,5 +1,5 @@
 -- Document 01, module 3: the norm, the plan, and the run that gives the value vector. Definitions only.
-use Prim.Native.Nat.{ℕ, zero, suc, _+_, _-_, _*_}
+use Prim.Native.Nat.{ℕ, zero, suc, _-_}
 use mathlib.Core.Bool.{Bool, true, false, _&&_}
 use mathlib.Core.List.{List}
 use lib.IntN.{pos}
@@ -8,8 +8,9 @@ use lib.Ieee.{Float, inf, lt, le, toUnsigned}
 use Rattle.elementary.specs.Float.{_⊕_, _⊖_, _⊗_, _⊘_, hex, whole, 0ᶠ, 1ᶠ, 2ᶠ, finite, positive}
 use Rattle.elementary.specs.Reply.{Reply, value, refusal}
 use Rattle.elementary.specs.Elementary.{LN, CEIL, orNan}
-use Rattle.vector.specs.Vectors.{tab, at, fill, every, fold, larger, smaller, abs}
-use Rattle.vector.specs.Series.{Operator, diagonalAt, leftAt, rightAt, taylorStep}
+use Rattle.series.specs.Vectors.{tab, at, fill, every, fold, larger, smaller, abs}
+pub use Rattle.series.specs.Series.{rows}
+use Rattle.series.specs.Series.{Operator, diagonalAt, leftAt, rightAt, taylorStep}
 
 -- the step budget, and the largest bound
 abbrev pub cap : ℕ
@@ -20,9 +21,6 @@ largestBound = 200
 
 abbrev pub boundOk : ℕ → Bool
 boundOk b = leb 1 b && leb b largestBound
-
-abbrev pub rows : ℕ → ℕ
-rows bound = 2 * bound + 1
 
 -- The end of a run: weights, offsets and the steps spent; or the steps needed and the budget left; or refusal 11 after so many finished steps.
 pub data Ended : Type 0 where

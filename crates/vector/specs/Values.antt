@@ -6,7 +6,7 @@ use lib.Ieee.{Float}
 use Rattle.elementary.specs.Float.{0ᶠ, finite, positive}
 use Rattle.elementary.specs.Elementary.{outside}
 use Rattle.vector.specs.Refusals.{configuration, numerical}
-use Rattle.vector.specs.Vectors.{fill}
+use Rattle.series.specs.Vectors.{fill}
 use Rattle.vector.specs.Run.{Ended, vector, overCap, failed, cap, boundOk, rows, run}
 use Rattle.vector.specs.declared.ValueVector.{ValueVector}
 use Rattle.vector.specs.declared.Outcome.{Outcome}

@@ -6,7 +6,7 @@ ghost use mathlib.Core.Bool.{true};
 ghost use lib.ListN.{length};
 ghost use lib.Ieee.{eq, lt};
 ghost use Rattle.elementary.specs.Float.{0ᶠ, 1ᶠ, 2ᶠ, positive};
-ghost use Rattle.vector.specs.Vectors.{larger};
+ghost use Rattle.series.specs.Vectors.{larger};
 ghost use Rattle.vector.specs.Run.{boundOk, fixedOver, fixed, wholePlan, firstTurn};
 ghost use Rattle.vector.specs.Count.{planIn, planWhen, rowSum};
 ghost use Rattle.vector.specs.Inner.{aheadOf};
@@ -65,7 +65,7 @@ fn plan_of_rows(diag: &[f64], eta: f64, tau: f64, n: usize) -> FirstPlan
     let o = crate::run::zeros();
     let mut left = crate::run::zeros();
     let mut right = crate::run::zeros();
-    if crate::operator::set_factors(&o[..n], &mut left[..n], &mut right[..n], false) {
+    if series::set_factors(&o[..n], &mut left[..n], &mut right[..n], false) {
         return ahead(crate::plan::plan_over(
             tau,
             diag,
@@ -85,7 +85,7 @@ fn plan_of_all(alpha: f64, beta: f64, eta: f64, bound: u32, tau: f64) -> FirstPl
 {
     let n = (2 * bound + 1) as usize;
     let mut diag = crate::run::zeros();
-    if crate::operator::fill_shifted_diagonal(alpha, beta, eta, bound, n, &mut diag[..n]) {
+    if series::fill_shifted_diagonal(alpha, beta, eta, bound, &mut diag[..n]) {
         return plan_of_rows(&diag[..n], eta, tau, n);
     }
     FirstPlan::Refused(NUMERICAL)

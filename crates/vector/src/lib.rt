@@ -1,13 +1,9 @@
-// The float layer: the tridiagonal operator of the value vector's equation, its series, the plan of
-// steps, and the run that gives the value vector.
+// The float layer: the plan of steps, and the run that gives the value vector.
 mod count;
-mod operator;
-mod pair;
 mod plan;
 mod reals;
 pub mod refusals;
 mod run;
-mod series;
 
 pub use run::refused_vector;
 ghost use mathlib.Core.Path.{_≡_};

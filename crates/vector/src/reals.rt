@@ -1,39 +1,13 @@
-// Single floats: the larger of two, the magnitude of one, the elementary functions with a NaN for a
-// refusal, which what reads it tests for later, and the factor that two offsets make.
+// Single floats: the larger of two, and the elementary functions with a NaN for a refusal, which what
+// reads it tests for later.
 ghost use mathlib.Core.Path.{_≡_};
-ghost use Rattle.elementary.specs.Float.{_⊖_};
-ghost use Rattle.elementary.specs.Elementary.{LN, EXP, CEIL, orNan};
-ghost use Rattle.vector.specs.Vectors.{larger, abs};
+ghost use Rattle.elementary.specs.Elementary.{LN, CEIL, orNan};
+ghost use Rattle.series.specs.Vectors.{larger};
 
 pub(crate) fn larger_of(x: f64, y: f64) -> f64
     ensures { λ r. ⌜ r ≡ larger x y ⌝ }
 {
     if x < y { y } else { x }
-}
-
-pub(crate) fn magnitude(x: f64) -> f64
-    ensures { λ r. ⌜ r ≡ abs x ⌝ }
-{
-    if x < 0.0 { -x } else { x }
-}
-
-pub(crate) fn exp_or_nan(x: f64) -> f64
-    ensures { λ r. ⌜ r ≡ orNan (EXP x) ⌝ }
-{
-    elementary::or_nan(elementary::exp(x))
-}
-
-// A row's factor for a neighbour, by their offsets. Where these are equal, as all are before the first
-// rebalancing, EXP of their difference is 1.0, and none is made. The difference is tested and not the
-// offsets: two equal infinities make a NaN.
-pub(crate) fn factor(neighbour: f64, own: f64) -> f64
-    ensures { λ r. ⌜ r ≡ orNan (EXP (neighbour ⊖ own)) ⌝ }
-{
-    let d = neighbour - own;
-    if d == 0.0 {
-        return 1.0;
-    }
-    exp_or_nan(d)
 }
 
 pub(crate) fn ln_or_nan(x: f64) -> f64

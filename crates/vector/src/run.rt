@@ -8,11 +8,13 @@ ghost use lib.Ieee.{inf, lt};
 ghost use mathlib.Core.Bool.{true, false, not, _&&_};
 ghost use Rattle.elementary.specs.Float.{_⊕_, _⊘_, 0ᶠ, 1ᶠ, finite, positive};
 ghost use Rattle.elementary.specs.Elementary.{LN, orNan};
-ghost use Rattle.vector.specs.Vectors.{tab, at, fill, every, fold, larger, smaller};
+ghost use Rattle.series.specs.Vectors.{tab, at, fill, every, fold, larger, smaller};
 ghost use Rattle.vector.specs.Run.{boundOk, rows, cap, run, runOn, begin, divided, rebalances};
 ghost use Rattle.vector.specs.Values.{blankVector, vectorOf, refusedVector, vectorBy, ratesOk};
-ghost use Rattle.vector.specs.Inner.{pacedOf, askedOf, stoppedOf, refusedPace, endBy, Sizes, Fit, AfterIs, BegunIs, PlanSpent, Between, weight, EndIs};
-ghost use Rattle.vector.specs.Half.{fullSize, fullFactors, full, fullFixed, Centred, RowsStand, filledOut};
+ghost use Rattle.vector.specs.Inner.{pacedOf, askedOf, stoppedOf, refusedPace, endBy, AfterIs, BegunIs, PlanSpent, Between, weight, EndIs};
+ghost use Rattle.series.specs.Slices.{Sizes, Fit};
+ghost use Rattle.series.specs.Half.{filledOut, fullSize, fullFactors, full, Centred};
+ghost use Rattle.vector.specs.Half.{fullFixed, RowsStand};
 use crate::MAX_DIM;
 use crate::MAX_EXPM_STEPS;
 use crate::MAX_INVENTORY_LOTS;
@@ -222,10 +224,10 @@ fn start(
         (fullFactors half (length (now (o .entry))) (now (left .exit)) (now (right .exit))) (fullFactors half (length (now (o .entry))) (now (right .exit)) (now (left .exit))) (full half (length (now (o .entry))) (now (diag .exit))) r ⌝ }
     ensures { λ _. ⌜ Centred half (length (now (o .entry))) (now (left .exit)) (now (right .exit)) ⌝ }
 {
-    if crate::operator::set_factors(o, left, right, half) {
+    if series::set_factors(o, left, right, half) {
         match crate::plan::plan_with(rest, diag_s, eta, left, right, budget) {
             Planned::Steps(steps, dt) => {
-                crate::operator::scale_diagonal(diag_s, dt, diag);
+                series::scale_diagonal(diag_s, dt, diag);
                 return paced(steps, budget, rest, dt);
             }
             Planned::OverCap(need) => {
@@ -255,11 +257,11 @@ fn plan_steps(
         (fullFactors half (length (now (w .entry))) (now (left .entry)) (now (right .entry))) (fullFactors half (length (now (w .entry))) (now (right .entry)) (now (left .entry))) (full half (length (now (w .entry))) (now (diag .entry)))
         first (full half (length (now (w .entry))) (now (w .exit))) (full half (length (now (w .entry))) (now (o .exit))) r ⌝ }
 {
-    let plain = crate::operator::all_ones(left, right);
+    let plain = series::all_ones(left, right);
     let mut pace = first;
     while (0 < pace.steps) & (0 < pace.budget) {
         let eta_dt = eta * pace.dt;
-        let settled = crate::series::taylor_step(w, diag, eta_dt, left, right, half, plain, term);
+        let settled = series::taylor_step(w, diag, eta_dt, left, right, half, plain, term);
         pace = after_step(w, o, pace, settled);
     }
     pace
@@ -404,7 +406,7 @@ fn at_end(n: usize) -> ValueVector
 // Rows n up from those before the centre that they mirror.
 fn fill_mirror(x: &mut [f64], n: usize)
     requires { ⌜ (1 ≤ n) × (n ≤ length (now x)) × (length (now x) ≤ n + n) ⌝ }
-    ensures { λ _. ⌜ now (x .exit) ≡ filledOut n (now (x .entry)) ⌝ }
+    ensures { λ _. ⌜ now (x .exit) ≡ filledOut (length (now (x .entry))) n (now (x .entry)) (now (x .entry)) ⌝ }
 {
     let last = x.len() - 1;
     let mut i = n;
@@ -432,7 +434,7 @@ fn run_rows(
     ensures { λ r. ⌜ EndIs (run bound alpha beta eta tau) r (full half n (now (w .exit))) (full half n (now (o .exit))) ⌝ }
 {
     let mut diag_s = zeros();
-    if crate::operator::fill_shifted_diagonal(alpha, beta, eta, bound, n, &mut diag_s[..n]) {
+    if series::fill_shifted_diagonal(alpha, beta, eta, bound, &mut diag_s[..n]) {
         return run_plans(w, o, &diag_s[..n], eta, tau, n, half);
     }
     Outcome::Refused(NUMERICAL)

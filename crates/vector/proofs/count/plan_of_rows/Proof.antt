@@ -6,11 +6,13 @@ use mathlib.Core.List.{List}
 use lib.ListN.{length, take, length-replicate}
 use lib.Ieee.{Float}
 use Rattle.elementary.specs.Float.{0ᶠ}
-use Rattle.vector.specs.Vectors.{tab, fill}
-use Rattle.vector.specs.Series.{leftAt, rightAt}
+use Rattle.series.specs.Vectors.{tab, fill}
+use Rattle.series.specs.Series.{leftAt, rightAt}
 use Rattle.vector.specs.Inner.{aheadOf}
 use Rattle.vector.proofs.Room.{lent, blank-padded, blank-room, blank-length, stored-part, stored-length, stored-room}
-use Rattle.vector.proofs.Full.{right-whole}
+use Rattle.series.specs.Slices.{bothFine}
+use Rattle.series.proofs.Slices.{left-over, right-over, factors-over}
+use Rattle.series.proofs.Full.{right-whole}
 use Rattle.vector.proofs.Rows.{factors-fine}
 use Rattle.vector.proofs.Ahead.{ahead-of}
 use Rattle.vector.proofs.count.plan_of_rows.Statement.{statement}
@@ -27,11 +29,21 @@ offsets c = take (c .before .before .before .before .before .before .before .bef
 offsets-n : (c : tie.After-set-factors) → length (offsets c) ≡ c .before .before .before .before .before .before .before .before .args .n
 offsets-n c = blank-length _ _ (c .before .before .before .before .before .before .zeros .ensures) (c .before .before .before .before .before .before .before .before .pre .0)
 
+lengths : (c : tie.After-set-factors) → let n = c .before .before .before .before .before .before .before .before .args .n in (length (take n (c .before .before .before .before .before .zeros2 .result)) ≡ length (offsets c)) × (length (take n (c .before .before .before .before .zeros3 .result)) ≡ length (offsets c))
+lengths c =
+    let h = c .before .before .before .before .before .before .before .before .pre .0 in
+    (blank-length _ _ (c .before .before .before .before .before .zeros2 .ensures) h ∙ sym (offsets-n c), blank-length _ _ (c .before .before .before .before .zeros3 .ensures) h ∙ sym (offsets-n c))
+
 left-is : (c : tie.After-set-factors) → let n = c .before .before .before .before .before .before .before .before .args .n in c .set-factors .last .1 .0 ≡ tab n (leftAt (fill n 0ᶠ))
-left-is c = rw (unmoved _ _ (c .before .before .before .before .before .before .zeros .ensures) (c .before .before .before .before .before .before .before .before .pre .0), length-replicate (c .before .before .before .before .before .before .before .before .args .n) 0ᶠ) at (c .set-factors .ensures .0)
+left-is c = rw (unmoved _ _ (c .before .before .before .before .before .before .zeros .ensures) (c .before .before .before .before .before .before .before .before .pre .0), length-replicate (c .before .before .before .before .before .before .before .before .args .n) 0ᶠ) at (left-over _ _ _ (lengths c .0) (lengths c .1) _ (c .set-factors .ensures .0))
 
 right-is : (c : tie.After-set-factors) → let n = c .before .before .before .before .before .before .before .before .args .n in c .set-factors .last .1 .1 .0 ≡ tab n (rightAt n (fill n 0ᶠ))
-right-is c = (rw (unmoved _ _ (c .before .before .before .before .before .before .zeros .ensures) (c .before .before .before .before .before .before .before .before .pre .0), length-replicate (c .before .before .before .before .before .before .before .before .args .n) 0ᶠ) at (c .set-factors .ensures .1 .0)) ∙ right-whole _ _
+right-is c = (rw (unmoved _ _ (c .before .before .before .before .before .before .zeros .ensures) (c .before .before .before .before .before .before .before .before .pre .0), length-replicate (c .before .before .before .before .before .before .before .before .args .n) 0ᶠ) at (right-over _ _ _ (lengths c .0) (lengths c .1) _ _ (c .set-factors .ensures .1 .0))) ∙ right-whole _ _
+
+fine : (c : tie.After-set-factors) → c .set-factors .result ≡ bothFine (length (offsets c)) (c .set-factors .last .1 .0) (c .set-factors .last .1 .1 .0)
+fine c =
+    let n = c .before .before .before .before .before .before .before .before .args .n in
+    factors-over (offsets c) (take n (c .before .before .before .before .before .zeros2 .result)) (take n (c .before .before .before .before .zeros3 .result)) (lengths c .0) (lengths c .1) (c .set-factors .last .1 .0) (c .set-factors .last .1 .1 .0) _ (c .set-factors .ensures .1 .1)
 
 zeros-requires : tie.Need-zeros-requires
 zeros-requires c κs = tt
@@ -61,10 +73,7 @@ slice-aggregate-set-factors-3 : tie.Need-slice-aggregate-set-factors-3
 slice-aggregate-set-factors-3 c = sym (blank-length _ _ (c .before .before .before .zeros3 .ensures) (c .before .before .before .before .before .before .before .pre .0))
 
 set-factors-requires : tie.Need-set-factors-requires
-set-factors-requires c κs =
-    let h = c .before .before .before .before .before .before .before .pre .0 in
-    let o = blank-length _ _ (c .before .before .before .before .before .zeros .ensures) h in
-    (blank-length _ _ (c .before .before .before .before .zeros2 .ensures) h ∙ sym o, blank-length _ _ (c .before .before .before .zeros3 .ensures) h ∙ sym o)
+set-factors-requires c κs = tt
 
 array-share-prefix-left : tie.Need-array-share-prefix-left
 array-share-prefix-left c = stored-room _ _ _ _ (left-is (c .before .before .before))
@@ -97,7 +106,7 @@ returns-2 : tie.Need-returns-2
 returns-2 c =
     let s = c .before .before .before in
     let n = c .before .before .before .before .before .before .before .before .before .before .before .args .n in
-    let e = rw (left-is s, right-is s, offsets-n s) at (sym (s .set-factors .ensures .1 .1) ∙ c .if1 .left) in
+    let e = rw (left-is s, right-is s, offsets-n s) at (sym (fine s) ∙ c .if1 .left) in
     absurd (true≢false (sym (factors-fine n) ∙ e))
 
 pub plan-of-rows-spec : {M : Type 1} → statement M

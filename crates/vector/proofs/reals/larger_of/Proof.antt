@@ -1,5 +1,5 @@
 -- The larger by the test. Assumes nothing.
-use Rattle.vector.specs.Vectors.{larger}
+use Rattle.series.specs.Vectors.{larger}
 use Rattle.vector.proofs.reals.larger_of.Statement.{statement}
 use Rattle.vector.proofs.reals.larger_of.Tie as tie
 

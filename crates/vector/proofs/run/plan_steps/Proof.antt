@@ -1,5 +1,5 @@
 -- A run that ends in r from the plan ends in r from where the steps have come. Assumes nothing.
-use mathlib.Core.Path.{_≡_, refl, sym, _∙_}
+use mathlib.Core.Path.{_≡_, refl, sym, subst, _∙_}
 use mathlib.Core.Bool.{Bool}
 use mathlib.Core.List.{List}
 use Prim.Native.Nat.{ℕ, _≤_}
@@ -10,7 +10,12 @@ use lib.Ieee.{Float}
 use denote.Ref.{now}
 use Rattle.vector.specs.Run.{Ended, cap, fixedOver}
 use Rattle.vector.specs.Inner.{Standing, weight}
-use Rattle.vector.specs.Half.{fullSize, fullFactors, full}
+use Rattle.elementary.specs.Float.{_⊗_}
+use Rattle.series.specs.Series.{taylorStep}
+use Rattle.series.specs.Slices.{SliceSum, Sizes, Fit}
+use Rattle.series.specs.Half.{fullSize, fullFactors, full, fullOperator, SumIs, StandsFor}
+use Rattle.series.proofs.Slices.{ones-between}
+use Rattle.series.proofs.Steps.{step-stands}
 use Rattle.vector.specs.declared.run.Pace.{Pace}
 use Rattle.vector.proofs.FullRun.{after-step-full}
 use Rattle.vector.proofs.RunLaws.{stands-on, after-less, weighs, both-some, one-none}
@@ -31,27 +36,39 @@ abbrev μ-loop : tie.MeasureT-loop
 μ-loop w₀ o₀ diag left right term₀ eta half plain pace₀ w o term pace = pace .budget
 
 all-ones-requires : tie.Need-all-ones-requires Inv-loop μ-loop
-all-ones-requires c κs = let z = c .before .before .before .before .before .before .pre .1 in z .right-n ∙ sym (z .left-n)
+all-ones-requires c κs = tt
 
 loop-holds : tie.Need-loop-holds Inv-loop μ-loop
 loop-holds c = (refl, refl, refl, c .before .before .before .before .before .before .before .pre .0 .2, le-refl _, λ d r s. s)
 
 taylor-step-requires : tie.Need-taylor-step-requires Inv-loop μ-loop
-taylor-step-requires c κs =
-    let l = c .before .before .before .before .before .before in
+taylor-step-requires c κs = tt
+
+-- the step is the one over all rows
+stood : (c : tie.After-taylor-step Inv-loop μ-loop) → let l = c .before .before .before .before .before .before .before in let a = l .before .before .before .before .before .before .before .before .args in let n = length (now (a .w)) in
+    SumIs (fullSize (a .half) n) (c .taylor-step .result) (full (a .half) n (c .taylor-step .last .0))
+    (taylorStep (fullOperator (a .half) n (now (a .diag)) (now (a .left)) (now (a .right))) (a .eta ⊗ l .loop .pace .dt) (full (a .half) n (l .loop .w))) × Fit (c .taylor-step .last .0)
+stood c =
+    let l = c .before .before .before .before .before .before .before in
     let i = l .loop .inv in
-    let p = l .before .before .before .before .before .before .before .before .pre in
-    let z = p .1 in
-    let ones = rw (z .left-n) at (l .before .all-ones .ensures) in
-    rw (i .0) ((p .0 .0, ones, p .0 .3), record { diag-n = z .diag-n; left-n = z .left-n; right-n = z .right-n; term-n = i .2 ∙ z .term-n })
+    let s = l .before .before .before .before .before .before .before .before in
+    let a = s .args in
+    let p = s .pre .0 in
+    let z = s .pre .1 in
+    let plain = l .before .all-ones in
+    let sizes : Sizes (length (now (a .w))) (now (a .diag)) (now (a .left)) (now (a .right)) (l .loop .term) = record { diag-n = z .diag-n; left-n = z .left-n; right-n = z .right-n; term-n = i .2 ∙ z .term-n } in
+    let step = step-stands (a .half) (plain .result) (l .loop .w) (now (a .diag)) (now (a .left)) (now (a .right)) (l .loop .term) (a .eta ⊗ l .loop .pace .dt) (rw (i .0) (p .0)) (rw (i .0) sizes) (rw (i .0) (p .3))
+    (λ e. ones-between _ _ _ (z .left-n ∙ sym (i .0)) (sym (plain .ensures) ∙ e)) in
+    rw (i .0) at (subst (λ (r : SliceSum). StandsFor (a .half) (l .loop .w) (now (a .diag)) (a .eta ⊗ l .loop .pace .dt) (now (a .left)) (now (a .right)) r × Fit (r .sum)) (sym (c .taylor-step .ensures)) step)
 
 after-step-requires : tie.Need-after-step-requires Inv-loop μ-loop
 after-step-requires c κs =
     let l = c .before .before .before .before .before .before .before .before .before .before .before .before .before in
     let i = l .loop .inv in
-    let t = c .before .before .before .before .before .before .taylor-step in
+    let q = c .before .before .before .before .before .before in
+    let t = q .taylor-step in
     let x = both-some (l .loop .pace .steps) (l .loop .pace .budget) (c .before .before .before .before .before .before .before .before .before .before .if1 .taken) in
-    (t .ensures .1, i .1 ∙ l .before .before .before .before .before .before .before .before .pre .0 .1 ∙ sym (t .kept .0 ∙ i .0), x .0, x .1, i .3)
+    (stood q .1, i .1 ∙ l .before .before .before .before .before .before .before .before .pre .0 .1 ∙ sym (t .kept .0 ∙ i .0), x .0, x .1, i .3)
 
 loop-less : tie.Need-loop-less Inv-loop μ-loop
 loop-less c =
@@ -62,7 +79,8 @@ loop-again : tie.Need-loop-again Inv-loop μ-loop
 loop-again c =
     let l = c .before .before .before .before .before .before .before .before .before .before .before .before .before .before .before .before .before .before .loop in
     let i = l .inv in
-    let t = c .before .before .before .before .before .before .before .before .before .before .before .taylor-step in
+    let q = c .before .before .before .before .before .before .before .before .before .before .before in
+    let t = q .taylor-step in
     let a = c .before .before .before .before .after-step in
     let x = both-some (l .pace .steps) (l .pace .budget) (c .before .before .before .before .before .before .before .before .before .before .before .before .before .before .before .if1 .taken) in
     let p = c .before .before .before .before .before .before .before .before .before .before .before .before .before .before .before .before .before .before .before .before .before .before .before .before .before .before in
@@ -75,7 +93,7 @@ loop-again c =
       t .kept .1 .1 .1 .1 .1 .1 .1 .0 ∙ i .2,
       omega (arith, less .0, i .3),
       le-trans (less .1) (le-trans (weighs (l .pace)) (i .4)),
-      λ d r s. stands-on _ _ _ _ _ _ _ _ _ _ _ _ _ (x .0) (x .1) (rw (i .0) at (t .ensures .0)) (after-step-full h m (omega (arith, p .pre .0 .0)) (l .pace) _ _ _ _ _ n (t .ensures .1) (t .result) (rw n at (a .ensures))) (i .5 d r s),
+      λ d r s. stands-on _ _ _ _ _ _ _ _ _ _ _ _ _ (x .0) (x .1) (stood q .0) (after-step-full h m (omega (arith, p .pre .0 .0)) (l .pace) _ _ _ _ _ n (stood q .1) (t .result) (rw n at (a .ensures))) (i .5 d r s),
     )
 
 same-length : tie.Need-same-length Inv-loop μ-loop

@@ -11,11 +11,11 @@ use borrow.Author.Needs.{needs}
 use denote.Enum.Declared.{tagOf}
 use types.Run.{OneOf}
 use Rattle.elementary.specs.Float.{0ᶠ, 1ᶠ}
-use Rattle.vector.specs.Vectors.{fill}
+use Rattle.series.specs.Vectors.{fill}
 use Rattle.vector.specs.Run.{Ended, vector, overCap, failed, rows}
 use Rattle.vector.specs.Values.{room, padded, blankVector, refusedVector, vectorBy}
 use Rattle.vector.specs.Inner.{EndIs}
-use Rattle.vector.specs.Half.{fullSize}
+use Rattle.series.specs.Half.{fullSize}
 use Rattle.vector.specs.declared.ValueVector.{ValueVector}
 use Rattle.vector.specs.declared.Outcome.{Outcome}
 use Rattle.vector.proofs.Outcome.{the-type}

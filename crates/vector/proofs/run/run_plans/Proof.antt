@@ -3,11 +3,12 @@ use mathlib.Core.Path.{_≡_, refl, ap, _∙_}
 use lib.ListN.{length, length-replicate}
 use native.Mathlib.Omega.{arith}
 use Rattle.elementary.specs.Float.{1ᶠ}
-use Rattle.vector.specs.Vectors.{fill}
+use Rattle.series.specs.Vectors.{fill}
 use Rattle.vector.specs.Run.{cap, begin, runOn}
 use Rattle.vector.specs.Inner.{Between, weight}
-use Rattle.vector.specs.Half.{fullSize, full, fullFixed}
-use Rattle.vector.proofs.Full.{full-fill}
+use Rattle.series.specs.Half.{fullSize, full}
+use Rattle.vector.specs.Half.{fullFixed}
+use Rattle.series.proofs.Full.{full-fill}
 use Rattle.vector.proofs.RunLaws.{between-first, between-next}
 use Rattle.vector.proofs.run.run_plans.Statement.{statement}
 use Rattle.vector.proofs.run.run_plans.Tie as tie

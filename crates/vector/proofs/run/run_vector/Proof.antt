@@ -7,7 +7,7 @@ use Prim.Native.Nat.{ℕ}
 use mathlib.Core.Bool.{false}
 use lib.Ieee.{Float, lt}
 use Rattle.elementary.specs.Float.{0ᶠ, 1ᶠ}
-use Rattle.vector.specs.Vectors.{fill}
+use Rattle.series.specs.Vectors.{fill}
 use Rattle.vector.specs.Run.{rows, fixed, runFor, run}
 use Rattle.vector.specs.Values.{vectorOf, vectorBy}
 use Rattle.vector.specs.declared.ValueVector.{ValueVector}

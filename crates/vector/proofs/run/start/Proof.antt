@@ -1,17 +1,34 @@
-use mathlib.Core.Path.{sym, _∙_}
+-- The factors, a plan and its diagonal, by what the slices stand for. Assumes nothing.
+use mathlib.Core.Path.{_≡_, sym, _∙_}
 use mathlib.Core.Logic.{⊎-elim}
 use native.Mathlib.Omega.{arith}
 use borrow.Author.Needs.{needs}
+use denote.Ref.{now}
+use lib.ListN.{length}
+use Rattle.series.specs.Vectors.{tab}
+use Rattle.series.specs.Series.{leftAt}
+use Rattle.series.specs.Slices.{rightBy, bothFine}
+use Rattle.series.proofs.Slices.{scaled-over, left-over, right-over, factors-over}
 use Rattle.vector.specs.declared.plan.Planned.the-variants as Planned
-use Rattle.vector.proofs.Full.{centred-factors}
+use Rattle.series.proofs.Full.{centred-factors}
 use Rattle.vector.proofs.FullRun.{begun-full, not-begun-full}
 use Rattle.vector.proofs.run.start.Statement.{statement}
 use Rattle.vector.proofs.run.start.Tie as tie
 
+-- the factors as they are stored, and whether they are finite
+made : (c : tie.After-set-factors) → let a = c .before .before .before .before .before .before .before .before .args in let o = now (a .o) in let f = c .set-factors in
+    (f .last .1 .0 ≡ tab (length o) (leftAt o)) × (f .last .1 .1 .0 ≡ tab (length o) (rightBy (a .half) (length o) o)) × (f .result ≡ bothFine (length o) (f .last .1 .0) (f .last .1 .1 .0))
+made c =
+    let s = c .before .before .before .before .before .before .before .before in
+    let z = s .pre .1 in
+    let e = c .set-factors .ensures in (
+      left-over _ _ _ (z .right-n) (z .term-n) _ (e .0),
+      right-over _ _ _ (z .right-n) (z .term-n) _ _ (e .1 .0),
+      factors-over (now (s .args .o)) (now (s .args .left)) (now (s .args .right)) (z .right-n) (z .term-n) (c .set-factors .last .1 .0) (c .set-factors .last .1 .1 .0) _ (e .1 .1),
+    )
+
 set-factors-requires : tie.Need-set-factors-requires
-set-factors-requires c κs =
-    let s = c .before .before .before .before .before .before .before .pre .1 in
-    (s .right-n, s .term-n)
+set-factors-requires c κs = tt
 
 plan-with-requires : tie.Need-plan-with-requires
 plan-with-requires c κs =
@@ -23,9 +40,7 @@ enum-known-steps : tie.Need-enum-known-steps
 enum-known-steps c = search needs
 
 scale-diagonal-requires : tie.Need-scale-diagonal-requires
-scale-diagonal-requires c κs =
-    let s = c .before .before .before .before .before .before .before .before .before .before .before .before .before .before .before .before .before .before .before .before .pre .1 in
-    s .left-n ∙ sym (s .diag-n)
+scale-diagonal-requires c κs = tt
 
 paced-requires : tie.Need-paced-requires
 paced-requires c κs = c .before .before .before .before .before .before .before .before .before .before .before .before .before .before .before .before .before .before .before .before .before .before .before .pre .0 .1
@@ -41,12 +56,12 @@ same-length-3 c = c .before .before .before .before .before .before .before .bef
 
 returns : tie.Need-returns
 returns c =
-    let f = c .before .before .before .before .before .before .before .before .before .before .before .before .before .before .before .before .set-factors .ensures in
+    let f = made (c .before .before .before .before .before .before .before .before .before .before .before .before .before .before .before .before) in
     let s = c .before .before .before .before .before .before .before .before .before .before .before .before .before .before .before .before .before .before .before .before .before .before .before .before in
     let n = s .pre .1 .diag-n in (
-      begun-full (s .args .half) _ _ _ _ _ _ _ _ (s .pre .0 .0) (s .pre .0 .1) _ (f .0) (f .1 .0) (f .1 .1) _ _ (c .before .before .before .before .before .before .before .before .before .before .before .if1 .taken) (Planned.Steps _ _)
-          (sym (c .before .before .before .before .before .before .steps .given .1) ∙ rw n at (c .before .before .before .before .before .before .before .before .plan-with .ensures)) (rw n at (c .before .before .before .scale-diagonal .ensures)) (c .paced .ensures),
-      centred-factors (s .args .half) _ _ _ _ (omega (arith, s .pre .0 .0)) (f .0) (f .1 .0),
+      begun-full (s .args .half) _ _ _ _ _ _ _ _ (s .pre .0 .0) (s .pre .0 .1) _ (f .0) (f .1) (f .2) _ _ (c .before .before .before .before .before .before .before .before .before .before .before .if1 .taken) (Planned.Steps _ _)
+          (sym (c .before .before .before .before .before .before .steps .given .1) ∙ rw n at (c .before .before .before .before .before .before .before .before .plan-with .ensures)) (rw n at (scaled-over _ _ _ _ (s .pre .1 .left-n ∙ sym n) (c .before .before .before .scale-diagonal .ensures))) (c .paced .ensures),
+      centred-factors (s .args .half) _ _ _ _ (omega (arith, s .pre .0 .0)) (f .0) (f .1),
     )
 
 enum-known-need : tie.Need-enum-known-need
@@ -63,11 +78,11 @@ same-length-5 c = c .before .before .before .before .before .before .before .bef
 
 returns-2 : tie.Need-returns-2
 returns-2 c =
-    let f = c .before .before .before .before .before .before .before .before .before .before .before .before .set-factors .ensures in
+    let f = made (c .before .before .before .before .before .before .before .before .before .before .before .before) in
     let s = c .before .before .before .before .before .before .before .before .before .before .before .before .before .before .before .before .before .before .before .before in (
-      begun-full (s .args .half) _ _ _ _ _ _ _ _ (s .pre .0 .0) (s .pre .0 .1) _ (f .0) (f .1 .0) (f .1 .1) _ _ (c .before .before .before .before .before .before .before .if1 .taken) (Planned.OverCap _)
+      begun-full (s .args .half) _ _ _ _ _ _ _ _ (s .pre .0 .0) (s .pre .0 .1) _ (f .0) (f .1) (f .2) _ _ (c .before .before .before .before .before .before .before .if1 .taken) (Planned.OverCap _)
           (sym (c .before .before .need .given .1) ∙ rw (s .pre .1 .diag-n) at (c .before .before .before .before .plan-with .ensures)) tt (c .over-cap .ensures),
-      centred-factors (s .args .half) _ _ _ _ (omega (arith, s .pre .0 .0)) (f .0) (f .1 .0),
+      centred-factors (s .args .half) _ _ _ _ (omega (arith, s .pre .0 .0)) (f .0) (f .1),
     )
 
 enum-told : tie.Need-enum-told
@@ -84,13 +99,13 @@ same-length-7 c = c .before .before .before .before .before .before .set-factors
 
 returns-3 : tie.Need-returns-3
 returns-3 c =
-    let f = c .before .before .before .before .before .before .set-factors .ensures in
+    let f = made (c .before .before .before .before .before .before) in
     let s = c .before .before .before .before .before .before .before .before .before .before .before .before .before .before in (
       ⊎-elim
-          (λ t. begun-full (s .args .half) _ _ _ _ _ _ _ _ (s .pre .0 .0) (s .pre .0 .1) _ (f .0) (f .1 .0) (f .1 .1) _ _ (t .0 .taken) Planned.Refused (sym (t .5 .given .1) ∙ rw (s .pre .1 .diag-n) at (t .3 .ensures)) tt (c .refused .ensures))
-          (λ t. not-begun-full (s .args .half) _ _ _ _ _ _ _ _ (s .pre .0 .0) (s .pre .0 .1) _ (f .0) (f .1 .0) (f .1 .1) _ _ (t .left) (c .refused .ensures))
+          (λ t. begun-full (s .args .half) _ _ _ _ _ _ _ _ (s .pre .0 .0) (s .pre .0 .1) _ (f .0) (f .1) (f .2) _ _ (t .0 .taken) Planned.Refused (sym (t .5 .given .1) ∙ rw (s .pre .1 .diag-n) at (t .3 .ensures)) tt (c .refused .ensures))
+          (λ t. not-begun-full (s .args .half) _ _ _ _ _ _ _ _ (s .pre .0 .0) (s .pre .0 .1) _ (f .0) (f .1) (f .2) _ _ (t .left) (c .refused .ensures))
           (c .before .if1 .came),
-      centred-factors (s .args .half) _ _ _ _ (omega (arith, s .pre .0 .0)) (f .0) (f .1 .0),
+      centred-factors (s .args .half) _ _ _ _ (omega (arith, s .pre .0 .0)) (f .0) (f .1),
     )
 
 pub start-spec : {M : Type 1} → statement M

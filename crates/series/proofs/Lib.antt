@@ -1,0 +1,12 @@
+pub mod Lists
+pub mod Loops
+pub mod Extremes
+pub mod Terms
+pub mod Late
+pub mod Summing
+pub mod Mirror
+pub mod Half
+pub mod Slices
+pub mod Full
+pub mod Steps
+pub mod Pairs

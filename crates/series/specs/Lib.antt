@@ -1,0 +1,8 @@
+pub mod Refusals
+pub mod Vectors
+pub mod Series
+pub mod Late
+pub mod Slices
+pub mod Half
+pub mod Pairs
+pub mod Causes
