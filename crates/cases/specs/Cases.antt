@@ -1,7 +1,7 @@
 -- The M cases of document 01, and those of change request 7, as one table: a question and its reply a row. Definitions only.
 use mathlib.Core.Path.{_≡_}
 use Prim.Native.Nat.{ℕ, _-_, _*_}
-use mathlib.Core.List.{List, [], _∷_, _++_, map}
+use mathlib.Core.List.{List, _∷_, _++_, map, []}
 use lib.IntN.{ℤ, pos, negℤ}
 use lib.Ieee.{Float}
 use Rattle.elementary.specs.Float.{_⊕_, _⊘_, hex, whole, 0ᶠ, ½ᶠ, 1ᶠ, 2ᶠ}
@@ -9,6 +9,7 @@ use Rattle.elementary.specs.Elementary.{LN2}
 use Rattle.vector.specs.Refusals.{numerical}
 use Rattle.series.specs.Vectors.{fill}
 use Rattle.vector.specs.Run.{Fixed, Turn, going, ended, vector, overCap, failed, cap, norm, firstTurn, fixed}
+use Rattle.vector.specs.declared.RunInput.{RunInput}
 use Rattle.distances.specs.FloatEntry.{floatEntry}
 use Rattle.distances.specs.declared.Distance.{Distance}
 use Rattle.distances.specs.declared.Distance.the-variants as Distance
@@ -16,7 +17,7 @@ use Rattle.vector.specs.declared.ValueVector.{ValueVector}
 use Rattle.distances.specs.declared.Answer.{Answer}
 use Rattle.distances.specs.declared.Answer.the-variants as Answer
 use Rattle.distances.specs.declared.FloatAnswer.{FloatAnswer}
-use Rattle.model.specs.Model.{newModel}
+use Rattle.model.specs.Model.{newModel, inputOf}
 use Rattle.amounts.specs.Amounts.{tauOf, billion}
 use Rattle.model.specs.Configuration.{newConfig}
 use Rattle.quote.specs.Quotes.{exactQuotes, optimalQuotes, closedFormQuotes}
@@ -160,7 +161,7 @@ unfoldable pub ofFloats : Float → FloatAnswer → Reply
 ofFloats base f = ofAnswer base (f .vector) (f .answer)
 
 unfoldable pub reckonedFrom : ModelAnswer → Float → Reply
-reckonedFrom (ModelAnswer.Model m q) tau = ofFloats (m .base) (floatEntry (m .k) (m .alpha) (m .beta) (m .eta) (m .base) (m .«q_max») tau q)
+reckonedFrom (ModelAnswer.Model m q) tau = ofFloats (m .base) (floatEntry (m .k) (m .base) (inputOf m tau) q)
 reckonedFrom (ModelAnswer.Refused r) tau = refused r
 
 -- a plan ends no run with a vector: the second clause is never met
@@ -170,6 +171,9 @@ ofTurn p (ended (vector w o s)) = passes
 ofTurn p (ended (overCap need b)) = over-cap need b (cap - b)
 ofTurn p (ended (failed s)) = refused numerical
 
+abbrev input : Float → Float → Float → ℕ → Float → RunInput
+input alpha beta eta bound tau = record { alpha = alpha; beta = beta; eta = eta; bound = bound; tau = tau }
+
 unfoldable pub reply : Question → Reply
 reply (config c) = ofConfig (newConfig (c .config))
 reply (model c) = ofModel (newModel (c .mid) (c .holding) (c .config) (c .volatility))
@@ -177,8 +181,8 @@ reply (exact c) = ofExact (exactQuotes (c .mid) (c .holding) (c .config) (c .vol
 reply (optimal c) = ofOptimal (optimalQuotes (c .mid) (c .holding) (c .config) (c .volatility) (c .current))
 reply (closed c) = ofClosed (closedFormQuotes (c .mid) (c .holding) (c .config) (c .volatility))
 reply (reckoning c) = reckonedFrom (newModel (c .mid) (c .holding) (c .config) (c .volatility)) (tauOf (c .config .«terminal_time») (c .current))
-reply (floats k alpha beta eta base bound tau q) = ofFloats base (floatEntry k alpha beta eta base bound tau q)
-reply (plan alpha beta eta bound tau) = let p = fixed bound alpha beta eta in ofTurn p (firstTurn p tau)
+reply (floats k alpha beta eta base bound tau q) = ofFloats base (floatEntry k base (input alpha beta eta bound tau) q)
+reply (plan alpha beta eta bound tau) = let p = fixed (input alpha beta eta bound tau) in ofTurn p (firstTurn p tau)
 
 -- ---- the table
 infix 70 _⇒_

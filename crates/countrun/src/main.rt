@@ -16,6 +16,7 @@ use harness::put_number;
 use harness::put_refusal;
 use harness::read_block;
 use vector::FirstPlan;
+use vector::RunInput;
 
 // The bytes read at once: 1,024 records.
 const BLOCK: usize = 65536;
@@ -40,7 +41,14 @@ fn put_plan(out: &mut [u8], at: usize, plan: FirstPlan) -> usize {
 // The count of the record at a place.
 fn count_at(s: &[u8], at: usize) -> FirstPlan {
     let e = entry_at(s, at);
-    step_count(e.k, e.alpha, e.beta, e.eta, e.base, e.bound, e.tau, e.q)
+    let input = RunInput {
+        alpha: e.alpha,
+        beta: e.beta,
+        eta: e.eta,
+        bound: e.bound,
+        tau: e.tau,
+    };
+    step_count(e.k, e.base, input, e.q)
 }
 
 // The line of the record at a place.

@@ -3,13 +3,13 @@ use mathlib.Core.Path.{_≡_, refl, ap, _∙_, subst}
 use Prim.Native.Nat.{ℕ, zero, suc, _≤_, _<_}
 use native.Mathlib.Nat.{zero-lt-suc}
 use native.Mathlib.Omega.{arith}
-use mathlib.Core.Bool.{Bool, true, false, not, _&&_}
+use mathlib.Core.Bool.{Bool, true, false, not, and-eq-true-iff}
 use borrow.Author.Tests.{le-leb, lt-ltb, le-ltb}
 use lib.IntN.{ℤ, pos, negsuc, natAbs}
 use lib.Dec.{T, ltb, ltb→lt}
 use lib.ListN.{length-replicate, getD-replicate, List·getD-append}
 use lib.Ieee.{Float, nan, inf, fin, binary64, fits, lt, round, add, sub, mul, div, ofInt, ofBits}
-use lib.Ieee.Fits.{and-l, and-r}
+use lib.Ieee.Fits.{and-l}
 use lib.Ieee.Bits.{is-true}
 use lib.Ieee.Positive.{above}
 use lib.Ieee.Positive as Positive
@@ -19,13 +19,15 @@ use Rattle.elementary.specs.Elementary.{horner, mantissa, exponent, odds, lnSum
 use Rattle.elementary.proofs.Count.{positive-is}
 use Rattle.elementary.proofs.Exact.{minusZero, zero-add-f, zero-div}
 use Rattle.series.specs.Vectors.{at, fill}
-use Rattle.vector.specs.Run.{rows, fixed, runFor, run}
+use Rattle.series.specs.Series.{rows}
+use Rattle.vector.specs.Run.{fixed, runFor, run, runFrom}
 use Rattle.vector.specs.Values.{padded, vectorOf}
 use Rattle.distances.specs.Distances.{place, distance, bidAt, askAt, fine, sides, exactAt}
-use Rattle.distances.specs.FloatEntry.{withVector, answerBy, entryIf, floatsOk, floatEntry}
+use Rattle.distances.specs.FloatEntry.{withVector, answerBy, entryIf, entryOver, floatEntry}
 use Rattle.distances.specs.Promises.{baseBid, AtTheEnd}
 use Rattle.vector.specs.declared.ValueVector.{ValueVector}
 use Rattle.distances.specs.declared.Sides.the-variants as Sides
+use Rattle.distances.proofs.Checked.{scale-pass, all-pass}
 
 -- ---- the floats
 ln-one : orNan (LN 1ᶠ) ≡ 0ᶠ
@@ -86,10 +88,8 @@ module _ (n : ℕ) (k base : Float) (held : T (fits binary64 base)) (k-ok : T (p
   exact-is i h = rw (bid-is (ltb (suc i) n) i (ltb→lt (suc i) n), ask-is i h, base-fine (ltb (suc i) n), base-fine (ltb 0 i))
 
 pub at-the-end : AtTheEnd
-unfolding floatEntry entryIf answerBy run runFor fixed withVector flat floatsOk
-at-the-end k alpha beta eta base bound tau q held floats ok within late =
-    let a = positive k && positive alpha && finite beta && positive eta in
-    let b : T (a && positive base) = and-l (a && positive base) (finite tau) (rw floats tt) in
-    let k-ok : T (positive k) = and-l (positive k) (positive alpha) (and-l (positive k && positive alpha) (finite beta) (and-l (positive k && positive alpha && finite beta) (positive eta) (and-l a (positive base) b))) in
-    rw (floats, ok, le-leb (natAbs q) bound within, late)
-    (ap (withVector (flat (rows bound)) 0) (exact-is (rows bound) k base held k-ok (and-r a (positive base) b) (place bound q) (place-within bound q within)))
+unfolding floatEntry entryOver entryIf answerBy run runFrom fixed withVector flat
+at-the-end k base x q held floats ok within late =
+    let (k-ok, base-ok) = and-eq-true-iff (positive k) (positive base) .0 (scale-pass k base x floats) in
+    rw (all-pass k base x q floats ok (le-leb (natAbs q) (x .bound) within), late)
+    (ap (withVector (flat (rows (x .bound))) 0) (exact-is (rows (x .bound)) k base held (rw k-ok tt) (rw base-ok tt) (place (x .bound) q) (place-within (x .bound) q within)))

@@ -2,14 +2,13 @@
 use mathlib.Core.Path.{_≡_, refl}
 use Prim.Native.Nat.{ℕ, _≤_}
 use native.Mathlib.Omega.{arith}
-use mathlib.Core.Bool.{Bool, true, false}
 use lib.IntN.{ℤ}
 use lib.Ieee.{Float}
-use Rattle.vector.specs.Run.{Ended, vector, overCap, failed, cap, boundOk, run, spent}
+use Rattle.elementary.specs.Checks.{Verdict, passes, refused, firstFailing}
+use Rattle.vector.specs.Run.{Ended, vector, overCap, failed, cap, run, spent}
 use Rattle.vector.specs.declared.ValueVector.{ValueVector}
 use Rattle.vector.proofs.Spent.{steps-within, budget-within}
-use Rattle.distances.specs.Distances.{within}
-use Rattle.distances.specs.FloatEntry.{refusedEntry, withVector, answerBy, entryIf, floatsOk, floatEntry, stepsIf, floatSteps}
+use Rattle.distances.specs.FloatEntry.{refusedEntry, withVector, answerBy, entryChecks, entryIf, entryOver, floatEntry, stepsIf, stepsOver, floatSteps}
 use Rattle.distances.specs.Promises.{Counted, StepsCounted}
 use Rattle.distances.specs.declared.Sides.{Sides}
 use Rattle.distances.specs.declared.Sides.the-variants as Sides
@@ -26,11 +25,9 @@ counted bound k base q (overCap need b) h = let l = h need b refl in (refl, omeg
 counted bound k base q (failed s) h = tt
 
 pub steps-counted : StepsCounted
-unfolding Counted floatEntry entryIf refusedEntry floatSteps stepsIf
-steps-counted k alpha beta eta base bound tau q = go (floatsOk k alpha beta eta base tau) (boundOk bound) (within bound q)
+unfolding Counted floatEntry entryOver entryIf refusedEntry floatSteps stepsOver stepsIf
+steps-counted k base x q = go (firstFailing (entryChecks k base x q))
   where
-    go : (f b h : Bool) → Counted (entryIf f b h k alpha beta eta base bound tau q .answer) (stepsIf f b h alpha beta eta bound tau) × (stepsIf f b h alpha beta eta bound tau ≤ cap)
-    go false b h = (tt, omega arith)
-    go true false h = (tt, omega arith)
-    go true true false = (tt, omega arith)
-    go true true true = (counted bound k base q (run bound alpha beta eta tau) (budget-within bound alpha beta eta tau), steps-within bound alpha beta eta tau)
+    go : (v : Verdict) → Counted (entryIf v (answerBy (x .bound) k base q (run x)) .answer) (stepsIf v (spent (run x))) × (stepsIf v (spent (run x)) ≤ cap)
+    go passes = (counted (x .bound) k base q (run x) (budget-within x), steps-within x)
+    go (refused n) = (tt, omega arith)

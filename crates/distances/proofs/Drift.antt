@@ -1,76 +1,80 @@
--- At drift 0, of either sign, the float entry and the count are those of before. Assumes nothing.
+-- At drift 0, of either sign, the float entry and the count are the driftless ones. Assumes nothing.
 use mathlib.Core.Path.{_≡_, refl, sym, ap, _∙_}
-use Prim.Native.Nat.{ℕ}
-use mathlib.Core.Bool.{Bool, true, false, _&&_}
+use mathlib.Core.Bool.{true}
 use lib.IntN.{ℤ, negℤ}
-use lib.Ieee.{Float, binary64, neg, eq, lt}
-use Rattle.elementary.specs.Float.{0ᶠ, finite, positive}
+use lib.Ieee.{Float, binary64, neg, eq, ofBits}
+use Rattle.elementary.specs.Float.{0ᶠ, finite}
+use Rattle.elementary.specs.Checks.{Verdict, passes, refused, firstFailing}
 use Rattle.elementary.proofs.Zeros.{zero-test, zero-finite, zero-neg, zero-equal}
-use Rattle.vector.specs.Run.{boundOk, spent, run}
-use Rattle.vector.specs.Drift.{runBefore}
+use Rattle.vector.specs.Run.{Ended, boundOk, spent, run}
+use Rattle.vector.specs.Values.{ratesOk}
+use Rattle.vector.specs.Count.{planAhead, planIf}
+use Rattle.vector.specs.Promises.{turnedInput}
+use Rattle.vector.specs.Drift.{driftlessRun, driftlessPlan, driftlessInput}
+use Rattle.vector.specs.declared.RunInput.{RunInput}
 use Rattle.vector.proofs.Drift.{drift-zero}
-use Rattle.distances.specs.Distances.{within}
-use Rattle.distances.specs.FloatEntry.{answerBy, entryIf, floatsOk, floatEntry, stepsIf, floatSteps}
-use Rattle.distances.specs.Count.{countIf, stepCount}
-use Rattle.distances.specs.Drift.{floatsOkBefore, entryIfBefore, floatEntryBefore, stepsIfBefore, floatStepsBefore, countIfBefore, stepCountBefore, DriftZero}
+use Rattle.distances.specs.FloatEntry.{answerBy, floatsOk, entryChecks, entryIf, entryOver, floatEntry, stepsIf, stepsOver, floatSteps}
+use Rattle.distances.specs.Count.{countOver, stepCount}
+use Rattle.distances.specs.Drift.{driftlessEntry, driftlessSteps, driftlessCount, DriftZero}
 use Rattle.distances.specs.declared.FloatAnswer.{FloatAnswer}
-use Rattle.distances.proofs.Reading.{rates-pass}
-use Rattle.distances.proofs.FloatMirror.{same-vectors}
+use Rattle.distances.proofs.Checked.{rates-pass, passed}
+use Rattle.distances.proofs.FloatMirror.{floats-turned, same-vectors}
 
-module _ (k alpha beta eta base : Float) (bound : ℕ) (tau : Float) (q : ℤ) (z : eq beta 0ᶠ ≡ true) where
-  floats-before : floatsOk k alpha beta eta base tau ≡ floatsOkBefore k alpha eta base tau
-  unfolding floatsOk floatsOkBefore
-  floats-before = rw (zero-finite (zero-test binary64 beta z)) (go (positive k) (positive alpha))
-    where
-      go : (a b : Bool) → (a && b && true && positive eta && positive base && finite tau) ≡ (a && b && positive eta && positive base && finite tau)
-      go false b = refl
-      go true false = refl
-      go true true = refl
+module _ (k base : Float) (x : RunInput) (z : eq (x .beta) 0ᶠ ≡ true) where
+  abbrev driftless : Ended
+  driftless = driftlessRun (x .alpha) (x .eta) (x .bound) (x .tau)
 
-  runs-before : floatsOk k alpha beta eta base tau ≡ true → boundOk bound ≡ true → run bound alpha beta eta tau ≡ runBefore bound alpha eta tau
-  runs-before f b = drift-zero .runs bound alpha beta eta tau b (rates-pass k alpha beta eta base tau f) z
+  abbrev bare : RunInput
+  bare = driftlessInput (x .alpha) (x .eta) (x .bound) (x .tau)
 
-  entry-before : floatEntry k alpha beta eta base bound tau q ≡ floatEntryBefore k alpha eta base bound tau q
-  unfolding floatEntry floatEntryBefore entryIf entryIfBefore
-  entry-before = rw (← floats-before) (go (floatsOk k alpha beta eta base tau) (boundOk bound) (within bound q) refl refl)
-    where
-      go : (f b h : Bool) → floatsOk k alpha beta eta base tau ≡ f → boundOk bound ≡ b → entryIf f b h k alpha beta eta base bound tau q ≡ entryIfBefore f b h k alpha eta base bound tau q
-      go false b h ef eb = refl
-      go true false h ef eb = refl
-      go true true false ef eb = refl
-      go true true true ef eb = ap (answerBy bound k base q) (runs-before ef eb)
+  -- the checks ask of beta only whether it is finite
+  floats-driftless : floatsOk k base x ≡ floatsOk k base bare
+  unfolding floatsOk ratesOk finite ofBits
+  floats-driftless = rw (zero-finite (zero-test binary64 (x .beta) z))
 
-  steps-before : floatSteps k alpha beta eta base bound tau q ≡ floatStepsBefore k alpha eta base bound tau q
-  unfolding floatSteps floatStepsBefore stepsIf stepsIfBefore
-  steps-before = rw (← floats-before) (go (floatsOk k alpha beta eta base tau) (boundOk bound) (within bound q) refl refl)
-    where
-      go : (f b h : Bool) → floatsOk k alpha beta eta base tau ≡ f → boundOk bound ≡ b → stepsIf f b h alpha beta eta bound tau ≡ stepsIfBefore f b h alpha eta bound tau
-      go false b h ef eb = refl
-      go true false h ef eb = refl
-      go true true false ef eb = refl
-      go true true true ef eb = ap spent (runs-before ef eb)
+  runs-driftless : floatsOk k base x ≡ true → boundOk (x .bound) ≡ true → run x ≡ driftless
+  runs-driftless f b = drift-zero .runs x b (rates-pass k base x f) z
 
-  count-before : stepCount k alpha beta eta base bound tau q ≡ stepCountBefore k alpha eta base bound tau q
-  unfolding stepCount stepCountBefore countIf countIfBefore
-  count-before = rw (← floats-before) (go (floatsOk k alpha beta eta base tau) (boundOk bound) (within bound q) refl refl)
-    where
-      go : (f b h : Bool) → floatsOk k alpha beta eta base tau ≡ f → boundOk bound ≡ b → countIf f b h alpha beta eta bound tau ≡ countIfBefore f b h alpha eta bound tau
-      go false b h ef eb = refl
-      go true false h ef eb = refl
-      go true true false ef eb = refl
-      go true true true ef eb = drift-zero .plans bound alpha beta eta tau eb (rates-pass k alpha beta eta base tau ef) z
+  module _ (q : ℤ) where
+    entry-driftless : floatEntry k base x q ≡ driftlessEntry k base (x .alpha) (x .eta) (x .bound) (x .tau) q
+    unfolding floatEntry driftlessEntry entryOver entryIf
+    entry-driftless = rw (← floats-driftless) (go (firstFailing (entryChecks k base x q)) refl)
+      where
+        go : (v : Verdict) → firstFailing (entryChecks k base x q) ≡ v → entryIf v (answerBy (x .bound) k base q (run x)) ≡ entryIf v (answerBy (x .bound) k base q driftless)
+        go passes e = let p = passed k base x q e in ap (answerBy (x .bound) k base q) (runs-driftless (p .floats) (p .bound-ok))
+        go (refused n) e = refl
+
+    steps-driftless : floatSteps k base x q ≡ driftlessSteps k base (x .alpha) (x .eta) (x .bound) (x .tau) q
+    unfolding floatSteps driftlessSteps stepsOver stepsIf
+    steps-driftless = rw (← floats-driftless) (go (firstFailing (entryChecks k base x q)) refl)
+      where
+        go : (v : Verdict) → firstFailing (entryChecks k base x q) ≡ v → stepsIf v (spent (run x)) ≡ stepsIf v (spent driftless)
+        go passes e = let p = passed k base x q e in ap spent (runs-driftless (p .floats) (p .bound-ok))
+        go (refused n) e = refl
+
+    count-driftless : stepCount k base x q ≡ driftlessCount k base (x .alpha) (x .eta) (x .bound) (x .tau) q
+    unfolding stepCount driftlessCount countOver planIf
+    count-driftless = rw (← floats-driftless) (go (firstFailing (entryChecks k base x q)) refl)
+      where
+        go : (v : Verdict) → firstFailing (entryChecks k base x q) ≡ v → planIf v (planAhead x) ≡ planIf v (driftlessPlan (x .alpha) (x .eta) (x .bound) (x .tau))
+        go passes e = let p = passed k base x q e in drift-zero .plans x (p .bound-ok) (rates-pass k base x (p .floats)) z
+        go (refused n) e = refl
 
 -- the other zero
 turned-zero : (beta : Float) → eq beta 0ᶠ ≡ true → eq (neg beta) 0ᶠ ≡ true
 turned-zero beta z = zero-equal binary64 (zero-neg (zero-test binary64 beta z))
 
--- the entry at both zeros is that of before, and so are the two runs
-own-vector : (k alpha beta eta base : Float) (bound : ℕ) (tau : Float) (q : ℤ) → eq beta 0ᶠ ≡ true
-    → floatEntry k alpha beta eta base bound tau (negℤ q) .vector ≡ floatEntry k alpha beta eta base bound tau q .vector
-own-vector k alpha beta eta base bound tau q z =
-    let y = turned-zero beta z in
-    ap (λ (x : FloatAnswer). x .vector) (entry-before k alpha beta eta base bound tau (negℤ q) z ∙ sym (entry-before k alpha (neg beta) eta base bound tau (negℤ q) y))
-    ∙ same-vectors k alpha beta eta base bound tau q (λ f b. runs-before k alpha (neg beta) eta base bound tau q y (floats-before k alpha (neg beta) eta base bound tau q y ∙ sym (floats-before k alpha beta eta base bound tau q z) ∙ f) b ∙ sym (runs-before k alpha beta eta base bound tau q z f b))
+-- the entry at both zeros is the driftless one, and so are the two runs
+own-vector : (k base : Float) (x : RunInput) (q : ℤ) → eq (x .beta) 0ᶠ ≡ true → floatEntry k base x (negℤ q) .vector ≡ floatEntry k base x q .vector
+own-vector k base x q z =
+    let y = turned-zero (x .beta) z in
+    ap (λ (a : FloatAnswer). a .vector) (entry-driftless k base x z (negℤ q) ∙ sym (entry-driftless k base (turnedInput x) y (negℤ q)))
+    ∙ same-vectors k base x q (λ f b. runs-driftless k base (turnedInput x) y (floats-turned k base x q ∙ f) b ∙ sym (runs-driftless k base x z f b))
 
 pub drift-zero-entry : DriftZero
-drift-zero-entry = record { entry = entry-before; steps = steps-before; count = count-before; vector = own-vector }
+drift-zero-entry = record {
+  entry = λ k base x q z. entry-driftless k base x z q;
+  steps = λ k base x q z. steps-driftless k base x z q;
+  count = λ k base x q z. count-driftless k base x z q;
+  vector = own-vector;
+}

@@ -5,19 +5,21 @@ use native.Mathlib.Omega.{arith}
 use mathlib.Core.Bool.{Bool, true, false, _&&_, and-eq-true-iff}
 use lib.IntN.{ℤ}
 use lib.Ieee.{Float}
-use Rattle.elementary.specs.Float.{positive}
-use Rattle.vector.specs.Run.{boundOk}
+use Rattle.elementary.specs.Checks.{Verdict, passes, refused, firstFailing}
+use Rattle.vector.specs.Run.{run}
+use Rattle.vector.specs.declared.RunInput.{RunInput}
 use Rattle.vector.specs.declared.ValueVector.{ValueVector}
 use Rattle.vector.specs.declared.Outcome.{Outcome}
 use Rattle.vector.specs.declared.Outcome.the-variants as Outcome
-use Rattle.distances.specs.Distances.{within, lengthOk, fine, sides, exactAt, distancesIf, exactDistances}
-use Rattle.distances.specs.FloatEntry.{refusedEntry, entryIf, floatsOk, floatEntry}
+use Rattle.distances.specs.Distances.{place, fine, sides, exactAt, distanceChecks, distancesIf, exactDistances}
+use Rattle.distances.specs.FloatEntry.{refusedEntry, answerBy, entryChecks, entryIf, entryOver, floatEntry}
 use Rattle.distances.specs.Reading.{sidesWith, readBy, answerFrom}
 use Rattle.distances.specs.Promises.{Finite, FiniteDistances}
 use Rattle.distances.specs.declared.Distance.{Distance}
 use Rattle.distances.specs.declared.Sides.{Sides}
 use Rattle.distances.specs.declared.Sides.the-variants as Sides
 use Rattle.distances.specs.declared.Answer.the-variants.{Distances}
+use Rattle.distances.proofs.Checked.{passed}
 use Rattle.distances.proofs.Presence.{sides-are}
 use Rattle.distances.proofs.Reading.{entry-reads}
 
@@ -32,13 +34,11 @@ sides-fine x y b a = go (fine x && fine y) refl
 
 vector-finite : (v : ValueVector) (k base : Float) (q : ℤ) (b a : Distance) → exactDistances v k base q ≡ Sides.Distances b a → Finite b a
 unfolding exactDistances distancesIf exactAt
-vector-finite v k base q b a = go (positive k && positive base) (lengthOk (v .n)) (within (v .n / 2) q)
+vector-finite v k base q b a = go (firstFailing (distanceChecks v k base q))
   where
-    go : (f l h : Bool) → distancesIf f l h v k base q ≡ Sides.Distances b a → Finite b a
-    go false l h e = let z : _≡_ {A = ℕ} 0 1 = cc in absurd (omega arith)
-    go true false h e = let z : _≡_ {A = ℕ} 0 1 = cc in absurd (omega arith)
-    go true true false e = let z : _≡_ {A = ℕ} 0 1 = cc in absurd (omega arith)
-    go true true true e = sides-fine _ _ b a e
+    go : (t : Verdict) → distancesIf t (exactAt v k base (place (v .n / 2) q)) ≡ Sides.Distances b a → Finite b a
+    go passes e = sides-fine _ _ b a e
+    go (refused n) e = let z : _≡_ {A = ℕ} 0 1 = cc in absurd (omega arith)
 
 -- ---- from an outcome
 with-is : (s n : ℕ) (x : Sides) (b a : Distance) → sidesWith s x ≡ Distances b a n → x ≡ Sides.Distances b a
@@ -53,15 +53,13 @@ read-finite (Outcome.OverCap need l s) v k base q b a n e = let z : _≡_ {A = �
 read-finite (Outcome.Refused r) v k base q b a n e = let z : _≡_ {A = ℕ} 0 1 = cc in absurd (omega arith)
 
 -- ---- the entry's answer is read from its vector
-entry-finite : (k alpha beta eta base : Float) (bound : ℕ) (tau : Float) (q : ℤ) (b a : Distance) (s : ℕ) → floatEntry k alpha beta eta base bound tau q .answer ≡ Distances b a s → Finite b a
-unfolding floatEntry entryIf refusedEntry answerFrom
-entry-finite k alpha beta eta base bound tau q b a s = go (floatsOk k alpha beta eta base tau) (boundOk bound) (within bound q) refl refl refl
+entry-finite : (k base : Float) (x : RunInput) (q : ℤ) (b a : Distance) (s : ℕ) → floatEntry k base x q .answer ≡ Distances b a s → Finite b a
+unfolding floatEntry entryOver entryIf refusedEntry answerFrom
+entry-finite k base x q b a s = go (firstFailing (entryChecks k base x q)) refl
   where
-    go : (f c h : Bool) → floatsOk k alpha beta eta base tau ≡ f → boundOk bound ≡ c → within bound q ≡ h → entryIf f c h k alpha beta eta base bound tau q .answer ≡ Distances b a s → Finite b a
-    go false c h x y z e = let z : _≡_ {A = ℕ} 0 1 = cc in absurd (omega arith)
-    go true false h x y z e = let z : _≡_ {A = ℕ} 0 1 = cc in absurd (omega arith)
-    go true true false x y z e = let z : _≡_ {A = ℕ} 0 1 = cc in absurd (omega arith)
-    go true true true x y z e = read-finite _ _ k base q b a s (sym (rw (x, y, z) at (entry-reads k alpha beta eta base bound tau q x y z)) ∙ e)
+    go : (v : Verdict) → firstFailing (entryChecks k base x q) ≡ v → entryIf v (answerBy (x .bound) k base q (run x)) .answer ≡ Distances b a s → Finite b a
+    go passes t e = let p = passed k base x q t in read-finite _ _ k base q b a s (sym (rw t at (entry-reads k base x q (p .floats) (p .bound-ok) (p .held))) ∙ e)
+    go (refused n) t e = let z : _≡_ {A = ℕ} 0 1 = cc in absurd (omega arith)
 
 pub finite-distances : FiniteDistances
 unfolding answerFrom

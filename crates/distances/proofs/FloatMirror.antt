@@ -1,4 +1,4 @@
--- The float entry at minus q and minus beta is that at q and beta with the sides exchanged: the two runs are mirror images, and opposite holdings have opposite places. Assumes nothing.
+-- The float entry at minus q and the drift turned is that at q with the sides exchanged: the two runs are mirror images, and opposite holdings have opposite places. Assumes nothing.
 use mathlib.Core.Path.{_≡_, refl, sym, _∙_}
 use Prim.Native.Nat.{ℕ, zero, suc, _+_, _≤_}
 use native.Mathlib.Omega.{arith}
@@ -6,24 +6,27 @@ use mathlib.Core.Bool.{Bool, true, false, _&&_, and-comm}
 use mathlib.Core.List.{List}
 use borrow.Author.Tests.{leb-true, lt-ltb, le-ltb}
 use lib.IntN.{ℤ, pos, negsuc, negℤ, natAbs}
-use lib.Dec.{leb, ltb}
+use lib.Dec.{ltb}
 use lib.ListN.{length, List·getD-append}
-use lib.Ieee.{Float, nan, neg}
+use lib.Ieee.{Float, nan}
+use Rattle.elementary.specs.Checks.{Verdict, passes, refused, firstFailing}
 use Rattle.elementary.proofs.Signs.{finite-neg}
-use Rattle.series.specs.Vectors.{at}
-use Rattle.vector.specs.Run.{Ended, vector, overCap, failed, boundOk, rows, run, spent}
-use Rattle.vector.specs.Values.{padded, vectorOf, blankVector}
-use Rattle.vector.specs.Promises.{Mirror, MirrorEnd}
+use Rattle.series.specs.Vectors.{at, Mirror}
+use Rattle.vector.specs.Run.{Ended, vector, overCap, failed, boundOk, run, spent}
+use Rattle.series.specs.Series.{rows}
+use Rattle.vector.specs.Values.{padded, vectorOf, blankVector, ratesOk}
+use Rattle.vector.specs.Promises.{MirrorEnd, turnedInput}
+use Rattle.vector.specs.declared.RunInput.{RunInput}
 use Rattle.vector.specs.declared.ValueVector.{ValueVector}
 use Rattle.vector.proofs.Turned.{turned-mirror, full-length}
 use Rattle.distances.specs.Distances.{place, distance, bidAt, askAt, fine, sides, exactAt}
-use Rattle.distances.specs.FloatEntry.{refusedEntry, withVector, answerBy, entryIf, floatsOk, floatEntry, stepsIf, floatSteps}
+use Rattle.distances.specs.FloatEntry.{refusedEntry, withVector, answerBy, floatsOk, entryChecks, entryIf, entryOver, floatEntry, stepsIf, stepsOver, floatSteps}
 use Rattle.distances.specs.Promises.{exchangedSides, exchanged, MirrorVector, FloatMirror}
 use Rattle.distances.specs.declared.Distance.{Distance}
 use Rattle.distances.specs.declared.Sides.{Sides}
 use Rattle.distances.specs.declared.Sides.the-variants as Sides
 use Rattle.distances.specs.declared.FloatAnswer.{FloatAnswer}
-use Rattle.distances.proofs.Reading.{rates-pass}
+use Rattle.distances.proofs.Checked.{rates-pass, passed}
 
 -- ---- the distances
 padded-alike : (n : ℕ) (l r : List Float) → length l ≡ n → length r ≡ n → Mirror n l r → (i j : ℕ) → suc (i + j) ≡ n → at (padded n l) i ≡ at (padded n r) j
@@ -151,35 +154,34 @@ spent-alike n (failed s) (vector w o s′) m = absurd m
 spent-alike n (failed s) (overCap need b) m = absurd m
 spent-alike n (failed s) (failed s′) m = sym m
 
-module _ (k alpha beta eta base : Float) (bound : ℕ) (tau : Float) (q : ℤ) where
+module _ (k base : Float) (x : RunInput) (q : ℤ) where
   -- past the checks the two runs have the same end
   abbrev pub SameRun : Type 0
-  SameRun = floatsOk k alpha beta eta base tau ≡ true → boundOk bound ≡ true → run bound alpha (neg beta) eta tau ≡ run bound alpha beta eta tau
+  SameRun = floatsOk k base x ≡ true → boundOk (x .bound) ≡ true → run (turnedInput x) ≡ run x
 
-  entry-exchanged : (a b c : Bool) → floatsOk k alpha beta eta base tau ≡ a → boundOk bound ≡ b → leb (natAbs q) bound ≡ c
-      → Exchanged SameRun (entryIf a b c k alpha (neg beta) eta base bound tau (negℤ q)) (entryIf a b c k alpha beta eta base bound tau q)
-      × (stepsIf a b c alpha (neg beta) eta bound tau ≡ stepsIf a b c alpha beta eta bound tau)
+  abbrev answer : RunInput → ℤ → FloatAnswer
+  answer y p = answerBy (y .bound) k base p (run y)
+
+  entry-exchanged : (v : Verdict) → firstFailing (entryChecks k base x q) ≡ v
+      → Exchanged SameRun (entryIf v (answer (turnedInput x) (negℤ q))) (entryIf v (answer x q)) × (stepsIf v (spent (run (turnedInput x))) ≡ stepsIf v (spent (run x)))
   unfolding entryIf stepsIf refusedEntry exchanged
-  entry-exchanged false b c ea eb ec = (alike _ _ refl refl, refl)
-  entry-exchanged true false c ea eb ec = (alike _ _ refl refl, refl)
-  entry-exchanged true true false ea eb ec = (alike _ _ refl refl, refl)
-  entry-exchanged true true true ea eb ec =
-      let m = turned-mirror bound alpha beta eta tau eb (rates-pass k alpha beta eta base tau ea) in
-      let x = by-exchanged bound k base q (leb-true (natAbs q) bound ec) _ _ (full-length bound alpha beta eta tau) (full-length bound alpha (neg beta) eta tau) m in
-      (record { answers = x .answers; vectors = x .vectors; same = λ t. x .same (t ea eb) }, spent-alike (rows bound) _ _ m)
+  entry-exchanged (refused n) e = (alike _ _ refl refl, refl)
+  entry-exchanged passes e =
+      let p = passed k base x q e in
+      let m = turned-mirror x (p .bound-ok) (rates-pass k base x (p .floats)) in
+      let y = by-exchanged (x .bound) k base q (leb-true (natAbs q) (x .bound) (p .held)) _ _ (full-length x) (full-length (turnedInput x)) m in
+      (record { answers = y .answers; vectors = y .vectors; same = λ t. y .same (t (p .floats) (p .bound-ok)) }, spent-alike (rows (x .bound)) _ _ m)
 
-  floats-turned : floatsOk k alpha (neg beta) eta base tau ≡ floatsOk k alpha beta eta base tau
-  unfolding floatsOk
-  floats-turned = rw (finite-neg beta)
+  pub floats-turned : floatsOk k base (turnedInput x) ≡ floatsOk k base x
+  unfolding floatsOk ratesOk
+  floats-turned = rw (finite-neg (x .beta))
 
-  entries : Exchanged SameRun (floatEntry k alpha (neg beta) eta base bound tau (negℤ q)) (floatEntry k alpha beta eta base bound tau q)
-      × (floatSteps k alpha (neg beta) eta base bound tau (negℤ q) ≡ floatSteps k alpha beta eta base bound tau q)
-  unfolding floatEntry floatSteps
-  entries = rw (floats-turned, natAbs-neg q) (entry-exchanged (floatsOk k alpha beta eta base tau) (boundOk bound) (leb (natAbs q) bound) refl refl refl)
+  entries : Exchanged SameRun (floatEntry k base (turnedInput x) (negℤ q)) (floatEntry k base x q) × (floatSteps k base (turnedInput x) (negℤ q) ≡ floatSteps k base x q)
+  unfolding floatEntry entryOver floatSteps stepsOver
+  entries = rw (floats-turned, natAbs-neg q) (entry-exchanged (firstFailing (entryChecks k base x q)) refl)
 
-  pub same-vectors : SameRun → floatEntry k alpha (neg beta) eta base bound tau (negℤ q) .vector ≡ floatEntry k alpha beta eta base bound tau q .vector
+  pub same-vectors : SameRun → floatEntry k base (turnedInput x) (negℤ q) .vector ≡ floatEntry k base x q .vector
   same-vectors t = entries .0 .same t
 
 pub float-mirror : FloatMirror
-float-mirror k alpha beta eta base bound tau q =
-    let (x, s) = entries k alpha beta eta base bound tau q in (x .answers, x .vectors, s)
+float-mirror k base x q = let (y, s) = entries k base x q in (y .answers, y .vectors, s)

@@ -8,7 +8,8 @@ use lib.Signed.{mag, leZ}
 use lib.Dec.{T, leb, eqb, leb·zero, leb·suc-zero, leb·suc-suc}
 use mir.Facts.{and-yes, leb-yes, eqb-yes}
 use borrow.Author.Tests.{le-ltb}
-use Rattle.vector.specs.Run.{boundOk, rows}
+use Rattle.vector.specs.Run.{boundOk}
+use Rattle.series.specs.Series.{rows}
 use Rattle.distances.specs.Distances.{place, lengthOk}
 
 -- ---- the length of a vector

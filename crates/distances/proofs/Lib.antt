@@ -1,4 +1,5 @@
 pub mod Holdings
+pub mod Checked
 pub mod AtEnd
 pub mod FloatMirror
 pub mod Drift

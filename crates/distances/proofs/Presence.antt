@@ -8,17 +8,20 @@ use borrow.Author.Tests.{ltb-false, leb-true, le-ltb}
 use lib.IntN.{ℤ, pos, negℤ, natAbs, _+ℤ_, _-ℤ_, +ℤ-invl, +ℤ-negℤ-cancel}
 use lib.Dec.{ltb}
 use lib.Ieee.{Float}
-use Rattle.vector.specs.Run.{Ended, vector, overCap, failed, boundOk, rows, run}
+use Rattle.elementary.specs.Checks.{Verdict, passes, refused, firstFailing}
+use Rattle.vector.specs.Run.{Ended, vector, overCap, failed, run}
+use Rattle.series.specs.Series.{rows}
 use Rattle.vector.specs.Values.{vectorOf}
 use Rattle.vector.specs.declared.ValueVector.{ValueVector}
-use Rattle.distances.specs.Distances.{within, place, bidAt, askAt, sides, exactAt}
-use Rattle.distances.specs.FloatEntry.{refusedEntry, withVector, answerBy, entryIf, floatsOk, floatEntry}
+use Rattle.distances.specs.Distances.{place, bidAt, askAt, sides, exactAt}
+use Rattle.distances.specs.FloatEntry.{refusedEntry, withVector, answerBy, entryChecks, entryIf, entryOver, floatEntry}
 use Rattle.distances.specs.Promises.{Withheld, FloatPresence}
 use Rattle.distances.specs.declared.Distance.{Distance}
 use Rattle.distances.specs.declared.Distance.the-variants.{Absent}
 use Rattle.distances.specs.declared.Sides.{Sides}
 use Rattle.distances.specs.declared.Sides.the-variants as Sides
 use Rattle.distances.specs.declared.Answer.the-variants.{Distances}
+use Rattle.distances.proofs.Checked.{passed}
 use Rattle.distances.proofs.Holdings.{at-place, place-most}
 
 -- ---- the places
@@ -68,11 +71,9 @@ run-withheld bound k base q h (overCap need l) b a s e = let z : _≡_ {A = ℕ}
 run-withheld bound k base q h (failed n) b a s e = let z : _≡_ {A = ℕ} 0 1 = cc in absurd (omega arith)
 
 pub float-presence : FloatPresence
-unfolding floatEntry entryIf refusedEntry
-float-presence k alpha beta eta base bound tau q b a s = go (floatsOk k alpha beta eta base tau) (boundOk bound) (within bound q) refl
+unfolding floatEntry entryOver entryIf refusedEntry
+float-presence k base x q b a s = go (firstFailing (entryChecks k base x q)) refl
   where
-    go : (f c h : Bool) → within bound q ≡ h → entryIf f c h k alpha beta eta base bound tau q .answer ≡ Distances b a s → Withheld bound q b a
-    go false c h t e = let z : _≡_ {A = ℕ} 0 1 = cc in absurd (omega arith)
-    go true false h t e = let z : _≡_ {A = ℕ} 0 1 = cc in absurd (omega arith)
-    go true true false t e = let z : _≡_ {A = ℕ} 0 1 = cc in absurd (omega arith)
-    go true true true t e = run-withheld bound k base q (leb-true (natAbs q) bound t) (run bound alpha beta eta tau) b a s e
+    go : (v : Verdict) → firstFailing (entryChecks k base x q) ≡ v → entryIf v (answerBy (x .bound) k base q (run x)) .answer ≡ Distances b a s → Withheld (x .bound) q b a
+    go passes t e = run-withheld (x .bound) k base q (leb-true (natAbs q) (x .bound) (passed k base x q t .held)) (run x) b a s e
+    go (refused n) t e = let z : _≡_ {A = ℕ} 0 1 = cc in absurd (omega arith)

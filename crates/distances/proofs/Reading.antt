@@ -1,55 +1,28 @@
 -- The float entry's answer, where the checks pass, is read from the value vector of its floats. Assumes nothing.
-use mathlib.Core.Path.{_≡_, refl, ap}
+use mathlib.Core.Path.{_≡_, refl}
 use mathlib.Core.Logic.{_⊎_, inl, inr}
 use Prim.Native.Nat.{ℕ, _*_, _+_, _/_}
 use native.Mathlib.Omega.{arith}
-use mathlib.Core.Bool.{Bool, true, false, _&&_}
+use mathlib.Core.Bool.{true, _&&_}
 use mathlib.Core.List.{List}
 use lib.IntN.{ℤ}
 use lib.Ieee.{Float}
 use borrow.Author.Tests.{eq-eqb}
-use Rattle.elementary.specs.Float.{finite, positive}
-use Rattle.vector.specs.Run.{Ended, vector, overCap, failed, boundOk, rows, run}
-use Rattle.vector.specs.Values.{vectorOf, refusedVector, vectorBy, vectorIf, ratesOk, valueVector}
+use Rattle.elementary.specs.Float.{positive}
+use Rattle.elementary.specs.Checks.{verdict, firstOf, firstFailing}
+use Rattle.vector.specs.Run.{Ended, vector, overCap, failed, boundOk, run}
+use Rattle.series.specs.Series.{rows}
+use Rattle.vector.specs.Values.{vectorOf, refusedVector, vectorBy}
 use Rattle.vector.specs.declared.ValueVector.{ValueVector}
 use Rattle.vector.specs.declared.Outcome.{Outcome}
 use Rattle.vector.specs.declared.Outcome.the-variants as Outcome
 use Rattle.distances.specs.Distances.{within, place, lengthOk, exactAt, distancesIf, exactDistances}
-use Rattle.distances.specs.FloatEntry.{refusedEntry, withVector, answerBy, entryIf, floatsOk, floatEntry}
+use Rattle.distances.specs.FloatEntry.{refusedEntry, withVector, answerBy, entryIf, entryOver, floatEntry}
 use Rattle.distances.specs.Reading.{sidesWith, readBy, answerFrom, EntryReads, ReadRefusals}
 use Rattle.distances.specs.declared.Sides.{Sides}
 use Rattle.distances.specs.declared.Sides.the-variants as Sides
 use Rattle.distances.specs.declared.Answer.the-variants as Answer
-
--- ---- the value vector where the checks pass
-inner : (k a d e b t : Bool) → (k && a && d && e && b && t) ≡ true → (a && d && e && t) ≡ true
-inner false a d e b t h = cc
-inner true false d e b t h = cc
-inner true true false e b t h = cc
-inner true true true false b t h = cc
-inner true true true true false t h = cc
-inner true true true true true t h = h
-
-scale : (k a d e b t : Bool) → (k && a && d && e && b && t) ≡ true → (k && b) ≡ true
-scale false a d e b t h = cc
-scale true false d e b t h = cc
-scale true true false e b t h = cc
-scale true true true false b t h = cc
-scale true true true true false t h = cc
-scale true true true true true t h = refl
-
-pub rates-pass : (k alpha beta eta base tau : Float) → floatsOk k alpha beta eta base tau ≡ true → ratesOk alpha beta eta tau ≡ true
-unfolding floatsOk ratesOk
-rates-pass k alpha beta eta base tau = inner (positive k) (positive alpha) (finite beta) (positive eta) (positive base) (finite tau)
-
-pub vector-is : (k alpha beta eta base : Float) (bound : ℕ) (tau : Float) → floatsOk k alpha beta eta base tau ≡ true → boundOk bound ≡ true
-    → valueVector alpha beta eta bound tau ≡ vectorBy (rows bound) (run bound alpha beta eta tau)
-unfolding valueVector vectorIf
-vector-is k alpha beta eta base bound tau f b = rw (rates-pass k alpha beta eta base tau f, b)
-
-scale-is : (k alpha beta eta base tau : Float) → floatsOk k alpha beta eta base tau ≡ true → (positive k && positive base) ≡ true
-unfolding floatsOk
-scale-is k alpha beta eta base tau f = scale (positive k) (positive alpha) (finite beta) (positive eta) (positive base) (finite tau) f
+use Rattle.distances.proofs.Checked.{scale-pass, vector-is, all-pass}
 
 -- ---- the length of a bound's vector
 half-rows : (b : ℕ) → (2 * b + 1) / 2 ≡ b
@@ -67,8 +40,8 @@ module _ (b : ℕ) (k base : Float) (q : ℤ) (s : (positive k && positive base)
   with-is w o n (Sides.Refused r) = refl
 
   at-place : (w o : List Float) → exactDistances (vectorOf (rows b) w o) k base q ≡ exactAt (vectorOf (rows b) w o) k base (place b q)
-  unfolding exactDistances distancesIf vectorOf
-  at-place w o = rw (s, rows-fit b h, half-rows b, g) (ap (λ (m : ℕ). exactAt (vectorOf (rows b) w o) k base (place m q)) (half-rows b))
+  unfolding exactDistances distancesIf vectorOf firstFailing firstOf verdict
+  at-place w o = rw (s, rows-fit b h, half-rows b, g)
 
   read-is : (e : Ended) → answerBy b k base q e .answer ≡ answerFrom (vectorBy (rows b) e) k base q
   unfolding answerBy answerFrom readBy vectorBy vectorOf refusedVector refusedEntry
@@ -77,9 +50,8 @@ module _ (b : ℕ) (k base : Float) (q : ℤ) (s : (positive k && positive base)
   read-is (failed n) = refl
 
 pub entry-reads : EntryReads
-unfolding floatEntry entryIf
-entry-reads k alpha beta eta base bound tau q f b h =
-    rw (f, b, h, vector-is k alpha beta eta base bound tau f b) (read-is bound k base q (scale-is k alpha beta eta base tau f) b h (run bound alpha beta eta tau))
+unfolding floatEntry entryOver entryIf
+entry-reads k base x q f b h = rw (all-pass k base x q f b h, vector-is k base x f b) (read-is (x .bound) k base q (scale-pass k base x f) b h (run x))
 
 -- ---- refusals
 sides-refused : (s : ℕ) (x : Sides) (n : ℕ) → sidesWith s x ≡ Answer.Refused n → x ≡ Sides.Refused n

@@ -1,27 +1,30 @@
 -- Each refusal of this layer is the reply in just the situation that the paper names. Assumes nothing.
-use mathlib.Core.Path.{_≡_, refl, sym, ap, _∙_, subst}
+use mathlib.Core.Path.{_≡_, refl, ap, _∙_}
 use mathlib.Core.Logic.{_⊎_, inl, inr}
-use Prim.Native.Nat.{ℕ, zero, suc, _-_, _/_, _<_}
+use Prim.Native.Nat.{ℕ, zero, suc, _-_, _/_}
 use native.Mathlib.Omega.{arith}
 use mathlib.Core.Bool.{Bool, true, false, _&&_}
 use borrow.Author.Tests.{ltb-true, lt-ltb}
 use lib.IntN.{ℤ}
 use lib.Dec.{ltb}
 use lib.Ieee.{Float}
-use Rattle.elementary.specs.Float.{positive}
+use Rattle.elementary.specs.Checks.{Verdict, passes, refused, firstFailing, Refuses, here, later, Passes, none, each}
+use Rattle.elementary.proofs.Checks.{first-failing, none-failing}
 use Rattle.vector.specs.Refusals.{numerical}
-use Rattle.vector.specs.Run.{Ended, vector, overCap, failed, cap, boundOk, rows, run}
+use Rattle.vector.specs.Run.{Ended, vector, overCap, failed, cap, run}
+use Rattle.series.specs.Series.{rows}
 use Rattle.vector.specs.Values.{vectorOf}
+use Rattle.vector.specs.declared.RunInput.{RunInput}
 use Rattle.vector.specs.declared.ValueVector.{ValueVector}
 use Rattle.vector.proofs.Causes.{runs-fail, cap-reports}
-use Rattle.distances.specs.Distances.{within, place, lengthOk, bidAt, askAt, fine, sides, exactAt, distancesIf, exactDistances}
-use Rattle.distances.specs.Weights.{DistanceFails}
-use Rattle.distances.specs.FloatEntry.{refusedEntry, withVector, answerBy, entryIf, floatsOk, floatEntry}
+use Rattle.distances.specs.Distances.{place, bidAt, askAt, fine, sides, exactAt, distanceChecks, distancesIf, exactDistances}
+use Rattle.distances.specs.FloatEntry.{refusedEntry, withVector, answerBy, entryChecks, entryIf, entryOver, floatEntry}
 use Rattle.distances.specs.Refusing.{ReadFails, by-bid, by-ask, ReadsFail, DistancesRefused, by-5, by-1, by-4, by-11, DistancesRefusals, EntryFails, by-run, by-read, FloatRefused, at-5, at-1, at-4, at-11, FloatRefusals, FloatReported, FloatReports}
 use Rattle.distances.specs.declared.Distance.{Distance}
 use Rattle.distances.specs.declared.Sides.{Sides}
 use Rattle.distances.specs.declared.Sides.the-variants as Sides
 use Rattle.distances.specs.declared.Answer.the-variants as Answer
+use Rattle.distances.proofs.Checked.{passed, all-pass}
 use Rattle.distances.proofs.Weights.{distances-fail}
 
 -- a test that is both true and false
@@ -72,19 +75,28 @@ reads-fail v k base i n = (
 -- ---- exact_distances
 pub distances-refusals : DistancesRefusals
 unfolding exactDistances distancesIf
-distances-refusals v k base q n = (to (positive k && positive base) (lengthOk (v .n)) (within (v .n / 2) q) refl refl refl, from n)
+distances-refusals v k base q n = (to (firstFailing (distanceChecks v k base q)) refl, from n)
   where
-    to : (f b h : Bool) → (positive k && positive base) ≡ f → lengthOk (v .n) ≡ b → within (v .n / 2) q ≡ h → distancesIf f b h v k base q ≡ Sides.Refused n → DistancesRefused v k base q n
-    to false b h ef eb eh e = subst (λ (m : ℕ). DistancesRefused v k base q m) (cc) (by-5 ef)
-    to true false h ef eb eh e = subst (λ (m : ℕ). DistancesRefused v k base q m) (cc) (by-1 ef eb)
-    to true true false ef eb eh e = subst (λ (m : ℕ). DistancesRefused v k base q m) (cc) (by-4 ef eb eh)
-    to true true true ef eb eh e = let (z, r) = reads-fail v k base (place (v .n / 2) q) n .0 e in rw z (by-11 ef eb eh r)
+    read : Sides
+    read = exactAt v k base (place (v .n / 2) q)
 
-    from : (m : ℕ) → DistancesRefused v k base q m → distancesIf (positive k && positive base) (lengthOk (v .n)) (within (v .n / 2) q) v k base q ≡ Sides.Refused m
-    from m (by-5 ef) = rw ef
-    from m (by-1 ef eb) = rw (ef, eb)
-    from m (by-4 ef eb eh) = rw (ef, eb, eh)
-    from m (by-11 ef eb eh r) = rw (ef, eb, eh) (reads-fail v k base (place (v .n / 2) q) numerical .1 (refl, r))
+    failed-by : (m : ℕ) → Refuses (distanceChecks v k base q) m → DistancesRefused v k base q m
+    failed-by m (here f) = by-5 f
+    failed-by m (later f (here b)) = by-1 f b
+    failed-by m (later f (later b (here h))) = by-4 f b h
+
+    to : (t : Verdict) → firstFailing (distanceChecks v k base q) ≡ t → distancesIf t read ≡ Sides.Refused n → DistancesRefused v k base q n
+    to passes t e = all (none-failing (distanceChecks v k base q) .0 t)
+      where
+        all : Passes (distanceChecks v k base q) → DistancesRefused v k base q n
+        all (each f (each b (each h none))) = let (z, r) = reads-fail v k base (place (v .n / 2) q) n .0 e in rw z (by-11 f b h r)
+    to (refused m) t e = let z : m ≡ n = cc in failed-by n (first-failing (distanceChecks v k base q) n .0 (t ∙ ap refused z))
+
+    from : (m : ℕ) → DistancesRefused v k base q m → distancesIf (firstFailing (distanceChecks v k base q)) read ≡ Sides.Refused m
+    from m (by-5 f) = rw (first-failing (distanceChecks v k base q) m .1 (here f))
+    from m (by-1 f b) = rw (first-failing (distanceChecks v k base q) m .1 (later f (here b)))
+    from m (by-4 f b h) = rw (first-failing (distanceChecks v k base q) m .1 (later f (later b (here h))))
+    from m (by-11 f b h r) = rw (none-failing (distanceChecks v k base q) .1 (each f (each b (each h none)))) (reads-fail v k base (place (v .n / 2) q) numerical .1 (refl, r))
 
 -- ---- the float entry
 with-refused : (v : ValueVector) (s : ℕ) (r : Sides) (n : ℕ) → withVector v s r .answer ≡ Answer.Refused n → r ≡ Sides.Refused n
@@ -92,37 +104,46 @@ unfolding withVector refusedEntry
 with-refused v s (Sides.Distances b a) n e = cc
 with-refused v s (Sides.Refused r) n e = cc
 
-module _ (k alpha beta eta base : Float) (bound : ℕ) (tau : Float) (q : ℤ) where
-  ended : (e : Ended) → run bound alpha beta eta tau ≡ e → (n : ℕ) → answerBy bound k base q e .answer ≡ Answer.Refused n → (n ≡ numerical) × EntryFails k alpha beta eta base bound tau q
+module _ (k base : Float) (x : RunInput) (q : ℤ) where
+  ended : (e : Ended) → run x ≡ e → (n : ℕ) → answerBy (x .bound) k base q e .answer ≡ Answer.Refused n → (n ≡ numerical) × EntryFails k base x q
   unfolding answerBy refusedEntry
   ended (vector w o s) h n i =
-      let v = vectorOf (rows bound) w o in
-      let (z, r) = reads-fail v k base (place bound q) n .0 (with-refused v s _ n i) in
+      let v = vectorOf (rows (x .bound)) w o in
+      let (z, r) = reads-fail v k base (place (x .bound) q) n .0 (with-refused v s _ n i) in
       (z, by-read h r)
   ended (overCap need b) h n i = let z : _≡_ {A = ℕ} 0 1 = cc in absurd (omega arith)
-  ended (failed s) h n i = let c = runs-fail bound alpha beta eta tau s .0 h in (cc, by-run (c .0) (c .1))
+  ended (failed s) h n i = let c = runs-fail x s .0 h in (cc, by-run (c .0) (c .1))
 
-  ends : EntryFails k alpha beta eta base bound tau q → answerBy bound k base q (run bound alpha beta eta tau) .answer ≡ Answer.Refused numerical
+  ends : EntryFails k base x q → answerBy (x .bound) k base q (run x) .answer ≡ Answer.Refused numerical
   unfolding answerBy withVector refusedEntry
-  ends (by-run {s} l c) = rw (runs-fail bound alpha beta eta tau s .1 (l, c))
-  ends (by-read {w} {o} {s} h r) = rw (h, reads-fail (vectorOf (rows bound) w o) k base (place bound q) numerical .1 (refl, r))
+  ends (by-run {s} l c) = rw (runs-fail x s .1 (l, c))
+  ends (by-read {w} {o} {s} h r) = rw (h, reads-fail (vectorOf (rows (x .bound)) w o) k base (place (x .bound) q) numerical .1 (refl, r))
+
+  -- a check that fails
+  checked : (n : ℕ) → Refuses (entryChecks k base x q) n → FloatRefused k base x q n
+  checked n (here f) = at-5 f
+  checked n (later f (here b)) = at-1 f b
+  checked n (later f (later b (here h))) = at-4 f b h
+
+  pub by-check : {n : ℕ} → Refuses (entryChecks k base x q) n → firstFailing (entryChecks k base x q) ≡ refused n
+  by-check {n} r = first-failing (entryChecks k base x q) n .1 r
 
 pub float-refusals : FloatRefusals
-unfolding floatEntry entryIf refusedEntry
-float-refusals k alpha beta eta base bound tau q n = (to (floatsOk k alpha beta eta base tau) (boundOk bound) (within bound q) refl refl refl, from n)
+unfolding floatEntry entryOver entryIf refusedEntry
+float-refusals k base x q n = (to (firstFailing (entryChecks k base x q)) refl, from n)
   where
-    to : (f b h : Bool) → floatsOk k alpha beta eta base tau ≡ f → boundOk bound ≡ b → within bound q ≡ h → entryIf f b h k alpha beta eta base bound tau q .answer ≡ Answer.Refused n
-        → FloatRefused k alpha beta eta base bound tau q n
-    to false b h ef eb eh e = subst (λ (m : ℕ). FloatRefused k alpha beta eta base bound tau q m) (cc) (at-5 ef)
-    to true false h ef eb eh e = subst (λ (m : ℕ). FloatRefused k alpha beta eta base bound tau q m) (cc) (at-1 ef eb)
-    to true true false ef eb eh e = subst (λ (m : ℕ). FloatRefused k alpha beta eta base bound tau q m) (cc) (at-4 ef eb eh)
-    to true true true ef eb eh e = let (z, r) = ended k alpha beta eta base bound tau q (run bound alpha beta eta tau) refl n e in rw z (at-11 ef eb eh r)
+    to : (v : Verdict) → firstFailing (entryChecks k base x q) ≡ v → entryIf v (answerBy (x .bound) k base q (run x)) .answer ≡ Answer.Refused n → FloatRefused k base x q n
+    to passes t e =
+        let p = passed k base x q t in
+        let (z, r) = ended k base x q (run x) refl n e in
+        rw z (at-11 (p .floats) (p .bound-ok) (p .held) r)
+    to (refused m) t e = let z : m ≡ n = cc in checked k base x q n (first-failing (entryChecks k base x q) n .0 (t ∙ ap refused z))
 
-    from : (m : ℕ) → FloatRefused k alpha beta eta base bound tau q m → entryIf (floatsOk k alpha beta eta base tau) (boundOk bound) (within bound q) k alpha beta eta base bound tau q .answer ≡ Answer.Refused m
-    from m (at-5 ef) = rw ef
-    from m (at-1 ef eb) = rw (ef, eb)
-    from m (at-4 ef eb eh) = rw (ef, eb, eh)
-    from m (at-11 ef eb eh r) = rw (ef, eb, eh) (ends k alpha beta eta base bound tau q r)
+    from : (m : ℕ) → FloatRefused k base x q m → entryIf (firstFailing (entryChecks k base x q)) (answerBy (x .bound) k base q (run x)) .answer ≡ Answer.Refused m
+    from m (at-5 f) = rw (by-check k base x q (here f))
+    from m (at-1 f b) = rw (by-check k base x q (later f (here b)))
+    from m (at-4 f b h) = rw (by-check k base x q (later f (later b (here h))))
+    from m (at-11 f b h r) = rw (all-pass k base x q f b h) (ends k base x q r)
 
 -- ---- the cap report
 with-report : (v : ValueVector) (t : ℕ) (r : Sides) (need : Float) (b s : ℕ) → withVector v t r .answer ≡ Answer.OverCap need b s → _≡_ {A = ℕ} 0 1
@@ -140,18 +161,16 @@ reported bound k base q (overCap n l) need b s i =
 reported bound k base q (failed t) need b s i = let z : _≡_ {A = ℕ} 0 1 = cc in absurd (omega arith)
 
 pub float-reports : FloatReports
-unfolding floatEntry entryIf answerBy refusedEntry
-float-reports k alpha beta eta base bound tau q need b s = (to (floatsOk k alpha beta eta base tau) (boundOk bound) (within bound q) refl refl refl, from)
+unfolding floatEntry entryOver entryIf answerBy refusedEntry
+float-reports k base x q need b s = (to (firstFailing (entryChecks k base x q)) refl, from)
   where
-    to : (f c h : Bool) → floatsOk k alpha beta eta base tau ≡ f → boundOk bound ≡ c → within bound q ≡ h → entryIf f c h k alpha beta eta base bound tau q .answer ≡ Answer.OverCap need b s
-        → FloatReported k alpha beta eta base bound tau q need b s
-    to false c h ef ec eh e = let z : _≡_ {A = ℕ} 0 1 = cc in absurd (omega arith)
-    to true false h ef ec eh e = let z : _≡_ {A = ℕ} 0 1 = cc in absurd (omega arith)
-    to true true false ef ec eh e = let z : _≡_ {A = ℕ} 0 1 = cc in absurd (omega arith)
-    to true true true ef ec eh e =
-        let r = reported bound k base q (run bound alpha beta eta tau) need b s e in
-        let c = cap-reports bound alpha beta eta tau need b .0 (r .0) in
-        record { floats = ef; bound-ok = ec; held = eh; time = c .0; report = c .1; steps = r .1 }
+    to : (v : Verdict) → firstFailing (entryChecks k base x q) ≡ v → entryIf v (answerBy (x .bound) k base q (run x)) .answer ≡ Answer.OverCap need b s → FloatReported k base x q need b s
+    to passes t e =
+        let p = passed k base x q t in
+        let r = reported (x .bound) k base q (run x) need b s e in
+        let c = cap-reports x need b .0 (r .0) in
+        record { floats = p .floats; bound-ok = p .bound-ok; held = p .held; time = c .0; report = c .1; steps = r .1 }
+    to (refused n) t e = let z : _≡_ {A = ℕ} 0 1 = cc in absurd (omega arith)
 
-    from : FloatReported k alpha beta eta base bound tau q need b s → entryIf (floatsOk k alpha beta eta base tau) (boundOk bound) (within bound q) k alpha beta eta base bound tau q .answer ≡ Answer.OverCap need b s
-    from r = rw (r .floats, r .bound-ok, r .held, cap-reports bound alpha beta eta tau need b .1 (r .time, r .report), r .steps)
+    from : FloatReported k base x q need b s → entryIf (firstFailing (entryChecks k base x q)) (answerBy (x .bound) k base q (run x)) .answer ≡ Answer.OverCap need b s
+    from r = rw (all-pass k base x q (r .floats) (r .bound-ok) (r .held), cap-reports x need b .1 (r .time, r .report), r .steps)

@@ -1,15 +1,18 @@
 -- Document 01, module 4, its float side: the distances at one holding, from a value vector. Definitions only.
 use Prim.Native.Nat.{ℕ, zero, suc, _/_}
 use mathlib.Core.Bool.{Bool, true, false, _&&_}
-use mathlib.Core.List.{List}
+use mathlib.Core.List.{List, [], _∷_}
 use lib.IntN.{ℤ, pos, natAbs, _+ℤ_}
 use lib.Dec.{ltb, leb, eqb}
 use lib.Ieee.{Float}
 use Rattle.elementary.specs.Float.{_⊕_, _⊖_, _⊘_, finite, positive}
 use Rattle.elementary.specs.Elementary.{LN, outside, orNan}
-use Rattle.vector.specs.Refusals.{configuration, numerical}
+use Rattle.elementary.specs.Checks.{Verdict, passes, refused, firstFailing}
+use Rattle.vector.specs.Refusals.{configuration}
+use Rattle.vector.specs.Refusals.{numerical}
 use Rattle.series.specs.Vectors.{at}
-use Rattle.vector.specs.Run.{boundOk, rows}
+use Rattle.vector.specs.Run.{boundOk}
+use Rattle.series.specs.Series.{rows}
 use Rattle.vector.specs.declared.ValueVector.{ValueVector}
 use Rattle.distances.specs.Refusals.{holding}
 use Rattle.distances.specs.declared.Distance.{Distance}
@@ -61,16 +64,18 @@ exactAt v k base i =
     let a = askAt v k base i in
     sides (fine b && fine a) b a
 
--- The distances at q from a vector: are k and base fine, is the length one of a bound, is q within it.
-unfoldable pub distancesIf : Bool → Bool → Bool → ValueVector → Float → Float → ℤ → Sides
-distancesIf false b h v k base q = Sides.Refused outside
-distancesIf true false h v k base q = Sides.Refused configuration
-distancesIf true true false v k base q = Sides.Refused holding
-distancesIf true true true v k base q = exactAt v k base (place (v .n / 2) q)
-
+-- ---- the distances at q from a vector, by the checks
 -- a length of 2 × bound + 1 for a bound of 1 to 200
 unfoldable pub lengthOk : ℕ → Bool
 lengthOk n = boundOk (n / 2) && eqb n (rows (n / 2))
 
+-- in order: k and base finite and above zero, the length, the holding
+abbrev pub distanceChecks : ValueVector → Float → Float → ℤ → List (Bool × ℕ)
+distanceChecks v k base q = (positive k && positive base, outside) ∷ (lengthOk (v .n), configuration) ∷ (within (v .n / 2) q, holding) ∷ []
+
+unfoldable pub distancesIf : Verdict → Sides → Sides
+distancesIf passes s = s
+distancesIf (refused n) s = Sides.Refused n
+
 unfoldable pub exactDistances : ValueVector → Float → Float → ℤ → Sides
-exactDistances v k base q = distancesIf (positive k && positive base) (lengthOk (v .n)) (within (v .n / 2) q) v k base q
+exactDistances v k base q = distancesIf (firstFailing (distanceChecks v k base q)) (exactAt v k base (place (v .n / 2) q))

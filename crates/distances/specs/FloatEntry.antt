@@ -1,13 +1,18 @@
 -- Document 01, module 4: the float entry, which gives the value vector, the steps spent and the present distances, or the cap report. Definitions only.
 use Prim.Native.Nat.{ℕ, _-_}
-use mathlib.Core.Bool.{Bool, true, false, _&&_}
+use mathlib.Core.Bool.{Bool, _&&_}
+use mathlib.Core.List.{List, [], _∷_}
 use lib.IntN.{ℤ}
 use lib.Ieee.{Float}
-use Rattle.elementary.specs.Float.{finite, positive}
+use Rattle.elementary.specs.Float.{positive}
 use Rattle.elementary.specs.Elementary.{outside}
-use Rattle.vector.specs.Refusals.{configuration, numerical}
-use Rattle.vector.specs.Run.{Ended, vector, overCap, failed, cap, boundOk, rows, run, spent}
-use Rattle.vector.specs.Values.{vectorOf, blankVector}
+use Rattle.elementary.specs.Checks.{Verdict, passes, refused, firstFailing}
+use Rattle.vector.specs.Refusals.{configuration}
+use Rattle.vector.specs.Refusals.{numerical}
+use Rattle.vector.specs.Run.{Ended, vector, overCap, failed, cap, boundOk, run, spent}
+use Rattle.series.specs.Series.{rows}
+use Rattle.vector.specs.Values.{vectorOf, blankVector, ratesOk}
+use Rattle.vector.specs.declared.RunInput.{RunInput}
 use Rattle.vector.specs.declared.ValueVector.{ValueVector}
 use Rattle.distances.specs.Refusals.{holding}
 use Rattle.distances.specs.Distances.{within, place, exactAt}
@@ -32,26 +37,33 @@ answerBy bound k base q (vector w o s) = let v = vectorOf (rows bound) w o in wi
 answerBy bound k base q (overCap need b) = record { answer = Answer.OverCap need b (cap - b); vector = blankVector }
 answerBy bound k base q (failed s) = refusedEntry numerical
 
--- are the floats fine, is the bound, is the holding within it
-unfoldable pub entryIf : Bool → Bool → Bool → Float → Float → Float → Float → Float → ℕ → Float → ℤ → FloatAnswer
-entryIf false b h k alpha beta eta base bound tau q = refusedEntry outside
-entryIf true false h k alpha beta eta base bound tau q = refusedEntry configuration
-entryIf true true false k alpha beta eta base bound tau q = refusedEntry holding
-entryIf true true true k alpha beta eta base bound tau q = answerBy bound k base q (run bound alpha beta eta tau)
+-- ---- the checks
+-- k, base, alpha and eta finite and above zero, beta and tau finite
+unfoldable pub floatsOk : Float → Float → RunInput → Bool
+floatsOk k base x = positive k && positive base && ratesOk x
 
--- k, alpha, eta and base finite and above zero, beta and tau finite
-unfoldable pub floatsOk : Float → Float → Float → Float → Float → Float → Bool
-floatsOk k alpha beta eta base tau = positive k && positive alpha && finite beta && positive eta && positive base && finite tau
+-- in order: the floats, the bound, the holding
+abbrev pub entryChecks : Float → Float → RunInput → ℤ → List (Bool × ℕ)
+entryChecks k base x q = (floatsOk k base x, outside) ∷ (boundOk (x .bound), configuration) ∷ (within (x .bound) q, holding) ∷ []
 
-unfoldable pub floatEntry : Float → Float → Float → Float → Float → ℕ → Float → ℤ → FloatAnswer
-floatEntry k alpha beta eta base bound tau q = entryIf (floatsOk k alpha beta eta base tau) (boundOk bound) (within bound q) k alpha beta eta base bound tau q
+-- ---- the reply, by the checks and a run's end
+unfoldable pub entryIf : Verdict → FloatAnswer → FloatAnswer
+entryIf passes a = a
+entryIf (refused n) a = refusedEntry n
 
--- the finished steps of the run that the entry defines, under a refusal too: none where no run begins
-unfoldable pub stepsIf : Bool → Bool → Bool → Float → Float → Float → ℕ → Float → ℕ
-stepsIf false b h alpha beta eta bound tau = 0
-stepsIf true false h alpha beta eta bound tau = 0
-stepsIf true true false alpha beta eta bound tau = 0
-stepsIf true true true alpha beta eta bound tau = spent (run bound alpha beta eta tau)
+unfoldable pub entryOver : Ended → Float → Float → RunInput → ℤ → FloatAnswer
+entryOver e k base x q = entryIf (firstFailing (entryChecks k base x q)) (answerBy (x .bound) k base q e)
 
-unfoldable pub floatSteps : Float → Float → Float → Float → Float → ℕ → Float → ℤ → ℕ
-floatSteps k alpha beta eta base bound tau q = stepsIf (floatsOk k alpha beta eta base tau) (boundOk bound) (within bound q) alpha beta eta bound tau
+unfoldable pub floatEntry : Float → Float → RunInput → ℤ → FloatAnswer
+floatEntry k base x q = entryOver (run x) k base x q
+
+-- ---- the finished steps of the run that the entry defines, under a refusal too: none where no run begins
+unfoldable pub stepsIf : Verdict → ℕ → ℕ
+stepsIf passes s = s
+stepsIf (refused n) s = 0
+
+unfoldable pub stepsOver : Ended → Float → Float → RunInput → ℤ → ℕ
+stepsOver e k base x q = stepsIf (firstFailing (entryChecks k base x q)) (spent e)
+
+unfoldable pub floatSteps : Float → Float → RunInput → ℤ → ℕ
+floatSteps k base x q = stepsOver (run x) k base x q

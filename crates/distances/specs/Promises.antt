@@ -5,12 +5,14 @@ use mathlib.Core.Bool.{Bool, true, false}
 use mathlib.Core.Logic.{_↔_}
 use lib.IntN.{ℤ, pos, negℤ, natAbs}
 use lib.Dec.{T, ltb}
-use lib.Ieee.{Float, binary64, neg, lt, fits}
+use lib.Ieee.{Float, binary64, lt, fits}
 use Rattle.elementary.specs.Float.{0ᶠ, 1ᶠ}
-use Rattle.series.specs.Vectors.{fill}
-use Rattle.vector.specs.Run.{cap, boundOk, rows}
+use Rattle.series.specs.Vectors.{fill, Mirror}
+use Rattle.vector.specs.Run.{cap, boundOk}
+use Rattle.series.specs.Series.{rows}
 use Rattle.vector.specs.Values.{vectorOf}
-use Rattle.vector.specs.Promises.{Mirror}
+use Rattle.vector.specs.Promises.{turnedInput}
+use Rattle.vector.specs.declared.RunInput.{RunInput}
 use Rattle.vector.specs.declared.ValueVector.{ValueVector}
 use Rattle.vector.specs.declared.VectorAnswer.{VectorAnswer}
 use Rattle.distances.specs.Distances.{place, fine, exactDistances}
@@ -30,8 +32,7 @@ Counted (OverCap need b s) n = (s ≡ n) × (s + b ≡ cap)
 Counted (Refused r) n = Unit {0}
 
 abbrev pub StepsCounted : Type 0
-StepsCounted = (k alpha beta eta base : Float) (bound : ℕ) (tau : Float) (q : ℤ)
-    → Counted (floatEntry k alpha beta eta base bound tau q .answer) (floatSteps k alpha beta eta base bound tau q) × (floatSteps k alpha beta eta base bound tau q ≤ cap)
+StepsCounted = (k base : Float) (x : RunInput) (q : ℤ) → Counted (floatEntry k base x q .answer) (floatSteps k base x q) × (floatSteps k base x q ≤ cap)
 
 -- ---- at or past the end: weights of 1.0, offsets of 0.0, no step, and each present distance is the base
 unfoldable pub baseBid : Bool → Float → Distance
@@ -39,12 +40,12 @@ baseBid true base = At base
 baseBid false base = Absent
 
 abbrev pub AtTheEnd : Type 0
-AtTheEnd = (k alpha beta eta base : Float) (bound : ℕ) (tau : Float) (q : ℤ) → T (fits binary64 base)
-    → floatsOk k alpha beta eta base tau ≡ true → boundOk bound ≡ true → natAbs q ≤ bound → lt 0ᶠ tau ≡ false
-    → floatEntry k alpha beta eta base bound tau q
+AtTheEnd = (k base : Float) (x : RunInput) (q : ℤ) → T (fits binary64 base)
+    → floatsOk k base x ≡ true → boundOk (x .bound) ≡ true → natAbs q ≤ x .bound → lt 0ᶠ (x .tau) ≡ false
+    → floatEntry k base x q
     ≡ record {
-      answer = Distances (baseBid (ltb (suc (place bound q)) (rows bound)) base) (baseBid (ltb 0 (place bound q)) base) 0;
-      vector = vectorOf (rows bound) (fill (rows bound) 1ᶠ) (fill (rows bound) 0ᶠ);
+      answer = Distances (baseBid (ltb (suc (place (x .bound) q)) (rows (x .bound))) base) (baseBid (ltb 0 (place (x .bound) q)) base) 0;
+      vector = vectorOf (rows (x .bound)) (fill (rows (x .bound)) 1ᶠ) (fill (rows (x .bound)) 0ᶠ);
     }
 
 -- ---- the mirror: the sides exchanged, refusals and reports as they are
@@ -61,26 +62,25 @@ exchanged (Refused r) = Refused r
 abbrev pub MirrorVector : ValueVector → ValueVector → Type 0
 MirrorVector v v′ = (v .n ≡ v′ .n) × Mirror (v .n) (v .w) (v′ .w) × Mirror (v .n) (v .«log_offset») (v′ .«log_offset»)
 
--- the float entry at minus q and minus beta is that at q and beta with the sides exchanged, bit for bit, reports and refusals equal
+-- the float entry at minus q and the drift turned is that at q with the sides exchanged, bit for bit, reports and refusals equal
 abbrev pub FloatMirror : Type 0
-FloatMirror = (k alpha beta eta base : Float) (bound : ℕ) (tau : Float) (q : ℤ)
-    → (floatEntry k alpha (neg beta) eta base bound tau (negℤ q) .answer ≡ exchanged (floatEntry k alpha beta eta base bound tau q .answer))
-    × MirrorVector (floatEntry k alpha (neg beta) eta base bound tau (negℤ q) .vector) (floatEntry k alpha beta eta base bound tau q .vector)
-    × (floatSteps k alpha (neg beta) eta base bound tau (negℤ q) ≡ floatSteps k alpha beta eta base bound tau q)
+FloatMirror = (k base : Float) (x : RunInput) (q : ℤ)
+    → (floatEntry k base (turnedInput x) (negℤ q) .answer ≡ exchanged (floatEntry k base x q .answer))
+    × MirrorVector (floatEntry k base (turnedInput x) (negℤ q) .vector) (floatEntry k base x q .vector)
+    × (floatSteps k base (turnedInput x) (negℤ q) ≡ floatSteps k base x q)
 
 -- ---- presence: no bid just at the bound, no ask just at minus the bound
 abbrev pub Withheld : ℕ → ℤ → Distance → Distance → Type 0
 Withheld bound q b a = ((b ≡ Absent) ↔ (q ≡ pos bound)) × ((a ≡ Absent) ↔ (q ≡ negℤ (pos bound)))
 
 abbrev pub FloatPresence : Type 0
-FloatPresence = (k alpha beta eta base : Float) (bound : ℕ) (tau : Float) (q : ℤ) (b a : Distance) (s : ℕ)
-    → floatEntry k alpha beta eta base bound tau q .answer ≡ Distances b a s → Withheld bound q b a
+FloatPresence = (k base : Float) (x : RunInput) (q : ℤ) (b a : Distance) (s : ℕ) → floatEntry k base x q .answer ≡ Distances b a s → Withheld (x .bound) q b a
 
 -- ---- a distance that is answered is finite: by the float entry, from what `value_vector` answered, and from a vector
 abbrev pub Finite : Distance → Distance → Type 0
 Finite b a = (fine b ≡ true) × (fine a ≡ true)
 
 pub record FiniteDistances : Type 0 where
-  pub entry : (k alpha beta eta base : Float) (bound : ℕ) (tau : Float) (q : ℤ) (b a : Distance) (s : ℕ) → floatEntry k alpha beta eta base bound tau q .answer ≡ Distances b a s → Finite b a
+  pub entry : (k base : Float) (x : RunInput) (q : ℤ) (b a : Distance) (s : ℕ) → floatEntry k base x q .answer ≡ Distances b a s → Finite b a
   pub answer : (v : VectorAnswer) (k base : Float) (q : ℤ) (b a : Distance) (s : ℕ) → answerFrom v k base q ≡ Distances b a s → Finite b a
   pub vector : (v : ValueVector) (k base : Float) (q : ℤ) (b a : Distance) → exactDistances v k base q ≡ Sides.Distances b a → Finite b a

@@ -7,6 +7,7 @@ use lib.IntN.{ℤ}
 use lib.Ieee.{Float}
 use Rattle.vector.specs.Run.{boundOk}
 use Rattle.vector.specs.Values.{valueVector}
+use Rattle.vector.specs.declared.RunInput.{RunInput}
 use Rattle.vector.specs.declared.ValueVector.{ValueVector}
 use Rattle.vector.specs.declared.Outcome.{Outcome}
 use Rattle.vector.specs.declared.Outcome.the-variants as Outcome
@@ -35,8 +36,8 @@ answerFrom a k base q = readBy (a .outcome) (a .vector) k base q
 -- ==== statements
 -- where its numbers pass the checks, the float entry's answer is read from the value vector of its floats
 abbrev pub EntryReads : Type 0
-EntryReads = (k alpha beta eta base : Float) (bound : ℕ) (tau : Float) (q : ℤ) → floatsOk k alpha beta eta base tau ≡ true → boundOk bound ≡ true → within bound q ≡ true
-    → floatEntry k alpha beta eta base bound tau q .answer ≡ answerFrom (valueVector alpha beta eta bound tau) k base q
+EntryReads = (k base : Float) (x : RunInput) (q : ℤ) → floatsOk k base x ≡ true → boundOk (x .bound) ≡ true → within (x .bound) q ≡ true
+    → floatEntry k base x q .answer ≡ answerFrom (valueVector x) k base q
 
 -- an answer from a vector is refused just where that refusal is there in the vector's place, or where there is a vector and its distances are refused
 abbrev pub ReadRefusals : Type 0

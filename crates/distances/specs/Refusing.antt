@@ -8,10 +8,13 @@ use lib.IntN.{ℤ}
 use lib.Ieee.{Float, lt}
 use Rattle.elementary.specs.Float.{0ᶠ, positive}
 use Rattle.elementary.specs.Elementary.{outside}
-use Rattle.vector.specs.Refusals.{configuration, numerical}
-use Rattle.vector.specs.Run.{vector, cap, boundOk, rows, fixed, run}
+use Rattle.vector.specs.Refusals.{configuration}
+use Rattle.vector.specs.Refusals.{numerical}
+use Rattle.vector.specs.Run.{vector, cap, boundOk, fixed, run}
+use Rattle.series.specs.Series.{rows}
 use Rattle.vector.specs.Values.{vectorOf}
 use Rattle.vector.specs.Causes.{RunFails, CapReported}
+use Rattle.vector.specs.declared.RunInput.{RunInput}
 use Rattle.vector.specs.declared.ValueVector.{ValueVector}
 use Rattle.distances.specs.Refusals.{holding}
 use Rattle.distances.specs.Distances.{within, place, lengthOk, exactAt, exactDistances}
@@ -40,31 +43,28 @@ DistancesRefusals = (v : ValueVector) (k base : Float) (q : ℤ) (n : ℕ) → (
 
 -- ---- the float entry
 -- why a call that passes the checks fails: its run does, or a read of the vector that it gives
-pub data EntryFails (k alpha beta eta base : Float) (bound : ℕ) (tau : Float) (q : ℤ) : Type 0 where
-  by-run : {s : ℕ} → lt 0ᶠ tau ≡ true → RunFails (fixed bound alpha beta eta) tau s → EntryFails k alpha beta eta base bound tau q
-  by-read : {w o : List Float} {s : ℕ} → run bound alpha beta eta tau ≡ vector w o s → ReadFails (vectorOf (rows bound) w o) k base (place bound q) → EntryFails k alpha beta eta base bound tau q
+pub data EntryFails (k base : Float) (x : RunInput) (q : ℤ) : Type 0 where
+  by-run : {s : ℕ} → lt 0ᶠ (x .tau) ≡ true → RunFails (fixed x) (x .tau) s → EntryFails k base x q
+  by-read : {w o : List Float} {s : ℕ} → run x ≡ vector w o s → ReadFails (vectorOf (rows (x .bound)) w o) k base (place (x .bound) q) → EntryFails k base x q
 
 -- in order: the floats, the bound, the holding, and a call that fails
-pub data FloatRefused (k alpha beta eta base : Float) (bound : ℕ) (tau : Float) (q : ℤ) : ℕ → Type 0 where
-  at-5 : floatsOk k alpha beta eta base tau ≡ false → FloatRefused k alpha beta eta base bound tau q outside
-  at-1 : floatsOk k alpha beta eta base tau ≡ true → boundOk bound ≡ false → FloatRefused k alpha beta eta base bound tau q configuration
-  at-4 : floatsOk k alpha beta eta base tau ≡ true → boundOk bound ≡ true → within bound q ≡ false → FloatRefused k alpha beta eta base bound tau q holding
-  at-11 : floatsOk k alpha beta eta base tau ≡ true → boundOk bound ≡ true → within bound q ≡ true → EntryFails k alpha beta eta base bound tau q
-      → FloatRefused k alpha beta eta base bound tau q numerical
+pub data FloatRefused (k base : Float) (x : RunInput) (q : ℤ) : ℕ → Type 0 where
+  at-5 : floatsOk k base x ≡ false → FloatRefused k base x q outside
+  at-1 : floatsOk k base x ≡ true → boundOk (x .bound) ≡ false → FloatRefused k base x q configuration
+  at-4 : floatsOk k base x ≡ true → boundOk (x .bound) ≡ true → within (x .bound) q ≡ false → FloatRefused k base x q holding
+  at-11 : floatsOk k base x ≡ true → boundOk (x .bound) ≡ true → within (x .bound) q ≡ true → EntryFails k base x q → FloatRefused k base x q numerical
 
 abbrev pub FloatRefusals : Type 0
-FloatRefusals = (k alpha beta eta base : Float) (bound : ℕ) (tau : Float) (q : ℤ) (n : ℕ)
-    → (floatEntry k alpha beta eta base bound tau q .answer ≡ Answer.Refused n) ↔ FloatRefused k alpha beta eta base bound tau q n
+FloatRefusals = (k base : Float) (x : RunInput) (q : ℤ) (n : ℕ) → (floatEntry k base x q .answer ≡ Answer.Refused n) ↔ FloatRefused k base x q n
 
 -- ---- the cap report, where the checks pass: a plan of the run needs more steps than the budget left; with it come the steps spent
-pub record FloatReported (k alpha beta eta base : Float) (bound : ℕ) (tau : Float) (q : ℤ) (need : Float) (b s : ℕ) : Type 0 where
-  pub floats : floatsOk k alpha beta eta base tau ≡ true
-  pub bound-ok : boundOk bound ≡ true
-  pub held : within bound q ≡ true
-  pub time : lt 0ᶠ tau ≡ true
-  pub report : CapReported (fixed bound alpha beta eta) tau need b
+pub record FloatReported (k base : Float) (x : RunInput) (q : ℤ) (need : Float) (b s : ℕ) : Type 0 where
+  pub floats : floatsOk k base x ≡ true
+  pub bound-ok : boundOk (x .bound) ≡ true
+  pub held : within (x .bound) q ≡ true
+  pub time : lt 0ᶠ (x .tau) ≡ true
+  pub report : CapReported (fixed x) (x .tau) need b
   pub steps : s ≡ cap - b
 
 abbrev pub FloatReports : Type 0
-FloatReports = (k alpha beta eta base : Float) (bound : ℕ) (tau : Float) (q : ℤ) (need : Float) (b s : ℕ)
-    → (floatEntry k alpha beta eta base bound tau q .answer ≡ Answer.OverCap need b s) ↔ FloatReported k alpha beta eta base bound tau q need b s
+FloatReports = (k base : Float) (x : RunInput) (q : ℤ) (need : Float) (b s : ℕ) → (floatEntry k base x q .answer ≡ Answer.OverCap need b s) ↔ FloatReported k base x q need b s

@@ -4,31 +4,34 @@ ghost use mathlib.Core.Bool.{true};
 ghost use Prim.Native.Nat.{_≤_};
 ghost use lib.IntN.{natAbs};
 ghost use Rattle.vector.specs.Run.{boundOk, run};
-ghost use Rattle.distances.specs.FloatEntry.{refusedEntry, withVector, answerBy, floatsOk};
+ghost use Rattle.elementary.specs.Checks.{firstFailing, checkOf};
+ghost use Rattle.distances.specs.FloatEntry.{refusedEntry, withVector, answerBy, floatsOk, entryChecks};
 use crate::Answer;
 use crate::FloatAnswer;
 use crate::Sides;
-use vector::MAX_INVENTORY_LOTS;
+use crate::refusals::HOLDING;
+use elementary::Check;
 use vector::Outcome;
+use vector::RunInput;
 use vector::ValueVector;
 
-// Whether k, alpha, eta and base are finite and above zero, and beta and tau are finite.
-pub(crate) fn floats_fit(k: f64, alpha: f64, beta: f64, eta: f64, base: f64, tau: f64) -> bool
-    ensures { λ r. ⌜ r ≡ floatsOk k alpha beta eta base tau ⌝ }
+// Whether the numbers of a call pass: refused by 5, then 1, then 4.
+pub(crate) fn check_entry(k: f64, base: f64, input: RunInput, q: i64) -> Check
+    ensures { λ r. ⌜ r ≡ checkOf (firstFailing (entryChecks k base input q)) ⌝ }
 {
-    elementary::is_positive_finite(k)
-        & elementary::is_positive_finite(alpha)
-        & elementary::is_finite(beta)
-        & elementary::is_positive_finite(eta)
-        & elementary::is_positive_finite(base)
-        & elementary::is_finite(tau)
-}
-
-// Whether a bound is 1 to 200.
-pub(crate) fn bound_fits(bound: u32) -> bool
-    ensures { λ r. ⌜ r ≡ boundOk bound ⌝ }
-{
-    (1 <= bound) & (bound <= MAX_INVENTORY_LOTS)
+    if crate::places::scale_fits(k, base) {
+        match vector::check_input(input) {
+            Check::Passes => {}
+            Check::Refused(number) => {
+                return Check::Refused(number);
+            }
+        }
+        if crate::within(q, input.bound) {
+            return Check::Passes;
+        }
+        return Check::Refused(HOLDING);
+    }
+    Check::Refused(elementary::OUTSIDE)
 }
 
 // A refusal, by its number, with the blank vector.
@@ -57,25 +60,16 @@ fn with_vector(vector: ValueVector, steps: u32, sides: Sides) -> FloatAnswer
 }
 
 // The answer where the numbers pass the checks.
-pub(crate) fn entry_within(
-    k: f64,
-    alpha: f64,
-    beta: f64,
-    eta: f64,
-    base: f64,
-    bound: u32,
-    tau: f64,
-    q: i64,
-) -> FloatAnswer
-    requires { ⌜ (floatsOk k alpha beta eta base tau ≡ true) × (boundOk bound ≡ true) × (natAbs q ≤ bound) ⌝ }
-    ensures { λ r. ⌜ r ≡ answerBy bound k base q (run bound alpha beta eta tau) ⌝ }
+pub(crate) fn entry_within(k: f64, base: f64, input: RunInput, q: i64) -> FloatAnswer
+    requires { ⌜ (floatsOk k base input ≡ true) × (boundOk (input .bound) ≡ true) × (natAbs q ≤ input .bound) ⌝ }
+    ensures { λ r. ⌜ r ≡ answerBy (input .bound) k base q (run input) ⌝ }
 {
-    let a = vector::value_vector(alpha, beta, eta, bound, tau);
+    let a = vector::value_vector(input);
     let outcome = a.outcome;
     let vector = a.vector;
     match outcome {
         Outcome::Done(steps) => {
-            let place = crate::places::place_of(q, bound);
+            let place = crate::places::place_of(q, input.bound);
             with_vector(
                 vector,
                 steps,

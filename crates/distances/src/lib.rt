@@ -11,9 +11,10 @@ ghost use mathlib.Core.Path.{_≡_};
 ghost use Rattle.distances.specs.Distances.{within, fine, exactDistances};
 ghost use Rattle.distances.specs.FloatEntry.{floatEntry};
 ghost use Rattle.distances.specs.Count.{stepCount};
+use elementary::Check;
 use vector::FirstPlan;
+use vector::RunInput;
 use vector::ValueVector;
-use vector::refusals::CONFIGURATION;
 
 // A side's distance from the mid; at the bound one side is withheld.
 pub enum Distance {
@@ -68,52 +69,25 @@ pub fn exact_distances(vector: ValueVector, k: f64, base: f64, q: i64) -> Sides
 
 // The float entry: the value vector, the steps spent and the distances at q lots, or the cap report.
 // Refused by 5, then 1, then 4, then 11.
-pub fn float_entry(
-    k: f64,
-    alpha: f64,
-    beta: f64,
-    eta: f64,
-    base: f64,
-    bound: u32,
-    tau: f64,
-    q: i64,
-) -> FloatAnswer
-    ensures { λ r. ⌜ r ≡ floatEntry k alpha beta eta base bound tau q ⌝ }
+pub fn float_entry(k: f64, base: f64, input: RunInput, q: i64) -> FloatAnswer
+    ensures { λ r. ⌜ r ≡ floatEntry k base input q ⌝ }
 {
-    if entry::floats_fit(k, alpha, beta, eta, base, tau) {
-        if entry::bound_fits(bound) {
-            if within(q, bound) {
-                return entry::entry_within(k, alpha, beta, eta, base, bound, tau, q);
-            }
-            return entry::refused_entry(refusals::HOLDING);
+    match entry::check_entry(k, base, input, q) {
+        Check::Passes => {}
+        Check::Refused(number) => {
+            return entry::refused_entry(number);
         }
-        return entry::refused_entry(CONFIGURATION);
     }
-    entry::refused_entry(elementary::OUTSIDE)
+    entry::entry_within(k, base, input, q)
 }
 
 // The steps of the first plan of the float entry's run, before anything runs; 0 where no time is left.
 // Refused by 5, then 1, then 4, as the float entry is, then 11.
-pub fn step_count(
-    k: f64,
-    alpha: f64,
-    beta: f64,
-    eta: f64,
-    base: f64,
-    bound: u32,
-    tau: f64,
-    q: i64,
-) -> FirstPlan
-    ensures { λ r. ⌜ r ≡ stepCount k alpha beta eta base bound tau q ⌝ }
+pub fn step_count(k: f64, base: f64, input: RunInput, q: i64) -> FirstPlan
+    ensures { λ r. ⌜ r ≡ stepCount k base input q ⌝ }
 {
-    if entry::floats_fit(k, alpha, beta, eta, base, tau) {
-        if entry::bound_fits(bound) {
-            if within(q, bound) {
-                return vector::first_plan(alpha, beta, eta, bound, tau);
-            }
-            return FirstPlan::Refused(refusals::HOLDING);
-        }
-        return FirstPlan::Refused(CONFIGURATION);
+    match entry::check_entry(k, base, input, q) {
+        Check::Passes => vector::first_plan(input),
+        Check::Refused(number) => FirstPlan::Refused(number),
     }
-    FirstPlan::Refused(elementary::OUTSIDE)
 }

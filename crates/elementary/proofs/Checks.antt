@@ -3,8 +3,9 @@ use mathlib.Core.Path.{_≡_, refl}
 use Prim.Native.Nat.{ℕ}
 use native.Mathlib.Omega.{arith}
 use mathlib.Core.Bool.{Bool, true, false}
-use mathlib.Core.List.{List, [], _∷_, _++_}
-use Rattle.elementary.specs.Checks.{passes, refused, verdict, firstOf, firstFailing, Refuses, here, later, FirstFailing, Passes, none, each, NoneFailing, FailingJoined}
+use mathlib.Core.List.{List, [], _∷_}
+use Rattle.elementary.specs.Checks.{Verdict, passes, refused, verdict, firstOf, firstFailing, checkOf, Refuses, here, later, FirstFailing, Passes, none, each, NoneFailing, FailingJoined}
+use Rattle.elementary.specs.declared.Check.the-variants as Check
 
 fails : (l : List (Bool × ℕ)) (n : ℕ) → firstFailing l ≡ refused n → Refuses l n
 unfolding firstFailing firstOf verdict
@@ -39,3 +40,14 @@ unfolding firstFailing firstOf verdict
 failing-joined [] r = refl
 failing-joined ((true, n) ∷ l) r = failing-joined l r
 failing-joined ((false, n) ∷ l) r = refl
+
+-- ---- as the code says it
+pub check-passes : (v : Verdict) → Check.Passes ≡ checkOf v → v ≡ passes
+unfolding checkOf
+check-passes passes e = refl
+check-passes (refused n) e = let z : _≡_ {A = ℕ} 0 1 = cc in absurd (omega arith)
+
+pub check-refused : (v : Verdict) (n : ℕ) → Check.Refused n ≡ checkOf v → v ≡ refused n
+unfolding checkOf
+check-refused passes n e = let z : _≡_ {A = ℕ} 0 1 = cc in absurd (omega arith)
+check-refused (refused m) n e = cc

@@ -4,6 +4,8 @@ use mathlib.Core.Logic.{_↔_}
 use Prim.Native.Nat.{ℕ}
 use mathlib.Core.Bool.{Bool, true, false}
 use mathlib.Core.List.{List, [], _∷_, _++_}
+use Rattle.elementary.specs.declared.Check.{Check}
+use Rattle.elementary.specs.declared.Check.the-variants as Check
 
 pub data Verdict : Type 0 where
   passes : Verdict
@@ -23,6 +25,11 @@ firstOf (refused n) v = refused n
 unfoldable pub firstFailing : List (Bool × ℕ) → Verdict
 firstFailing [] = passes
 firstFailing (c ∷ l) = firstOf (verdict c) (firstFailing l)
+
+-- as the code says it
+unfoldable pub checkOf : Verdict → Check
+checkOf passes = Check.Passes
+checkOf (refused n) = Check.Refused n
 
 -- ==== statements
 -- a check with this number fails, and all before it pass

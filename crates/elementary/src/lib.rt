@@ -14,6 +14,12 @@ ghost use Rattle.elementary.specs.Elementary.{told, orNan, LN, LN1P, EXP
 // The number of `Real::Refused`, which the layers above answer by.
 pub const OUTSIDE: u8 = 5;
 
+// Whether the numbers of a call pass its checks, or the number that refuses them.
+pub enum Check {
+    Passes,
+    Refused(u8),
+}
+
 // The answer of an elementary function. `Refused` is refusal 5: the argument is outside its domain.
 pub enum Real {
     Value(f64),

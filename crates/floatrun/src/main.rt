@@ -20,6 +20,7 @@ use harness::put_number;
 use harness::put_refusal;
 use harness::read_block;
 use vector::MAX_DIM;
+use vector::RunInput;
 use vector::ValueVector;
 
 // The bytes read at once: 1,024 records.
@@ -82,7 +83,14 @@ fn put_answer(out: &mut [u8], start: usize, answer: Answer, v: ValueVector) -> u
 // The answer to the record at a place.
 fn answer_at(s: &[u8], at: usize) -> FloatAnswer {
     let e = entry_at(s, at);
-    float_entry(e.k, e.alpha, e.beta, e.eta, e.base, e.bound, e.tau, e.q)
+    let input = RunInput {
+        alpha: e.alpha,
+        beta: e.beta,
+        eta: e.eta,
+        bound: e.bound,
+        tau: e.tau,
+    };
+    float_entry(e.k, e.base, input, e.q)
 }
 
 // The line of the record at a place.

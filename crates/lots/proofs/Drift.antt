@@ -5,23 +5,21 @@ use lib.IntN.{ℤ, pos}
 use lib.Ieee.{Float}
 use Rattle.elementary.specs.Elementary.{outside}
 use Rattle.vector.specs.Values.{refusedVector}
-use Rattle.vector.specs.Drift.{valueVectorBefore}
 use Rattle.vector.specs.declared.VectorAnswer.{VectorAnswer}
 use Rattle.vector.proofs.Drift.{drift-zero as vector-zero}
 use Rattle.amounts.specs.Amounts.{tauOf}
-use Rattle.model.specs.Model.{modelOf, modelOk}
-use Rattle.lots.specs.Reckoning.{reckonIf, reckoning}
-use Rattle.lots.specs.Drift.{reckoningBefore}
-use Rattle.model.specs.declared.GLFTConfig.{GLFTConfig}
+use Rattle.model.specs.Model.{modelOf, modelOk, inputOf}
 use Rattle.lots.specs.Reckoning.{reckonIf, reckoning}
 use Rattle.lots.specs.Drift.{reckoningBefore, DriftZero}
+use Rattle.model.specs.declared.GLFTConfig.{GLFTConfig}
 use Rattle.quote.proofs.Drift.{beta-zero, model-ok-same}
+use Rattle.vector.specs.Drift.{driftlessVector}
 
 -- the vector, where the model passed
 vector-same : (c : GLFTConfig) → c .drift ≡ pos 0 → (vol : ℤ) → let m = modelOf c vol in (tau : Float) (f : Bool) → modelOk m ≡ f
-    → reckonIf f m tau ≡ cond f (valueVectorBefore (m .alpha) (m .eta) (m .«q_max») tau) (refusedVector outside)
+    → reckonIf f m tau ≡ cond f (driftlessVector (m .alpha) (m .eta) (m .«q_max») tau) (refusedVector outside)
 unfolding reckonIf
-vector-same c e vol tau true f = let m = modelOf c vol in vector-zero .vectors (m .alpha) (m .beta) (m .eta) (m .«q_max») tau (beta-zero c e vol f)
+vector-same c e vol tau true f = let m = modelOf c vol in vector-zero .vectors (inputOf m tau) (beta-zero c e vol f)
 vector-same c e vol tau false f = refl
 
 pub drift-zero : DriftZero

@@ -17,7 +17,7 @@ use Rattle.distances.specs.Reading.{readBy, answerFrom}
 use Rattle.distances.proofs.Reading.{entry-reads}
 use Rattle.amounts.specs.Amounts.{amountOk, above0, timeOk, tauOf}
 use Rattle.model.specs.Configuration.{configLimits, configOk}
-use Rattle.model.specs.Model.{lots, holdingOk, marketOk, modelOf, modelOk, modelIf, modelLimits, modelFrom, modelBy, newModel, checkIf, checkCall}
+use Rattle.model.specs.Model.{lots, holdingOk, marketOk, modelOf, modelOk, modelIf, modelLimits, modelFrom, modelBy, newModel, checkIf, checkCall, inputOf}
 use Rattle.quote.specs.Quotes.{exactFrom, exactIf, exactAnswer, exactBy, exactQuotes, fromIf, quotesByAnswer}
 use Rattle.lots.specs.Reckoning.{reckonIf, reckoning, quotesFrom, holdingOf, lotsIf, quotesOfLots, FromVector, LotsAreSingle}
 use Rattle.model.specs.declared.GLFTConfig.{GLFTConfig}
@@ -82,7 +82,7 @@ module _ (mid h : ℤ) (c : GLFTConfig) (vol : ℤ) (t : ℕ) where
 
   -- what the statement says of a model
   Read : ModelAnswer → Type 0
-  Read (ModelAnswer.Model m q) = answerFrom (valueVector (m .alpha) (m .beta) (m .eta) (m .«q_max») tau) (m .k) (m .base) q ≡ floatEntry (m .k) (m .alpha) (m .beta) (m .eta) (m .base) (m .«q_max») tau q .answer
+  Read (ModelAnswer.Model m q) = answerFrom (valueVector (inputOf m tau)) (m .k) (m .base) q ≡ floatEntry (m .k) (m .base) (inputOf m tau) q .answer
   Read (ModelAnswer.Refused r) = Unit {0}
 
   model-read : {a : ModelAnswer} → timeOk t ≡ true → Outcome (modelLimits mid h c vol) (configOk c) true (marketOk mid vol) (holdingOk h c) (modelOk (modelOf c vol)) (modelOf c vol) (lots h c) a → Read a
@@ -90,7 +90,7 @@ module _ (mid h : ℤ) (c : GLFTConfig) (vol : ℤ) (t : ℕ) where
   model-read e (stopped k) = tt
   model-read e (passed l v d k g f) =
       let m = modelOf c vol in
-      sym (entry-reads (m .k) (m .alpha) (m .beta) (m .eta) (m .base) (m .«q_max») tau (lots h c)
+      sym (entry-reads (m .k) (m .base) (inputOf m tau) (lots h c)
       (floats-passed m tau f (tau-passed mid h c vol t (rw (e, l)))) (bound-passed c v) (lots-passed h c g))
 
 pub from-vector : FromVector

@@ -20,7 +20,7 @@ use Rattle.amounts.specs.Refusals.{limits}
 use Rattle.model.specs.Refusals.{market}
 use Rattle.amounts.specs.Amounts.{amountOk, above0, timeOk, tauOf}
 use Rattle.model.specs.Configuration.{turned}
-use Rattle.model.specs.Model.{modelOf, modelOk, newModel, checkCall}
+use Rattle.model.specs.Model.{modelOf, modelOk, inputOf, newModel, checkCall}
 use Rattle.quote.specs.Quotes.{exactAnswer, exactQuotes, quotesByAnswer}
 use Rattle.prices.specs.Facing.{Pair}
 use Rattle.quote.specs.Promises.{PricedOf}
@@ -37,7 +37,7 @@ use Rattle.lots.specs.declared.Reckoning.{Reckoning}
 -- ---- the reckoning: the model's k and base, and its value vector; 5 in the vector's place where a float of the model is not fine
 unfoldable pub reckonIf : Bool → Model → Float → VectorAnswer
 reckonIf false m tau = refusedVector outside
-reckonIf true m tau = valueVector (m .alpha) (m .beta) (m .eta) (m .«q_max») tau
+reckonIf true m tau = valueVector (inputOf m tau)
 
 unfoldable pub reckoning : GLFTConfig → ℤ → ℕ → Reckoning
 reckoning c vol t = let m = modelOf c vol in record { k = m .k; base = m .base; vector = reckonIf (modelOk m) m (tauOf (c .«terminal_time») t) }
@@ -66,7 +66,7 @@ lentReckoning k base e n w o = record { k = k; base = base; vector = record { ou
 -- where a call's model is made, the quotes from its value vector are those of `exact_quotes`
 abbrev pub FromVector : Type 0
 FromVector = (mid h : ℤ) (c : GLFTConfig) (vol : ℤ) (t : ℕ) (m : Model) (q : ℤ) → timeOk t ≡ true → newModel mid h c vol ≡ ModelAnswer.Model m q
-    → quotesFrom mid (c .«min_spread») (m .k) (m .base) q (valueVector (m .alpha) (m .beta) (m .eta) (m .«q_max») (tauOf (c .«terminal_time») t)) ≡ exactQuotes mid h c vol t
+    → quotesFrom mid (c .«min_spread») (m .k) (m .base) q (valueVector (inputOf m (tauOf (c .«terminal_time») t))) ≡ exactQuotes mid h c vol t
 
 -- where a call's numbers pass, the quotes of so many lots, within the bound, from its reckoning are those of `exact_quotes` at their holding
 abbrev pub LotsAreSingle : Type 0

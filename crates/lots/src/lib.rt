@@ -27,7 +27,7 @@ fn vector_of(m: Model, tau: f64) -> VectorAnswer
     ensures { λ r. ⌜ r ≡ reckonIf (modelOk m) m tau ⌝ }
 {
     if model::floats_fit(m) {
-        return vector::value_vector(m.alpha, m.beta, m.eta, m.q_max, tau);
+        return vector::value_vector(model::run_input(m, tau));
     }
     vector::refused_vector(elementary::OUTSIDE)
 }

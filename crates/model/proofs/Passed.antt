@@ -17,10 +17,11 @@ use Rattle.elementary.proofs.Signs.{nonneg}
 use Rattle.elementary.proofs.Exact.{whole-value, div-one-f}
 use Rattle.elementary.proofs.Order.{round-nonneg, div-nonneg, div-number, div-anti, finite-below}
 use Rattle.vector.specs.Run.{largestBound, boundOk}
+use Rattle.vector.specs.Values.{ratesOk}
 use Rattle.distances.specs.FloatEntry.{floatsOk}
 use Rattle.amounts.specs.Amounts.{amountOk, timeLimit, timeOk, above0, tauOf}
 use Rattle.model.specs.Configuration.{configLimits, configOk}
-use Rattle.model.specs.Model.{lots, holdingOk, modelIf, modelOk, modelLimits, marketOk, modelOf, modelWith}
+use Rattle.model.specs.Model.{lots, holdingOk, modelIf, modelOk, modelLimits, marketOk, modelOf, modelWith, inputOf}
 use Rattle.model.specs.Refusing.{Checked, by-2, by-1, by-22, by-3, by-4, by-5}
 use Rattle.model.specs.declared.GLFTConfig.{GLFTConfig}
 use Rattle.model.specs.declared.Model.{Model}
@@ -108,7 +109,7 @@ tau-passed mid h c vol t e =
     is-true (finite (tauOf (c .«terminal_time») t)) (thousandths (c .«terminal_time» - t) (le-trans (sub-le (c .«terminal_time») t) (le-trans (time-passed c limits) (lit≤ tt))))
 
 -- the model's tests, and tau's, without those of gamma, A and sigma²
-fewer : (k g a s x y z t w : Bool) → (k && g && a && s && x && y && z && t) ≡ true → w ≡ true → (k && x && t && y && z && w) ≡ true
+fewer : (k g a s x y z t w : Bool) → (k && g && a && s && x && y && z && t) ≡ true → w ≡ true → (k && z && (x && t && y && w)) ≡ true
 fewer k g a s x y z t w h e =
     let u₀ = and-eq-true-iff (k && g && a && s && x && y && z) t .0 h in
     let u₁ = and-eq-true-iff (k && g && a && s && x && y) z .0 (u₀ .0) in
@@ -117,7 +118,7 @@ fewer k g a s x y z t w h e =
     let u₄ = and-eq-true-iff (k && g && a) s .0 (u₃ .0) in
     let u₅ = and-eq-true-iff (k && g) a .0 (u₄ .0) in
     let u₆ = and-eq-true-iff k g .0 (u₅ .0) in
-    rw (u₆ .0, u₃ .1, u₀ .1, u₂ .1, u₁ .1, e)
+    rw (u₆ .0, u₁ .1, u₃ .1, u₀ .1, u₂ .1, e)
 
 -- k is a number
 first-of : (k g a s x y z t : Bool) → (k && g && a && s && x && y && z && t) ≡ true → k ≡ true
@@ -132,8 +133,8 @@ pub k-passed : (m : Model) → modelOk m ≡ true → T (finite (m .k))
 unfolding modelOk
 k-passed m f = positive-number (m .k) (first-of (positive (m .k)) (positive (m .gamma)) (positive (m .a)) (positive (m .sigma2)) (positive (m .alpha)) (positive (m .eta)) (positive (m .base)) (finite (m .beta)) f)
 
-pub floats-passed : (m : Model) (tau : Float) → modelOk m ≡ true → finite tau ≡ true → floatsOk (m .k) (m .alpha) (m .beta) (m .eta) (m .base) tau ≡ true
-unfolding modelOk floatsOk
+pub floats-passed : (m : Model) (tau : Float) → modelOk m ≡ true → finite tau ≡ true → floatsOk (m .k) (m .base) (inputOf m tau) ≡ true
+unfolding modelOk floatsOk ratesOk
 floats-passed m tau f e = fewer (positive (m .k)) (positive (m .gamma)) (positive (m .a)) (positive (m .sigma2)) (positive (m .alpha)) (positive (m .eta)) (positive (m .base)) (finite (m .beta)) (finite tau) f e
 
 -- ---- what it says that a configuration passes, and that there is a model

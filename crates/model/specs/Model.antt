@@ -9,6 +9,7 @@ use Rattle.elementary.specs.Float.{_⊕_, _⊗_, _⊘_, whole, 1ᶠ, 2ᶠ, fini
 use Rattle.elementary.specs.Elementary.{LN1P, EXP, outside, orNan}
 use Rattle.vector.specs.Refusals.{configuration}
 use Rattle.distances.specs.Refusals.{holding}
+use Rattle.vector.specs.declared.RunInput.{RunInput}
 use Rattle.distances.specs.Distances.{within}
 use Rattle.amounts.specs.Refusals.{limits}
 use Rattle.model.specs.Refusals.{market, drifting}
@@ -66,6 +67,10 @@ modelOf c vol =
 unfoldable pub modelOk : Model → Bool
 modelOk m =
     positive (m .k) && positive (m .gamma) && positive (m .a) && positive (m .sigma2) && positive (m .alpha) && positive (m .eta) && positive (m .base) && finite (m .beta)
+
+-- what a run is made from: a model's floats and bound, and the seconds to the end
+abbrev pub inputOf : Model → Float → RunInput
+inputOf m tau = record { alpha = m .alpha; beta = m .beta; eta = m .eta; bound = m .«q_max»; tau = tau }
 
 -- no drift, or 22 in a closed-form call
 unfoldable pub driftless : GLFTConfig → Bool

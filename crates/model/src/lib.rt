@@ -8,6 +8,7 @@ pub use parameters::driftless_model;
 pub use parameters::floats_fit;
 pub use parameters::limits_fit;
 pub use parameters::model_of;
+pub use parameters::run_input;
 ghost use mathlib.Core.Path.{_≡_};
 ghost use Rattle.model.specs.Configuration.{newConfig};
 ghost use Rattle.model.specs.Model.{newModel, checkCall};

@@ -2,7 +2,7 @@
 ghost use mathlib.Core.Path.{_≡_};
 ghost use lib.Dec.{T};
 ghost use Rattle.amounts.specs.Amounts.{above0};
-ghost use Rattle.model.specs.Model.{lots, holdingOk, modelFrom, modelOf, modelOk, modelLimits, driftlessModel};
+ghost use Rattle.model.specs.Model.{lots, holdingOk, modelFrom, modelOf, modelOk, modelLimits, driftlessModel, inputOf};
 ghost use Rattle.model.specs.Inner.{modelAfter};
 use crate::GLFTConfig;
 use crate::Model;
@@ -11,6 +11,7 @@ use crate::refusals;
 use amounts::amount_fits;
 use amounts::refusals::LIMITS;
 use amounts::to_f64;
+use vector::RunInput;
 
 const SECONDS_PER_YEAR: f64 = 31536000.0;
 
@@ -22,6 +23,19 @@ pub fn limits_fit(mid: i64, inventory: i64, config: GLFTConfig, volatility: i64)
         & amount_fits(inventory)
         & amount_fits(volatility)
         & crate::config::within_limits(config)
+}
+
+// What a run is made from: a model, and the seconds to the end.
+pub fn run_input(m: Model, tau: f64) -> RunInput
+    ensures { λ r. ⌜ r ≡ inputOf m tau ⌝ }
+{
+    RunInput {
+        alpha: m.alpha,
+        beta: m.beta,
+        eta: m.eta,
+        bound: m.q_max,
+        tau,
+    }
 }
 
 // The holding in lots, cut toward zero.

@@ -2,7 +2,7 @@
 use mathlib.Core.Path.{_≡_, refl, sym, ap, subst}
 use Prim.Native.Nat.{ℕ, _+_, _*_, _/_}
 use native.Mathlib.Omega.{arith}
-use mathlib.Core.Bool.{true}
+use mathlib.Core.Bool.{true, and-eq-true-iff}
 use lib.IntN.{ℤ, pos, negsuc, negℤ, _+ℤ_, _-ℤ_, _*ℤ_, +ℤ-comm, +ℤ-assoc, +ℤ-invr, +ℤ-idl, +ℤ-negℤ-cancel, negℤ-+ℤ, negℤ-negℤ}
 use lib.Dec.{T}
 use lib.Ieee.{Float, nan, inf, fin, down}
@@ -11,16 +11,13 @@ use Rattle.distances.specs.Distances.{fine}
 use Rattle.distances.specs.declared.Distance.{Distance}
 use Rattle.distances.specs.declared.Distance.the-variants as Distance
 use Rattle.amounts.specs.Rounding.{billionths, exactly, AtMost}
-use Rattle.prices.specs.Prices.{side, halfUp, widening, bidPrice, askPrice}
-use Rattle.prices.specs.Outward.{OnSide}
+use Rattle.prices.specs.Prices.{side, halfUp, widening, bidPrice, askPrice, widened}
+use Rattle.prices.specs.Outward.{OnSide, BuiltOutside}
 use Rattle.prices.specs.declared.Price.{Price}
 use Rattle.prices.specs.declared.Price.the-variants.{At, Absent}
 use Rattle.amounts.proofs.Differences.{over, under, add-parts, over-times, under-times, le-parts, parts-le}
 use Rattle.amounts.proofs.Least.{rounding-is-right}
-use Rattle.prices.specs.Outward.{BuiltOutside}
-use Rattle.prices.specs.Prices.{widened}
 use Rattle.prices.proofs.Facing.{built-finite, built-is}
-use mathlib.Core.Bool.{and-eq-true-iff}
 
 -- ---- n billionths more
 further : (x : Float) (z : ℤ) (n : ℕ) → AtMost x z → AtMost x (z +ℤ pos n)

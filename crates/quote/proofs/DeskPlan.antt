@@ -10,6 +10,7 @@ use Rattle.elementary.specs.Float.{0ᶠ, positive}
 use Rattle.vector.specs.Refusals.{numerical}
 use Rattle.vector.specs.Run.{boundOk, diagonalFinite, fixed}
 use Rattle.vector.specs.Count.{firstSize, FirstIs, no-time, not-finite, fails, over, kept, FirstGoes}
+use Rattle.vector.specs.declared.RunInput.{RunInput}
 use Rattle.vector.specs.declared.FirstPlan.{FirstPlan}
 use Rattle.vector.specs.declared.FirstPlan.the-variants as FirstPlan
 use Rattle.distances.specs.Distances.{within}
@@ -21,12 +22,12 @@ use Rattle.distances.proofs.Refusing.{never}
 use Rattle.distances.proofs.Count.{step-counts, count-is-first-plan}
 use Rattle.amounts.specs.Amounts.{timeOk, tauOf}
 use Rattle.model.specs.Configuration.{configOk}
-use Rattle.model.specs.Model.{lots, marketOk, holdingOk, modelOk, modelOf, modelFrom, modelBy, modelIf, modelLimits, newModel}
+use Rattle.model.specs.Model.{lots, marketOk, holdingOk, modelOk, modelOf, modelFrom, modelBy, modelIf, modelLimits, newModel, inputOf}
 use Rattle.prices.specs.Prices.{buildQuotes}
+use Rattle.quote.specs.Horizon.{planFrom, deskPlanIf, deskPlan, DeskPlanIsFirst, DeskPlanRefusals}
 use Rattle.prices.specs.declared.QuotesAnswer.{QuotesAnswer}
 use Rattle.prices.specs.declared.QuotesAnswer.the-variants.{Quotes as quoted, Refused as refused}
 use Rattle.quote.specs.Quotes.{exactFrom, exactIf, exactAnswer, withSteps, exactBy, exactQuotes, stepsFrom, stepsIf, exactSteps}
-use Rattle.quote.specs.Horizon.{planFrom, deskPlanIf, deskPlan, DeskPlanIsFirst, DeskPlanRefusals}
 use Rattle.model.specs.declared.GLFTConfig.{GLFTConfig}
 use Rattle.model.specs.declared.Model.{Model}
 use Rattle.model.specs.declared.ModelAnswer.{ModelAnswer}
@@ -55,27 +56,27 @@ module _ (mid h : ℤ) (c : GLFTConfig) (vol : ℤ) (t : ℕ) where
   over-to : (a : ModelAnswer) (need : Float) (b : ℕ) → planFrom a tau ≡ FirstPlan.OverCap need b → exactFrom a tau ≡ Answer.OverCap need b 0
   unfolding planFrom exactFrom
   over-to (ModelAnswer.Refused r) need b e = let z : _≡_ {A = ℕ} 0 1 = cc in absurd (omega arith)
-  over-to (ModelAnswer.Model m q) need b e = count-is-first-plan .over _ _ _ _ _ _ tau q need b .0 e
+  over-to (ModelAnswer.Model m q) need b e = count-is-first-plan .over _ _ (inputOf m tau) q need b .0 e
 
   over-from : (a : ModelAnswer) (need : Float) (b : ℕ) → exactFrom a tau ≡ Answer.OverCap need b 0 → planFrom a tau ≡ FirstPlan.OverCap need b
   unfolding planFrom exactFrom
   over-from (ModelAnswer.Refused r) need b e = let z : _≡_ {A = ℕ} 0 1 = cc in absurd (omega arith)
-  over-from (ModelAnswer.Model m q) need b e = count-is-first-plan .over _ _ _ _ _ _ tau q need b .1 e
+  over-from (ModelAnswer.Model m q) need b e = count-is-first-plan .over _ _ (inputOf m tau) q need b .1 e
 
   refusing : (a : ModelAnswer) (n : ℕ) → planFrom a tau ≡ FirstPlan.Refused n → exactFrom a tau ≡ Answer.Refused n
   unfolding planFrom exactFrom
   refusing (ModelAnswer.Refused r) n e = cc
-  refusing (ModelAnswer.Model m q) n e = count-is-first-plan .refused _ _ _ _ _ _ tau q n e .0
+  refusing (ModelAnswer.Model m q) n e = count-is-first-plan .refused _ _ (inputOf m tau) q n e .0
 
-  going-on : (a : ModelAnswer) (s : ℕ) → planFrom a tau ≡ FirstPlan.Steps (suc s) → (m : Model) × (q : ℤ) × (a ≡ ModelAnswer.Model m q) × FirstGoes (m .«q_max») (m .alpha) (m .beta) (m .eta) tau (suc s)
+  going-on : (a : ModelAnswer) (s : ℕ) → planFrom a tau ≡ FirstPlan.Steps (suc s) → (m : Model) × (q : ℤ) × (a ≡ ModelAnswer.Model m q) × FirstGoes (inputOf m tau) (suc s)
   unfolding planFrom
   going-on (ModelAnswer.Refused r) s e = let z : _≡_ {A = ℕ} 0 1 = cc in absurd (omega arith)
-  going-on (ModelAnswer.Model m q) s e = (m, q, refl, count-is-first-plan .steps _ _ _ _ _ _ tau q s e .0)
+  going-on (ModelAnswer.Model m q) s e = (m, q, refl, count-is-first-plan .steps _ _ (inputOf m tau) q s e .0)
 
   spending : (a : ModelAnswer) → planFrom a tau ≡ FirstPlan.Steps 0 → stepsFrom a tau ≡ 0
   unfolding planFrom stepsFrom
   spending (ModelAnswer.Refused r) e = refl
-  spending (ModelAnswer.Model m q) e = count-is-first-plan .none _ _ _ _ _ _ tau q e .1
+  spending (ModelAnswer.Model m q) e = count-is-first-plan .none _ _ (inputOf m tau) q e .1
 
   -- by the current time, which 2 looks at first
   over-both : (u : Bool) (need : Float) (b : ℕ) → (deskPlanIf u mid h c vol t ≡ FirstPlan.OverCap need b) ↔ (exactBy mid (c .«min_spread») (exactIf u mid h c vol t) ≡ ExactQuotes.OverStepCap need b 0)
@@ -91,7 +92,7 @@ module _ (mid h : ℤ) (c : GLFTConfig) (vol : ℤ) (t : ℕ) where
   refused-by false n e = cc
   refused-by true n e = rw (refusing (newModel mid h c vol) n e)
 
-  steps-by : (u : Bool) (s : ℕ) → deskPlanIf u mid h c vol t ≡ FirstPlan.Steps (suc s) → (m : Model) × (q : ℤ) × (newModel mid h c vol ≡ ModelAnswer.Model m q) × FirstGoes (m .«q_max») (m .alpha) (m .beta) (m .eta) tau (suc s)
+  steps-by : (u : Bool) (s : ℕ) → deskPlanIf u mid h c vol t ≡ FirstPlan.Steps (suc s) → (m : Model) × (q : ℤ) × (newModel mid h c vol ≡ ModelAnswer.Model m q) × FirstGoes (inputOf m tau) (suc s)
   unfolding deskPlanIf tau
   steps-by false s e = let z : _≡_ {A = ℕ} 0 1 = cc in absurd (omega arith)
   steps-by true s e = going-on (newModel mid h c vol) s e
@@ -111,9 +112,9 @@ desk-plan-is-first = record {
 }
 
 -- ---- its refusals
-module _ (k alpha beta eta base : Float) (bound : ℕ) (tau : Float) (q : ℤ) (f : floatsOk k alpha beta eta base tau ≡ true) (b : boundOk bound ≡ true) (w : within bound q ≡ true) where
+module _ (k base : Float) (x : RunInput) (q : ℤ) (f : floatsOk k base x ≡ true) (b : boundOk (x .bound) ≡ true) (w : within (x .bound) q ≡ true) where
   abbrev Fails : Type 0
-  Fails = (lt 0ᶠ tau ≡ true) × ((diagonalFinite (fixed bound alpha beta eta) && positive (firstSize bound alpha beta eta tau)) ≡ false)
+  Fails = (lt 0ᶠ (x .tau) ≡ true) × ((diagonalFinite (fixed x) && positive (firstSize x)) ≡ false)
 
   -- of a count whose checks pass
   abbrev Why : FirstPlan → Type 0
@@ -121,29 +122,29 @@ module _ (k alpha beta eta base : Float) (bound : ℕ) (tau : Float) (q : ℤ) (
   Why (FirstPlan.OverCap need l) = Unit {0}
   Why (FirstPlan.Refused n) = (n ≡ numerical) × Fails
 
-  plan-why : {r : FirstPlan} → FirstIs bound alpha beta eta tau r → Why r
+  plan-why : {r : FirstPlan} → FirstIs x r → Why r
   plan-why (no-time l) = tt
   plan-why (not-finite l d) = (refl, (l, rw d))
   plan-why (fails l d s) = (refl, (l, rw (d, s)))
   plan-why (over l d s h) = tt
   plan-why (kept l d s h) = tt
 
-  count-why : {r : FirstPlan} → CountIs k alpha beta eta base bound tau q r → Why r
+  count-why : {r : FirstPlan} → CountIs k base x q r → Why r
   count-why (at-5 e) = never (sym f ∙ e)
   count-why (at-1 e i) = never (sym b ∙ i)
   count-why (at-4 e i j) = never (sym w ∙ j)
   count-why (counted e i j c) = plan-why c
 
-  failing : lt 0ᶠ tau ≡ true → (d s : Bool) → diagonalFinite (fixed bound alpha beta eta) ≡ d → positive (firstSize bound alpha beta eta tau) ≡ s → (d && s) ≡ false
-      → FirstIs bound alpha beta eta tau (FirstPlan.Refused numerical)
+  failing : lt 0ᶠ (x .tau) ≡ true → (d s : Bool) → diagonalFinite (fixed x) ≡ d → positive (firstSize x) ≡ s → (d && s) ≡ false
+      → FirstIs x (FirstPlan.Refused numerical)
   failing l false s u v e = not-finite l u
   failing l true false u v e = fails l u v
   failing l true true u v e = never e
 
-  count-fails : (n : ℕ) → (stepCount k alpha beta eta base bound tau q ≡ FirstPlan.Refused n) ↔ ((n ≡ numerical) × Fails)
+  count-fails : (n : ℕ) → (stepCount k base x q ≡ FirstPlan.Refused n) ↔ ((n ≡ numerical) × Fails)
   count-fails n = (
-    λ e. count-why (step-counts k alpha beta eta base bound tau q (FirstPlan.Refused n) .0 e),
-    λ x. rw (x .0) (step-counts k alpha beta eta base bound tau q (FirstPlan.Refused numerical) .1 (counted f b w (failing (x .1 .0) _ _ refl refl (x .1 .1)))),
+    λ e. count-why (step-counts k base x q (FirstPlan.Refused n) .0 e),
+    λ e. rw (e .0) (step-counts k base x q (FirstPlan.Refused numerical) .1 (counted f b w (failing (e .1 .0) _ _ refl refl (e .1 .1)))),
   )
 
 plan-is : (mid h : ℤ) (c : GLFTConfig) (vol : ℤ) (t : ℕ)
@@ -166,4 +167,4 @@ desk-plan-refusals mid h c vol t n =
     let tau = tauOf (c .«terminal_time») t in
     let m = modelOf c vol in
     rw (plan-is mid h c vol t) (Iff·trans (after-checks FirstPlan.Refused (λ x. planFrom x tau) (λ r. refl) same-plan (timeOk t && modelLimits mid h c vol) (configOk c) true (marketOk mid vol) (holdingOk h c) (modelOk m) m (lots h c) n)
-    (right (late (λ p. count-fails (m .k) (m .alpha) (m .beta) (m .eta) (m .base) (m .«q_max») tau (lots h c) (floats-passed m tau (p .5) (tau-passed mid h c vol t (p .0))) (bound-passed c (p .1)) (lots-passed h c (p .4)) n))))
+    (right (late (λ p. count-fails (m .k) (m .base) (inputOf m tau) (lots h c) (floats-passed m tau (p .5) (tau-passed mid h c vol t (p .0))) (bound-passed c (p .1)) (lots-passed h c (p .4)) n))))

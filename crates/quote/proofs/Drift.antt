@@ -16,7 +16,7 @@ use Rattle.distances.proofs.Drift.{drift-zero-entry}
 use Rattle.amounts.specs.Refusals.{limits}
 use Rattle.amounts.specs.Amounts.{amountOk, timeOk, tauOf}
 use Rattle.model.specs.Configuration.{configLimits, newConfig}
-use Rattle.model.specs.Model.{modelBy, modelFrom, modelOf, modelOk, driftless, modelLimits, newModel, driftlessModel, checkCall}
+use Rattle.model.specs.Model.{modelBy, modelFrom, modelOf, modelOk, driftless, modelLimits, newModel, driftlessModel, checkCall, inputOf}
 use Rattle.quote.specs.Quotes.{exactFrom, exactIf, exactAnswer, exactBy, exactQuotes, wrapped, optimalQuotes, closedFrom, closedAnswer, closedBy, closedFormQuotes, stepsFrom, stepsIf, exactSteps}
 use Rattle.quote.specs.Horizon.{planFrom, deskPlanIf, deskPlan}
 use Rattle.quote.specs.Drift.{configLimitsBefore, modelLimitsBefore, modelOkBefore, newModelBefore, exactFromBefore, exactAnswerBefore, stepsFromBefore, exactStepsBefore, planFromBefore, deskPlanBefore, checkCallBefore, DriftZero}
@@ -75,9 +75,9 @@ module _ (c : GLFTConfig) (e : c .drift ≡ pos 0) where
     from-same tau (stopped k) = (refl, refl, refl)
     from-same {q = q} tau (passed l v d k h f) =
         let z = beta-zero f in (
-          ap (λ (r : FloatAnswer). r .answer) (drift-zero-entry .entry (m .k) (m .alpha) (m .beta) (m .eta) (m .base) (m .«q_max») tau q z),
-          drift-zero-entry .steps (m .k) (m .alpha) (m .beta) (m .eta) (m .base) (m .«q_max») tau q z,
-          drift-zero-entry .count (m .k) (m .alpha) (m .beta) (m .eta) (m .base) (m .«q_max») tau q z,
+          ap (λ (r : FloatAnswer). r .answer) (drift-zero-entry .entry (m .k) (m .base) (inputOf m tau) q z),
+          drift-zero-entry .steps (m .k) (m .base) (inputOf m tau) q z,
+          drift-zero-entry .count (m .k) (m .base) (inputOf m tau) q z,
         )
 
     made-same : (mid h : ℤ) (tau : Float) → let a = newModel mid h c vol in (exactFrom a tau ≡ exactFromBefore a tau) × (stepsFrom a tau ≡ stepsFromBefore a tau) × (planFrom a tau ≡ planFromBefore a tau)

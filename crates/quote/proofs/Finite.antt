@@ -14,7 +14,7 @@ use Rattle.distances.specs.declared.Answer.{Answer}
 use Rattle.distances.specs.declared.Answer.the-variants as Answer
 use Rattle.distances.proofs.Finite.{sides-fine, finite-distances}
 use Rattle.amounts.specs.Amounts.{timeOk, tauOf}
-use Rattle.model.specs.Model.{newModel}
+use Rattle.model.specs.Model.{newModel, inputOf}
 use Rattle.quote.specs.ClosedForm.{slope, bidForm, askForm, formIf, closedFormDistances}
 use Rattle.quote.specs.Quotes.{exactFrom, exactIf, exactAnswer, closedFrom}
 use Rattle.model.specs.declared.GLFTConfig.{GLFTConfig}
@@ -23,7 +23,7 @@ use Rattle.model.specs.declared.ModelAnswer.the-variants as ModelAnswer
 
 from-finite : (m : ModelAnswer) (tau : Float) (b a : Distance) (s : ℕ) → exactFrom m tau ≡ Answer.Distances b a s → Finite b a
 unfolding exactFrom
-from-finite (ModelAnswer.Model m q) tau b a s e = finite-distances .entry (m .k) (m .alpha) (m .beta) (m .eta) (m .base) (m .«q_max») tau q b a s e
+from-finite (ModelAnswer.Model m q) tau b a s e = finite-distances .entry (m .k) (m .base) (inputOf m tau) q b a s e
 from-finite (ModelAnswer.Refused r) tau b a s e = let z : _≡_ {A = ℕ} 0 1 = cc in absurd (omega arith)
 
 pub answer-finite : (mid h : ℤ) (c : GLFTConfig) (vol : ℤ) (t : ℕ) (b a : Distance) (s : ℕ) → exactAnswer mid h c vol t ≡ Answer.Distances b a s → Finite b a

@@ -14,6 +14,8 @@ use Rattle.elementary.proofs.Signs.{mul-neg-left, div-neg-left, sub-neg}
 use Rattle.elementary.proofs.Zeros.{Zero, zero-equal, zero-neg}
 use Rattle.elementary.proofs.Exact.{one-whole, twice-and-one, twice-less-one}
 use Rattle.vector.specs.Run.{cap, largestBound}
+use Rattle.vector.specs.Promises.{turnedInput}
+use Rattle.vector.specs.declared.RunInput.{RunInput}
 use Rattle.distances.specs.Promises.{Counted, exchanged, exchangedSides}
 use Rattle.distances.specs.FloatEntry.{floatEntry, floatSteps}
 use Rattle.distances.specs.declared.Distance.the-variants.{At}
@@ -23,7 +25,7 @@ use Rattle.distances.proofs.FloatMirror.{float-mirror, sides-exchanged}
 use Rattle.distances.proofs.Counting.{steps-counted}
 use Rattle.amounts.specs.Amounts.{amountOk, timeOk, tauOf}
 use Rattle.model.specs.Configuration.{configOk, turned}
-use Rattle.model.specs.Model.{lots, holdingOk, modelBy, modelFrom, modelOf, modelOk, driftless, modelIf, modelLimits, modelWith, newModel, driftlessModel}
+use Rattle.model.specs.Model.{lots, holdingOk, modelBy, modelFrom, modelOf, modelOk, driftless, modelIf, modelLimits, modelWith, newModel, driftlessModel, inputOf}
 use Rattle.quote.specs.ClosedForm.{slope, formBid, formAsk, bidForm, askForm, formIf, closedFormDistances}
 use Rattle.quote.specs.Quotes.{exactFrom, exactIf, exactAnswer, closedFrom, closedAnswer, stepsFrom, stepsIf, exactSteps}
 use Rattle.quote.specs.Promises.{ExactMirror, ClosedMirror}
@@ -58,42 +60,44 @@ model-opposed d mid h c vol =
 
 -- ---- exact calls
 -- the float entry at the opposite drift and holding. Without a drift beta is a zero, and its opposite gives the same entry.
-module _ (k alpha eta base : Float) (bound : ℕ) (tau : Float) (q : ℤ) where
-  Opposite : Float → Float → Type 0
-  Opposite x y =
-      (floatEntry k alpha x eta base bound tau (negℤ q) .answer ≡ exchanged (floatEntry k alpha y eta base bound tau q .answer))
-      × (floatSteps k alpha x eta base bound tau (negℤ q) ≡ floatSteps k alpha y eta base bound tau q)
+module _ (k base : Float) (q : ℤ) where
+  Opposite : RunInput → RunInput → Type 0
+  Opposite x y = (floatEntry k base x (negℤ q) .answer ≡ exchanged (floatEntry k base y q .answer)) × (floatSteps k base x (negℤ q) ≡ floatSteps k base y q)
 
-  by-mirror : (x y : Float) → x ≡ neg y → Opposite x y
+  by-mirror : (y : RunInput) → Opposite (turnedInput y) y
   unfolding Opposite
-  by-mirror x y e = let r = float-mirror k alpha y eta base bound tau q in rw e (r .0, r .2)
+  by-mirror y = let r = float-mirror k base y q in (r .0, r .2)
 
   -- either zero
-  by-zeros : (x : Float) → Zero x → Opposite x x
+  by-zeros : (x : RunInput) → Zero (x .beta) → Opposite x x
   unfolding Opposite
   by-zeros x h =
-      let r = float-mirror k alpha x eta base bound tau q in
+      let r = float-mirror k base x q in
       let z = zero-equal binary64 h in
       let o = zero-equal binary64 (zero-neg h) in (
-        ap (λ (a : FloatAnswer). a .answer) (drift-zero-entry .entry k alpha x eta base bound tau (negℤ q) z ∙ sym (drift-zero-entry .entry k alpha (neg x) eta base bound tau (negℤ q) o)) ∙ r .0,
-        drift-zero-entry .steps k alpha x eta base bound tau (negℤ q) z ∙ sym (drift-zero-entry .steps k alpha (neg x) eta base bound tau (negℤ q) o) ∙ r .2,
+        ap (λ (a : FloatAnswer). a .answer) (drift-zero-entry .entry k base x (negℤ q) z ∙ sym (drift-zero-entry .entry k base (turnedInput x) (negℤ q) o)) ∙ r .0,
+        drift-zero-entry .steps k base x (negℤ q) z ∙ sym (drift-zero-entry .steps k base (turnedInput x) (negℤ q) o) ∙ r .2,
       )
 
-  opposite : T (finite k) → (d : ℤ) → Opposite (betaOf k (negℤ d)) (betaOf k d)
-  opposite h (pos zero) = by-zeros (betaOf k (pos 0)) (beta-none k h)
-  opposite h (pos (suc n)) = by-mirror _ _ (beta-neg k (pos (suc n)) (zero-lt-suc n))
-  opposite h (negsuc n) = by-mirror _ _ (beta-neg k (negsuc n) (zero-lt-suc n))
+  -- numbers of a drift
+  abbrev drifting : Float → Float → ℕ → Float → ℤ → RunInput
+  drifting alpha eta bound tau d = record { alpha = alpha; beta = betaOf k d; eta = eta; bound = bound; tau = tau }
+
+  opposite : T (finite k) → (alpha eta : Float) (bound : ℕ) (tau : Float) (d : ℤ) → Opposite (drifting alpha eta bound tau (negℤ d)) (drifting alpha eta bound tau d)
+  opposite h alpha eta bound tau (pos zero) = by-zeros (drifting alpha eta bound tau (pos 0)) (beta-none k h)
+  opposite h alpha eta bound tau (pos (suc n)) = rw (beta-neg k (pos (suc n)) (zero-lt-suc n)) (by-mirror (drifting alpha eta bound tau (pos (suc n))))
+  opposite h alpha eta bound tau (negsuc n) = rw (beta-neg k (negsuc n) (zero-lt-suc n)) (by-mirror (drifting alpha eta bound tau (negsuc n)))
 
 from-opposed : {l v d m h : Bool} (c : GLFTConfig) (vol : ℤ) {q : ℤ} (tau : Float) {a : ModelAnswer} → Outcome l v d m h (modelOk (modelOf c vol)) (modelOf c vol) q a
     → (exactFrom (opposed (modelOf (turned c) vol) a) tau ≡ exchanged (exactFrom a tau)) × (stepsFrom (opposed (modelOf (turned c) vol) a) tau ≡ stepsFrom a tau)
 unfolding opposed exactFrom stepsFrom exchanged modelOf modelFrom modelBy Opposite
 from-opposed c vol tau (stopped k) = (refl, refl)
 from-opposed c vol {q} tau (passed l v d m h f) =
-    let m = modelOf c vol in opposite (m .k) (m .alpha) (m .eta) (m .base) (m .«q_max») tau q (k-passed m f) (c .drift)
+    let m = modelOf c vol in opposite (m .k) (m .base) q (k-passed m f) (m .alpha) (m .eta) (m .«q_max») tau (c .drift)
 
 from-counted : (a : ModelAnswer) (tau : Float) → Counted (exactFrom a tau) (stepsFrom a tau) × (stepsFrom a tau ≤ cap)
 unfolding exactFrom stepsFrom Counted
-from-counted (ModelAnswer.Model m q) tau = steps-counted (m .k) (m .alpha) (m .beta) (m .eta) (m .base) (m .«q_max») tau q
+from-counted (ModelAnswer.Model m q) tau = steps-counted (m .k) (m .base) (inputOf m tau) q
 from-counted (ModelAnswer.Refused r) tau = (tt, omega arith)
 
 module _ (mid h : ℤ) (c : GLFTConfig) (vol : ℤ) (t : ℕ) where

@@ -19,7 +19,7 @@ use Rattle.distances.specs.declared.Answer.the-variants as Answer
 use Rattle.distances.proofs.Presence.{float-presence, sides-are}
 use Rattle.amounts.specs.Amounts.{timeOk, tauOf}
 use Rattle.model.specs.Configuration.{configOk}
-use Rattle.model.specs.Model.{lots, holdingOk, modelOf, modelFrom, modelBy, newModel, driftlessModel}
+use Rattle.model.specs.Model.{lots, holdingOk, modelOf, modelFrom, modelBy, newModel, driftlessModel, inputOf}
 use Rattle.quote.specs.ClosedForm.{slope, formBid, formAsk, bidForm, askForm, formIf, closedFormDistances}
 use Rattle.prices.specs.Prices.{widened, side, widening, bidPrice, askPrice, buildQuotes}
 use Rattle.prices.specs.declared.QuotesAnswer.the-variants.{Quotes as quoted}
@@ -73,7 +73,7 @@ from-withheld : {l d m f : Bool} (h : ℤ) (c : GLFTConfig) (vol : ℤ) (tau : F
     → exactFrom x tau ≡ Answer.Distances b a s → Withheld (c .«max_inventory_lots») (lots h c) b a
 unfolding exactFrom modelOf modelFrom modelBy
 from-withheld h c vol tau b a s (stopped k) e = let z : _≡_ {A = ℕ} 0 1 = cc in absurd (omega arith)
-from-withheld h c vol tau b a s (passed l v d m g f) e = let m = modelOf c vol in float-presence (m .k) (m .alpha) (m .beta) (m .eta) (m .base) (m .«q_max») tau (lots h c) b a s e
+from-withheld h c vol tau b a s (passed l v d m g f) e = let m = modelOf c vol in float-presence (m .k) (m .base) (inputOf m tau) (lots h c) b a s e
 
 answer-withheld : (mid h : ℤ) (c : GLFTConfig) (vol : ℤ) (t : ℕ) (b a : Distance) (s : ℕ) → exactAnswer mid h c vol t ≡ Answer.Distances b a s → Withheld (c .«max_inventory_lots») (lots h c) b a
 unfolding exactAnswer exactIf newModel

@@ -9,6 +9,7 @@ use lib.Ieee.{Float}
 use Rattle.elementary.specs.Float.{positive}
 use Rattle.vector.specs.Refusals.{numerical}
 use Rattle.vector.specs.Run.{boundOk}
+use Rattle.vector.specs.declared.RunInput.{RunInput}
 use Rattle.distances.specs.Distances.{within, fine, sides}
 use Rattle.distances.specs.FloatEntry.{floatsOk, floatEntry}
 use Rattle.distances.specs.Refusing.{EntryFails, FloatRefused, at-5, at-1, at-4, at-11}
@@ -21,7 +22,7 @@ use Rattle.distances.proofs.Refusing.{never, float-refusals}
 use Rattle.quote.specs.Refusals.{capped}
 use Rattle.amounts.specs.Amounts.{timeOk, tauOf}
 use Rattle.model.specs.Configuration.{configOk}
-use Rattle.model.specs.Model.{lots, marketOk, holdingOk, modelOk, modelOf, modelFrom, modelBy, modelIf, modelLimits, newModel, driftless, driftlessModel}
+use Rattle.model.specs.Model.{lots, marketOk, holdingOk, modelOk, modelOf, modelFrom, modelBy, modelIf, modelLimits, newModel, driftless, driftlessModel, inputOf}
 use Rattle.quote.specs.ClosedForm.{slope, bidForm, askForm, formIf, closedFormDistances}
 use Rattle.prices.specs.declared.QuotesAnswer.{QuotesAnswer}
 use Rattle.prices.specs.declared.QuotesAnswer.the-variants.{Quotes as quoted, Refused as refused}
@@ -75,17 +76,17 @@ pub right : {A B C : Type 0} → (B ↔ C) → (A ⊎ B) ↔ (A ⊎ C)
 right f = (λ x. elim x [ inl a ↦ inl a | inr b ↦ inr (f .0 b) ], λ x. elim x [ inl a ↦ inl a | inr c ↦ inr (f .1 c) ])
 
 -- ---- exact quotes
-float-fails : (k alpha beta eta base : Float) (bound : ℕ) (tau : Float) (q : ℤ) (n : ℕ) → floatsOk k alpha beta eta base tau ≡ true → boundOk bound ≡ true → within bound q ≡ true
-    → (floatEntry k alpha beta eta base bound tau q .answer ≡ Answer.Refused n) ↔ ((n ≡ numerical) × EntryFails k alpha beta eta base bound tau q)
-float-fails k alpha beta eta base bound tau q n f b h =
-    let r = float-refusals k alpha beta eta base bound tau q in
-    (λ e. go (r n .0 e), λ x. rw (x .0) (r numerical .1 (at-11 f b h (x .1))))
+float-fails : (k base : Float) (x : RunInput) (q : ℤ) (n : ℕ) → floatsOk k base x ≡ true → boundOk (x .bound) ≡ true → within (x .bound) q ≡ true
+    → (floatEntry k base x q .answer ≡ Answer.Refused n) ↔ ((n ≡ numerical) × EntryFails k base x q)
+float-fails k base x q n f b h =
+    let r = float-refusals k base x q in
+    (λ e. go (r n .0 e), λ e. rw (e .0) (r numerical .1 (at-11 f b h (e .1))))
   where
-    go : {m : ℕ} → FloatRefused k alpha beta eta base bound tau q m → (m ≡ numerical) × EntryFails k alpha beta eta base bound tau q
+    go : {m : ℕ} → FloatRefused k base x q m → (m ≡ numerical) × EntryFails k base x q
     go (at-5 e) = never (sym f ∙ e)
     go (at-1 e i) = never (sym b ∙ i)
     go (at-4 e i j) = never (sym h ∙ j)
-    go (at-11 e i j x) = (refl, x)
+    go (at-11 e i j y) = (refl, y)
 
 answer-is : (mid h : ℤ) (c : GLFTConfig) (vol : ℤ) (t : ℕ)
     → exactAnswer mid h c vol t
@@ -133,7 +134,7 @@ exact-refusals mid h c vol t n =
     let m = modelOf c vol in
     joined (exact-by mid (c .«min_spread») (exactAnswer mid h c vol t) n (answer-finite mid h c vol t))
     (rw (answer-is mid h c vol t) (Iff·trans (after-checks Answer.Refused (λ x. exactFrom x tau) (λ r. refl) same-answer (timeOk t && modelLimits mid h c vol) (configOk c) true (marketOk mid vol) (holdingOk h c) (modelOk m) m (lots h c) n)
-    (right (late (λ p. float-fails (m .k) (m .alpha) (m .beta) (m .eta) (m .base) (m .«q_max») tau (lots h c) n (floats-passed m tau (p .5) (tau-passed mid h c vol t (p .0))) (bound-passed c (p .1)) (lots-passed h c (p .4)))))))
+    (right (late (λ p. float-fails (m .k) (m .base) (inputOf m tau) (lots h c) n (floats-passed m tau (p .5) (tau-passed mid h c vol t (p .0))) (bound-passed c (p .1)) (lots-passed h c (p .4)))))))
 
 -- ---- the wrapper's
 pub optimal-refusals : OptimalRefusals

@@ -10,6 +10,7 @@ use lib.Dec.{T}
 use lib.Ieee.{Float, nan, inf, fin, lt, isNan}
 use Rattle.elementary.specs.Float.{whole}
 use Rattle.vector.specs.Run.{cap}
+use Rattle.vector.specs.declared.RunInput.{RunInput}
 use Rattle.distances.specs.FloatEntry.{floatEntry}
 use Rattle.distances.specs.Promises.{Counted}
 use Rattle.distances.specs.declared.Distance.{Distance}
@@ -18,7 +19,7 @@ use Rattle.distances.specs.declared.Answer.the-variants as Answer
 use Rattle.distances.proofs.Refusing.{never, float-reports}
 use Rattle.prices.specs.Refusals.{crossed}
 use Rattle.amounts.specs.Amounts.{amountLimit, amountOk, above0, timeOk, tauOf}
-use Rattle.model.specs.Model.{newModel}
+use Rattle.model.specs.Model.{newModel, inputOf}
 use Rattle.prices.specs.Prices.{each, inOrder, judgeIf, judge, quotesBy, buildQuotes, rounded, roundedIf, side, widened}
 use Rattle.quote.specs.Quotes.{withSteps, exactFrom, exactIf, exactAnswer, exactBy, exactQuotes, exactSteps}
 use Rattle.model.specs.Refusing.{Checked, by-2, by-1, by-22, by-3, by-4, by-5}
@@ -80,18 +81,18 @@ number-above (fin s m e) nan h = h
 number-above x (inf s) h = tt
 number-above x (fin s m e) h = tt
 
-float-reported : (k alpha beta eta base : Float) (bound : ℕ) (tau : Float) (q : ℤ) → Reported (floatEntry k alpha beta eta base bound tau q .answer)
+float-reported : (k base : Float) (x : RunInput) (q : ℤ) → Reported (floatEntry k base x q .answer)
 unfolding Reported
-float-reported k alpha beta eta base bound tau q = go (floatEntry k alpha beta eta base bound tau q .answer) refl
+float-reported k base x q = go (floatEntry k base x q .answer) refl
   where
-    go : (a : Answer) → floatEntry k alpha beta eta base bound tau q .answer ≡ a → Reported a
+    go : (a : Answer) → floatEntry k base x q .answer ≡ a → Reported a
     go (Answer.Distances b a s) e = tt
-    go (Answer.OverCap need b s) e = number-above (whole (pos b)) need (float-reports k alpha beta eta base bound tau q need b s .0 e .report .above)
+    go (Answer.OverCap need b s) e = number-above (whole (pos b)) need (float-reports k base x q need b s .0 e .report .above)
     go (Answer.Refused r) e = tt
 
 from-reported : (m : ModelAnswer) (tau : Float) → Reported (exactFrom m tau)
 unfolding Reported exactFrom
-from-reported (ModelAnswer.Model m q) tau = float-reported (m .k) (m .alpha) (m .beta) (m .eta) (m .base) (m .«q_max») tau q
+from-reported (ModelAnswer.Model m q) tau = float-reported (m .k) (m .base) (inputOf m tau) q
 from-reported (ModelAnswer.Refused r) tau = tt
 
 -- ---- a refusal's number

@@ -7,7 +7,7 @@ use lib.Ieee.{Float}
 use Rattle.elementary.specs.Float.{positive}
 use Rattle.vector.specs.declared.FirstPlan.{FirstPlan}
 use Rattle.vector.specs.declared.FirstPlan.the-variants as FirstPlan
-use Rattle.distances.specs.Drift.{floatEntryBefore, floatStepsBefore, stepCountBefore}
+use Rattle.distances.specs.Drift.{driftlessEntry, driftlessSteps, driftlessCount}
 use Rattle.distances.specs.declared.Answer.{Answer}
 use Rattle.distances.specs.declared.Answer.the-variants as Answer
 use Rattle.amounts.specs.Refusals.{limits}
@@ -43,21 +43,21 @@ newModelBefore mid h c vol =
 -- ---- the entries, from a model's seven floats
 unfoldable pub exactFromBefore : ModelAnswer → Float → Answer
 exactFromBefore (ModelAnswer.Refused r) tau = Answer.Refused r
-exactFromBefore (ModelAnswer.Model m q) tau = floatEntryBefore (m .k) (m .alpha) (m .eta) (m .base) (m .«q_max») tau q .answer
+exactFromBefore (ModelAnswer.Model m q) tau = driftlessEntry (m .k) (m .base) (m .alpha) (m .eta) (m .«q_max») tau q .answer
 
 unfoldable pub exactAnswerBefore : ℤ → ℤ → GLFTConfig → ℤ → ℕ → Answer
 exactAnswerBefore mid h c vol t = cond (timeOk t) (exactFromBefore (newModelBefore mid h c vol) (tauOf (c .«terminal_time») t)) (Answer.Refused limits)
 
 unfoldable pub stepsFromBefore : ModelAnswer → Float → ℕ
 stepsFromBefore (ModelAnswer.Refused r) tau = 0
-stepsFromBefore (ModelAnswer.Model m q) tau = floatStepsBefore (m .k) (m .alpha) (m .eta) (m .base) (m .«q_max») tau q
+stepsFromBefore (ModelAnswer.Model m q) tau = driftlessSteps (m .k) (m .base) (m .alpha) (m .eta) (m .«q_max») tau q
 
 unfoldable pub exactStepsBefore : ℤ → ℤ → GLFTConfig → ℤ → ℕ → ℕ
 exactStepsBefore mid h c vol t = cond (timeOk t) (stepsFromBefore (newModelBefore mid h c vol) (tauOf (c .«terminal_time») t)) 0
 
 unfoldable pub planFromBefore : ModelAnswer → Float → FirstPlan
 planFromBefore (ModelAnswer.Refused r) tau = FirstPlan.Refused r
-planFromBefore (ModelAnswer.Model m q) tau = stepCountBefore (m .k) (m .alpha) (m .eta) (m .base) (m .«q_max») tau q
+planFromBefore (ModelAnswer.Model m q) tau = driftlessCount (m .k) (m .base) (m .alpha) (m .eta) (m .«q_max») tau q
 
 unfoldable pub deskPlanBefore : ℤ → ℤ → GLFTConfig → ℤ → ℕ → FirstPlan
 deskPlanBefore mid h c vol t = cond (timeOk t) (planFromBefore (newModelBefore mid h c vol) (tauOf (c .«terminal_time») t)) (FirstPlan.Refused limits)

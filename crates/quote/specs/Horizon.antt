@@ -15,7 +15,7 @@ use Rattle.distances.specs.Count.{stepCount}
 use Rattle.amounts.specs.Refusals.{limits}
 use Rattle.amounts.specs.Amounts.{timeOk, tauOf}
 use Rattle.model.specs.Configuration.{configOk}
-use Rattle.model.specs.Model.{marketOk, holdingOk, modelOk, modelOf, modelLimits, newModel}
+use Rattle.model.specs.Model.{marketOk, holdingOk, modelOk, modelOf, modelLimits, newModel, inputOf}
 use Rattle.quote.specs.Quotes.{exactQuotes, exactSteps}
 use Rattle.model.specs.Refusing.{Passed}
 use Rattle.quote.specs.Promises.{ExactChecked}
@@ -28,7 +28,7 @@ use Rattle.quote.specs.declared.ExactQuotes.the-variants as ExactQuotes
 -- the count of the model's floats
 unfoldable pub planFrom : ModelAnswer → Float → FirstPlan
 planFrom (ModelAnswer.Refused r) tau = FirstPlan.Refused r
-planFrom (ModelAnswer.Model m q) tau = stepCount (m .k) (m .alpha) (m .beta) (m .eta) (m .base) (m .«q_max») tau q
+planFrom (ModelAnswer.Model m q) tau = stepCount (m .k) (m .base) (inputOf m tau) q
 
 -- the current time is one of the numbers that 2 looks at
 unfoldable pub deskPlanIf : Bool → ℤ → ℤ → GLFTConfig → ℤ → ℕ → FirstPlan
@@ -47,7 +47,7 @@ pub record DeskPlanIsFirst : Type 0 where
   pub refused : (mid h : ℤ) (c : GLFTConfig) (vol : ℤ) (t n : ℕ) → deskPlan mid h c vol t ≡ FirstPlan.Refused n → exactQuotes mid h c vol t ≡ ExactQuotes.Refused n
   -- some steps: the model's run begins with a plan of so many; none: no step is spent
   pub steps : (mid h : ℤ) (c : GLFTConfig) (vol : ℤ) (t s : ℕ) → deskPlan mid h c vol t ≡ FirstPlan.Steps (suc s)
-      → (m : Model) × (q : ℤ) × (newModel mid h c vol ≡ ModelAnswer.Model m q) × FirstGoes (m .«q_max») (m .alpha) (m .beta) (m .eta) (tauOf (c .«terminal_time») t) (suc s)
+      → (m : Model) × (q : ℤ) × (newModel mid h c vol ≡ ModelAnswer.Model m q) × FirstGoes (inputOf m (tauOf (c .«terminal_time») t)) (suc s)
   pub none : (mid h : ℤ) (c : GLFTConfig) (vol : ℤ) (t : ℕ) → deskPlan mid h c vol t ≡ FirstPlan.Steps 0 → exactSteps mid h c vol t ≡ 0
 
 -- ---- its refusals: what the numbers' checks refuse, and 11 where they pass, time is left, and an entry of the diagonal is not finite or tau × norm not finite and positive
@@ -56,7 +56,7 @@ DeskPlanFails mid h c vol t =
     let m = modelOf c vol in
     let tau = tauOf (c .«terminal_time») t in
     Passed (timeOk t && modelLimits mid h c vol) (configOk c) true (marketOk mid vol) (holdingOk h c) (modelOk m)
-    × ((lt 0ᶠ tau ≡ true) × ((diagonalFinite (fixed (m .«q_max») (m .alpha) (m .beta) (m .eta)) && positive (firstSize (m .«q_max») (m .alpha) (m .beta) (m .eta) tau)) ≡ false))
+    × ((lt 0ᶠ tau ≡ true) × ((diagonalFinite (fixed (inputOf m tau)) && positive (firstSize (inputOf m tau))) ≡ false))
 
 abbrev pub DeskPlanRefusals : Type 0
 DeskPlanRefusals = (mid h : ℤ) (c : GLFTConfig) (vol : ℤ) (t n : ℕ)

@@ -18,7 +18,7 @@ use Rattle.distances.specs.declared.Answer.the-variants as Answer
 use Rattle.quote.specs.Refusals.{capped}
 use Rattle.amounts.specs.Amounts.{timeOk, tauOf}
 use Rattle.model.specs.Configuration.{configOk, turned}
-use Rattle.model.specs.Model.{lots, modelLimits, driftless, marketOk, holdingOk, modelOk, modelOf}
+use Rattle.model.specs.Model.{lots, modelLimits, driftless, marketOk, holdingOk, modelOk, modelOf, inputOf}
 use Rattle.quote.specs.ClosedForm.{slope, bidForm, askForm}
 use Rattle.quote.specs.Quotes.{exactAnswer, optimalAnswer, closedAnswer, exactSteps, exactBy, exactQuotes, wrapped, optimalQuotes, closedFormQuotes}
 use Rattle.model.specs.declared.GLFTConfig.{GLFTConfig}
@@ -80,7 +80,7 @@ abbrev pub ExactFails : ℤ → ℤ → GLFTConfig → ℤ → ℕ → Type 0
 ExactFails mid h c vol t =
     let m = modelOf c vol in
     Passed (timeOk t && modelLimits mid h c vol) (configOk c) true (marketOk mid vol) (holdingOk h c) (modelOk m)
-    × EntryFails (m .k) (m .alpha) (m .beta) (m .eta) (m .base) (m .«q_max») (tauOf (c .«terminal_time») t) (lots h c)
+    × EntryFails (m .k) (m .base) (inputOf m (tauOf (c .«terminal_time») t)) (lots h c)
 
 -- and of the closed form: the slope is not finite and positive, an elementary refusal under it included; or it is, and a present distance is not finite
 pub data FormFails (m : Model) (q : ℤ) : Type 0 where

@@ -11,7 +11,7 @@ use Rattle.distances.specs.declared.Answer.the-variants as Answer
 use Rattle.amounts.specs.Refusals.{limits}
 use Rattle.quote.specs.Refusals.{capped}
 use Rattle.amounts.specs.Amounts.{amountOk, timeOk, tauOf}
-use Rattle.model.specs.Model.{newModel, driftlessModel}
+use Rattle.model.specs.Model.{newModel, driftlessModel, inputOf}
 use Rattle.quote.specs.ClosedForm.{closedFormDistances}
 use Rattle.model.specs.declared.GLFTConfig.{GLFTConfig}
 use Rattle.model.specs.declared.Model.{Model}
@@ -30,7 +30,7 @@ use Rattle.prices.specs.declared.QuotesAnswer.the-variants as QuotesAnswer
 -- ---- before prices: the distances with their steps, a report, or a refusal
 unfoldable pub exactFrom : ModelAnswer → Float → Answer
 exactFrom (ModelAnswer.Refused r) tau = Answer.Refused r
-exactFrom (ModelAnswer.Model m q) tau = floatEntry (m .k) (m .alpha) (m .beta) (m .eta) (m .base) (m .«q_max») tau q .answer
+exactFrom (ModelAnswer.Model m q) tau = floatEntry (m .k) (m .base) (inputOf m tau) q .answer
 
 -- the current time is one of the numbers that 2 looks at
 unfoldable pub exactIf : Bool → ℤ → ℤ → GLFTConfig → ℤ → ℕ → Answer
@@ -92,7 +92,7 @@ closedFormQuotes mid h c vol = closedBy mid (c .«min_spread») (closedAnswer mi
 -- the finished steps of the run that an exact call defines, under a refusal too
 unfoldable pub stepsFrom : ModelAnswer → Float → ℕ
 stepsFrom (ModelAnswer.Refused r) tau = 0
-stepsFrom (ModelAnswer.Model m q) tau = floatSteps (m .k) (m .alpha) (m .beta) (m .eta) (m .base) (m .«q_max») tau q
+stepsFrom (ModelAnswer.Model m q) tau = floatSteps (m .k) (m .base) (inputOf m tau) q
 
 unfoldable pub stepsIf : Bool → ℤ → ℤ → GLFTConfig → ℤ → ℕ → ℕ
 stepsIf false mid h c vol t = 0

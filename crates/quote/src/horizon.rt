@@ -26,7 +26,7 @@ pub fn first_plan(
     match Model::new(mid_price, inventory, config, volatility) {
         ModelAnswer::Model(m, q) => {
             let tau = seconds_to_terminal(terminal, current_time);
-            distances::step_count(m.k, m.alpha, m.beta, m.eta, m.base, m.q_max, tau, q)
+            distances::step_count(m.k, m.base, model::run_input(m, tau), q)
         }
         ModelAnswer::Refused(number) => FirstPlan::Refused(number),
     }

@@ -5,6 +5,7 @@ ghost use Rattle.distances.specs.FloatEntry.{floatEntry};
 ghost use Rattle.amounts.specs.Amounts.{amountOk};
 ghost use Rattle.quote.specs.Quotes.{withSteps, exactBy, closedBy, quotesByAnswer};
 ghost use Rattle.prices.specs.Prices.{each, widened, judge, buildQuotes};
+ghost use Rattle.model.specs.Model.{inputOf};
 use crate::ClosedFormQuotes;
 use crate::ExactQuotes;
 use amounts::amount_fits;
@@ -63,9 +64,9 @@ pub(crate) fn from_answer(mid: i64, least: i64, answer: Answer) -> ExactQuotes
 // The exact quotes of a model at q lots.
 pub(crate) fn exact_of(mid: i64, least: i64, m: Model, q: i64, tau: f64) -> ExactQuotes
     requires { ⌜ T (amountOk mid) × T (amountOk least) ⌝ }
-    ensures { λ r. ⌜ r ≡ exactBy mid least (floatEntry (m .k) (m .alpha) (m .beta) (m .eta) (m .base) (m .«q_max») tau q .answer) ⌝ }
+    ensures { λ r. ⌜ r ≡ exactBy mid least (floatEntry (m .k) (m .base) (inputOf m tau) q .answer) ⌝ }
 {
-    let r = distances::float_entry(m.k, m.alpha, m.beta, m.eta, m.base, m.q_max, tau, q);
+    let r = distances::float_entry(m.k, m.base, model::run_input(m, tau), q);
     let answer = r.answer;
     from_answer(mid, least, answer)
 }

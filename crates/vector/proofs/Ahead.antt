@@ -11,17 +11,22 @@ use lib.Dec.{T, lit<, not-T}
 use lib.Ieee.{Float, lt, le, toUnsigned}
 use lib.Ieee.Bits.{is-true, is-false}
 use Rattle.elementary.specs.Float.{_⊗_, _⊘_, whole, 0ᶠ, 1ᶠ, finite, positive}
+use Rattle.elementary.specs.Checks.{Verdict, passes, refused, firstFailing, Refuses, here}
+use Rattle.elementary.specs.Checks as Checks
+use Rattle.elementary.proofs.Checks.{first-failing}
 use Rattle.elementary.proofs.Order.{lt→not-ge}
-use Rattle.vector.specs.Refusals.{numerical}
+use Rattle.series.specs.Refusals.{numerical}
 use Rattle.series.specs.Vectors.{tab, at, fill, every}
-use Rattle.series.specs.Series.{diagonalAt, leftAt, rightAt}
-use Rattle.vector.specs.Run.{Ended, overCap, failed, Fixed, fixedOver, Turn, ended, runOn, run, runFor, spent, cap, rows, boundOk, needed, start, begin, wholePlan, diagonalFinite, firstIf, firstTurn, fixed}
-use Rattle.vector.specs.Values.{ratesOk}
-use Rattle.vector.specs.Count.{planIn, planWhen, planIf, firstPlan, firstNorm, firstSize, FirstIs, no-time, not-finite, fails, over, kept, FirstPlanIs, by-5, by-1, passed, FirstPlans, FirstGoes}
+use Rattle.series.specs.Series.{diagonalAt, leftAt, rightAt, rows}
+use Rattle.vector.specs.Run.{Ended, overCap, failed, Fixed, fixedOver, Turn, ended, runOn, run, runFor, spent, cap, boundOk, needed, start, begin, wholePlan, diagonalFinite, firstIf, firstTurn, fixed, runFrom}
+use Rattle.vector.specs.Values.{ratesOk, inputChecks}
+use Rattle.vector.specs.Count.{planIn, planWhen, planIf, firstPlan, firstNorm, firstSize, FirstIs, no-time, not-finite, fails, over, kept, FirstPlanIs, by-5, by-1, passed, FirstPlans, FirstGoes, planAhead, planOver}
 use Rattle.vector.specs.Causes.{Reached, first, later, Planning, at-first, again, factorsFinite, timesNorm, CapReported}
 use Rattle.vector.specs.Inner.{planBy, planFor, planOf, aheadOf}
+use Rattle.vector.specs.declared.RunInput.{RunInput}
 use Rattle.vector.specs.declared.FirstPlan.{FirstPlan}
 use Rattle.vector.specs.declared.FirstPlan.the-variants as FirstPlan
+use Rattle.vector.proofs.Bounds.{input-passes, rates-refused, bound-refused, all-passed}
 use Rattle.vector.proofs.Plans.{planned-some, planned-within, planned-same}
 use Rattle.vector.proofs.RunLaws.{on-ended}
 use Rattle.vector.proofs.Turns.{Any, TurnOk, begin-ok}
@@ -66,44 +71,50 @@ module _ (p : Fixed) (tau : Float) where
       go false e = ahead-fails e
 
 -- all rows of a diagonal, by whether it is finite
-module _ (b : ℕ) (alpha beta eta tau : Float) where
-  abbrev rowsFinite : Bool
-  rowsFinite = every (rows b) (λ i. finite (at (tab (rows b) (diagonalAt b alpha beta eta)) i))
+module _ (x : RunInput) where
+  abbrev entries : List Float
+  entries = tab (rows (x .bound)) (diagonalAt (x .bound) (x .alpha) (x .beta) (x .eta))
 
-  pub all-rows : (d : List Float) → d ≡ tab (rows b) (diagonalAt b alpha beta eta) → rowsFinite ≡ true → planIn (wholePlan (fixedOver (rows b) d eta) tau) ≡ planIn (firstTurn (fixed b alpha beta eta) tau)
+  abbrev rowsFinite : Bool
+  rowsFinite = every (rows (x .bound)) (λ i. finite (at entries i))
+
+  pub all-rows : (d : List Float) → d ≡ entries → rowsFinite ≡ true → planIn (wholePlan (fixedOver (rows (x .bound)) d (x .eta)) (x .tau)) ≡ planIn (firstTurn (fixed x) (x .tau))
   unfolding fixed firstIf
   all-rows d e f = rw (f, e)
 
-  pub no-rows : rowsFinite ≡ false → FirstPlan.Refused numerical ≡ planIn (firstTurn (fixed b alpha beta eta) tau)
+  pub no-rows : rowsFinite ≡ false → FirstPlan.Refused numerical ≡ planIn (firstTurn (fixed x) (x .tau))
   unfolding fixed firstIf planIn
   no-rows f = rw f
 
-module _ (b : ℕ) (alpha beta eta tau : Float) where
+module _ (x : RunInput) where
   abbrev p : Fixed
-  p = fixed b alpha beta eta
+  p = fixed x
+
+  abbrev tau : Float
+  tau = x .tau
 
   abbrev size : Float
-  size = firstSize b alpha beta eta tau
+  size = firstSize x
 
   -- ---- the reply has its cause
-  caused : lt 0ᶠ tau ≡ true → FirstIs b alpha beta eta tau (planIn (firstTurn p tau))
+  caused : lt 0ᶠ tau ≡ true → FirstIs x (planIn (firstTurn p tau))
   unfolding start planIn firstIf
   caused l = go (diagonalFinite p) (positive size) (le (needed size) (whole (pos cap))) refl refl refl
     where
-      go : (d t c : Bool) → diagonalFinite p ≡ d → positive size ≡ t → le (needed size) (whole (pos cap)) ≡ c → FirstIs b alpha beta eta tau (planIn (firstIf d p tau))
+      go : (d t c : Bool) → diagonalFinite p ≡ d → positive size ≡ t → le (needed size) (whole (pos cap)) ≡ c → FirstIs x (planIn (firstIf d p tau))
       go false t c ed et ec = not-finite l ed
       go true false c ed et ec = rw (begins p tau false et) (fails l ed et)
       go true true false ed et ec = rw (begins p tau true et, ec) (over l ed et (subst (TurnOk cap Any) (begins p tau true et ∙ ap (begun p tau true) ec) (begin-ok Any p cap (fill (p .n) 1ᶠ) (fill (p .n) 0ᶠ) tau tt) .1))
       go true true true ed et ec = rw (begins p tau true et, ec) (kept l ed et (rw ec tt))
 
-  first-caused : (t : Bool) → lt 0ᶠ tau ≡ t → FirstIs b alpha beta eta tau (planWhen t p tau)
+  first-caused : (t : Bool) → lt 0ᶠ tau ≡ t → FirstIs x (planWhen t (firstTurn p tau))
   unfolding planWhen
   first-caused false l = no-time l
   first-caused true l = caused l
 
   -- and each cause its reply
-  first-is : {r : FirstPlan} → FirstIs b alpha beta eta tau r → planWhen (lt 0ᶠ tau) p tau ≡ r
-  unfolding planWhen start planIn firstIf
+  first-is : {r : FirstPlan} → FirstIs x r → planAhead x ≡ r
+  unfolding planAhead planWhen start planIn firstIf
   first-is (no-time l) = rw l
   first-is (not-finite l d) = rw (l, d)
   first-is (fails l d e) = rw (l, first-begins p tau d false e)
@@ -111,22 +122,23 @@ module _ (b : ℕ) (alpha beta eta tau : Float) where
       rw (l, first-begins p tau d true e, is-false (le (needed size) (whole (pos cap))) (not-T (le (needed size) (whole (pos cap))) (lt→not-ge (whole (pos cap)) (needed size) h)))
   first-is (kept l d e h) = rw (l, first-begins p tau d true e, is-true (le (needed size) (whole (pos cap))) h)
 
-  pub first-when : (r : FirstPlan) → (planWhen (lt 0ᶠ tau) p tau ≡ r) ↔ FirstIs b alpha beta eta tau r
-  first-when r = (λ e. subst (FirstIs b alpha beta eta tau) e (first-caused (lt 0ᶠ tau) refl), first-is)
+  pub first-when : (r : FirstPlan) → (planAhead x ≡ r) ↔ FirstIs x r
+  unfolding planAhead
+  first-when r = (λ e. subst (FirstIs x) e (first-caused (lt 0ᶠ tau) refl), first-is)
 
   -- ---- what the run makes of it
   -- none where no time is left; a plan of some steps is where the run begins; a report or 11 is its end
   abbrev pub Tied : FirstPlan → Type 0
-  Tied (FirstPlan.Steps zero) = (lt 0ᶠ tau ≡ false) × (spent (run b alpha beta eta tau) ≡ 0)
-  Tied (FirstPlan.Steps (suc n)) = FirstGoes b alpha beta eta tau (suc n)
-  Tied (FirstPlan.OverCap need left) = (run b alpha beta eta tau ≡ overCap need left) × (left ≡ cap)
-  Tied (FirstPlan.Refused n) = (n ≡ numerical) × (run b alpha beta eta tau ≡ failed 0)
+  Tied (FirstPlan.Steps zero) = (lt 0ᶠ tau ≡ false) × (spent (run x) ≡ 0)
+  Tied (FirstPlan.Steps (suc n)) = FirstGoes x (suc n)
+  Tied (FirstPlan.OverCap need left) = (run x ≡ overCap need left) × (left ≡ cap)
+  Tied (FirstPlan.Refused n) = (n ≡ numerical) × (run x ≡ failed 0)
 
-  pub run-first : lt 0ᶠ tau ≡ true → run b alpha beta eta tau ≡ runOn cap p (firstTurn p tau)
-  unfolding run runFor
+  pub run-first : lt 0ᶠ tau ≡ true → run x ≡ runOn cap p (firstTurn p tau)
+  unfolding run runFrom
   run-first l = rw l
 
-  ended-at : (r : Ended) → lt 0ᶠ tau ≡ true → firstTurn p tau ≡ ended r → run b alpha beta eta tau ≡ r
+  ended-at : (r : Ended) → lt 0ᶠ tau ≡ true → firstTurn p tau ≡ ended r → run x ≡ r
   ended-at r l e = run-first l ∙ ap (runOn cap p) e ∙ on-ended p cap r
 
   goes : (n : ℕ) → lt 0ᶠ tau ≡ true → diagonalFinite p ≡ true → positive size ≡ true → le (needed size) (whole (pos cap)) ≡ true → toUnsigned 32 (needed size) ≡ n → Tied (FirstPlan.Steps n)
@@ -137,10 +149,10 @@ module _ (b : ℕ) (alpha beta eta tau : Float) where
       record {
         time = l;
         plan = record {
-          w = fill (rows b) 1ᶠ;
-          o = fill (rows b) 0ᶠ;
-          left = tab (rows b) (leftAt (fill (rows b) 0ᶠ));
-          right = tab (rows b) (rightAt (rows b) (fill (rows b) 0ᶠ));
+          w = fill (rows (x .bound)) 1ᶠ;
+          o = fill (rows (x .bound)) 0ᶠ;
+          left = tab (rows (x .bound)) (leftAt (fill (rows (x .bound)) 0ᶠ));
+          right = tab (rows (x .bound)) (rightAt (rows (x .bound)) (fill (rows (x .bound)) 0ᶠ));
           dt = tau ⊘ needed size;
           remaining = tau;
           steps = toUnsigned 32 (needed size);
@@ -150,11 +162,11 @@ module _ (b : ℕ) (alpha beta eta tau : Float) where
         within = le-trans (le-of-eq (sym e ∙ sym (planned-same size cap ec few))) (planned-within size cap ec few);
       }
 
-  pub tied : (r : FirstPlan) → planWhen (lt 0ᶠ tau) p tau ≡ r → Tied r
-  unfolding planWhen start planIn firstIf run runFor spent
+  pub tied : (r : FirstPlan) → planAhead x ≡ r → Tied r
+  unfolding planAhead planWhen start planIn firstIf run runFrom spent
   tied r h = subst Tied h (go (lt 0ᶠ tau) (diagonalFinite p) (positive size) (le (needed size) (whole (pos cap))) refl refl refl refl)
     where
-      go : (l d t c : Bool) → lt 0ᶠ tau ≡ l → diagonalFinite p ≡ d → positive size ≡ t → le (needed size) (whole (pos cap)) ≡ c → Tied (planWhen l p tau)
+      go : (l d t c : Bool) → lt 0ᶠ tau ≡ l → diagonalFinite p ≡ d → positive size ≡ t → le (needed size) (whole (pos cap)) ≡ c → Tied (planWhen l (firstTurn p tau))
       go false d t c el ed et ec = (el, rw el)
       go true false t c el ed et ec = rw ed (refl, ended-at (failed 0) el (rw ed))
       go true true false c el ed et ec = rw (first-begins p tau ed false et) (refl, ended-at (failed 0) el (first-begins p tau ed false et))
@@ -166,24 +178,27 @@ module _ (b : ℕ) (alpha beta eta tau : Float) where
   reached-within first = le-refl cap
   reached-within (later r) = let h = reached-within r in omega arith
 
-  pub whole-budget : (need : Float) → lt 0ᶠ tau ≡ true → CapReported p tau need cap → planWhen (lt 0ᶠ tau) p tau ≡ FirstPlan.OverCap need cap
+  pub whole-budget : (need : Float) → lt 0ᶠ tau ≡ true → CapReported p tau need cap → planAhead x ≡ FirstPlan.OverCap need cap
   whole-budget need l h = go (h .plan) refl (h .factors) (h .size) (h .steps) (h .above)
     where
       go : {left : ℕ} {o : List Float} {rest : Float} → Planning p tau left o rest → left ≡ cap → factorsFinite p o ≡ true → positive (timesNorm p o rest) ≡ true
-          → need ≡ needed (timesNorm p o rest) → T (lt (whole (pos cap)) need) → planWhen (lt 0ᶠ tau) p tau ≡ FirstPlan.OverCap need cap
+          → need ≡ needed (timesNorm p o rest) → T (lt (whole (pos cap)) need) → planAhead x ≡ FirstPlan.OverCap need cap
       go (at-first d) e f s n above = rw n (first-is (over l d s (rw n at above)))
       go (again r w) e f s n above = let k = reached-within (r .reached) in absurd (omega arith)
 
 pub first-plans : FirstPlans
-unfolding firstPlan planIf
-first-plans alpha beta eta bound tau r = (to (ratesOk alpha beta eta tau) (boundOk bound) refl refl, from r)
+unfolding firstPlan planOver planIf
+first-plans x r = (to (firstFailing (inputChecks x)) refl, from r)
   where
-    to : (f b : Bool) → ratesOk alpha beta eta tau ≡ f → boundOk bound ≡ b → planIf f b alpha beta eta bound tau ≡ r → FirstPlanIs alpha beta eta bound tau r
-    to false b ef eb e = subst (FirstPlanIs alpha beta eta bound tau) e (by-5 ef)
-    to true false ef eb e = subst (FirstPlanIs alpha beta eta bound tau) e (by-1 ef eb)
-    to true true ef eb e = passed ef eb (first-when bound alpha beta eta tau r .0 e)
+    checked : (n : ℕ) → Refuses (inputChecks x) n → FirstPlanIs x (FirstPlan.Refused n)
+    checked n (here f) = by-5 f
+    checked n (Checks.later f (here b)) = by-1 f b
 
-    from : (r : FirstPlan) → FirstPlanIs alpha beta eta bound tau r → planIf (ratesOk alpha beta eta tau) (boundOk bound) alpha beta eta bound tau ≡ r
-    from r (by-5 ef) = rw ef
-    from r (by-1 ef eb) = rw (ef, eb)
-    from r (passed ef eb c) = rw (ef, eb) (first-when bound alpha beta eta tau r .1 c)
+    to : (v : Verdict) → firstFailing (inputChecks x) ≡ v → planIf v (planAhead x) ≡ r → FirstPlanIs x r
+    to passes t e = let (f, b) = input-passes x t in passed f b (first-when x r .0 e)
+    to (refused n) t e = subst (FirstPlanIs x) e (checked n (first-failing (inputChecks x) n .0 t))
+
+    from : (r : FirstPlan) → FirstPlanIs x r → planIf (firstFailing (inputChecks x)) (planAhead x) ≡ r
+    from r (by-5 f) = rw (rates-refused x f)
+    from r (by-1 f b) = rw (bound-refused x f b)
+    from r (passed f b c) = rw (all-passed x f b) (first-when x r .1 c)

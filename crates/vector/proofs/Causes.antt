@@ -15,8 +15,9 @@ use Rattle.elementary.specs.Reply.{Reply, value, refusal}
 use Rattle.elementary.proofs.Order.{lt→not-ge}
 use Rattle.series.specs.Vectors.{tab, fill, fold, smaller}
 use Rattle.series.specs.Series.{leftAt, rightAt}
-use Rattle.vector.specs.Run.{Ended, vector, overCap, failed, Fixed, Going, Turn, going, ended, cap, needed, start, begin, divided, rebalances, rebalance, next, stepped, turn, runOn, fixed, diagonalFinite, firstIf, firstTurn, runFor, run}
+use Rattle.vector.specs.Run.{Ended, vector, overCap, failed, Fixed, Going, Turn, going, ended, cap, needed, start, begin, divided, rebalances, rebalance, next, stepped, turn, runOn, fixed, diagonalFinite, firstIf, firstTurn, runFor, run, runFrom}
 use Rattle.vector.specs.Causes.{Reached, first, later, GoingKeeps, RunsEnd, stepSum, Rebalancing, weightsPositive, Planning, at-first, again, factorsFinite, timesNorm, PlanFails, by-factor, by-norm, RunFails, by-diagonal, by-plan, by-series, by-weight, RunsFail, CapReported, CapReports}
+use Rattle.vector.specs.declared.RunInput.{RunInput}
 use Rattle.vector.proofs.Plans.{planned-some, planned-within, planned-same}
 use Rattle.vector.proofs.RunLaws.{on-ended}
 use Rattle.vector.proofs.Turns.{Any, TurnOk, begin-ok}
@@ -85,7 +86,7 @@ module _ (p : Fixed) (tau : Float) where
 
   -- ==== the run and the states that it reaches
   meets : {b : ℕ} {t : Turn} → Reached p tau b t → runFor true p tau ≡ runOn b p t
-  unfolding runFor runOn
+  unfolding runFrom runOn
   meets first = refl
   meets (later r) = meets r
 
@@ -103,7 +104,7 @@ module _ (p : Fixed) (tau : Float) where
   goes-on (suc b) (going g) h = goes-on b (turn p b g) (later h)
 
   reaches : (r : Ended) → runFor true p tau ≡ r → Ends r
-  unfolding runFor
+  unfolding runFrom
   reaches r e = subst Ends e (goes-on cap _ first)
 
   -- ==== from a cause to its state
@@ -154,22 +155,21 @@ going-keeps p tau b g r = caused p tau r .1
 
 pub runs-end : RunsEnd
 unfolding run
-runs-end bound alpha beta eta tau r e = let p = fixed bound alpha beta eta in rw e (reaches p tau r, λ h. meets-end p tau (h .1))
+runs-end x r e = let p = fixed x in rw e (reaches p (x .tau) r, λ h. meets-end p (x .tau) (h .1))
 
 -- an end that is no vector, by its cause
-by-cause : (bound : ℕ) (alpha beta eta tau : Float) (r : Ended) (C : Type 0) → ((w o : List Float) (s : ℕ) → vector w o s ≡ r → _≡_ {A = ℕ} 0 1)
-    → (Ends (fixed bound alpha beta eta) tau r ↔ C) → (run bound alpha beta eta tau ≡ r) ↔ ((lt 0ᶠ tau ≡ true) × C)
-unfolding run runFor
-by-cause bound alpha beta eta tau r C other cause = (go (lt 0ᶠ tau) refl, λ x. runs-end bound alpha beta eta tau r (x .0) .1 (cause .1 (x .1)))
+by-cause : (x : RunInput) (r : Ended) (C : Type 0) → ((w o : List Float) (s : ℕ) → vector w o s ≡ r → _≡_ {A = ℕ} 0 1)
+    → (Ends (fixed x) (x .tau) r ↔ C) → (run x ≡ r) ↔ ((lt 0ᶠ (x .tau) ≡ true) × C)
+unfolding run runFrom
+by-cause x r C other cause = (go (lt 0ᶠ (x .tau)) refl, λ h. runs-end x r (h .0) .1 (cause .1 (h .1)))
   where
-    go : (t : Bool) → lt 0ᶠ tau ≡ t → runFor t (fixed bound alpha beta eta) tau ≡ r → (lt 0ᶠ tau ≡ true) × C
-    go true e i = (e, cause .0 (reaches (fixed bound alpha beta eta) tau r i))
+    go : (t : Bool) → lt 0ᶠ (x .tau) ≡ t → runFor t (fixed x) (x .tau) ≡ r → (lt 0ᶠ (x .tau) ≡ true) × C
+    go true e i = (e, cause .0 (reaches (fixed x) (x .tau) r i))
     go false e i = let z = other _ _ _ i in absurd (omega arith)
 
 pub runs-fail : RunsFail
-runs-fail bound alpha beta eta tau s =
-    let p = fixed bound alpha beta eta in by-cause bound alpha beta eta tau (failed s) (RunFails p tau s) (λ w o n e. cc) (λ h. caused p tau (h .1) .1, fails p tau)
+runs-fail x s = let p = fixed x in by-cause x (failed s) (RunFails p (x .tau) s) (λ w o n e. cc) (λ h. caused p (x .tau) (h .1) .1, fails p (x .tau))
 
 pub cap-reports : CapReports
-cap-reports bound alpha beta eta tau need b =
-    let p = fixed bound alpha beta eta in by-cause bound alpha beta eta tau (overCap need b) (CapReported p tau need b) (λ w o n e. cc) (λ h. caused p tau (h .1) .1, reports p tau)
+cap-reports x need b =
+    let p = fixed x in by-cause x (overCap need b) (CapReported p (x .tau) need b) (λ w o n e. cc) (λ h. caused p (x .tau) (h .1) .1, reports p (x .tau))

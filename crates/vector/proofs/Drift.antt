@@ -1,31 +1,32 @@
--- At drift 0, of either sign, the diagonal, its magnitudes and so every plan and every run are those of before; and two rows are enough for the first plan. Assumes nothing.
+-- Without a drift, beta being a zero of either sign, the diagonal, its magnitudes and so every plan and every run are those without any beta; and two rows are enough for the first plan. Assumes nothing.
 use mathlib.Core.Path.{_≡_, refl, sym, ap, _∙_}
 use Prim.Native.Nat.{ℕ, suc, _-_, _≤_, _<_}
 use native.Mathlib.Nat.{le-trans}
-use mathlib.Core.Bool.{Bool, true, false, and-true, true≢false}
-use mathlib.Core.List.{List}
+use mathlib.Core.Bool.{Bool, true, false, true≢false}
 use lib.IntN.{ℤ, pos, negsuc, natAbs}
 use lib.Dec.{T}
-use lib.Ieee.{Float, binary64, minus, eq, lt}
+use lib.Ieee.{Float, binary64, minus, eq, ofBits}
 use lib.Ieee.Fits.{mul-fits}
 use Rattle.elementary.specs.Float.{_⊕_, _⊗_, whole, 0ᶠ, 1ᶠ, 2ᶠ, finite, positive}
+use Rattle.elementary.specs.Checks.{Verdict, passes, refused, firstFailing}
 use Rattle.elementary.proofs.Signs.{nonneg, ofInt-neg, finite-neg}
 use Rattle.elementary.proofs.Exact.{zero-is}
 use Rattle.elementary.proofs.Zeros.{zero-test, zero-times, zero-finite, sub-nothing}
 use Rattle.series.specs.Vectors.{tab, at, larger, abs}
-use Rattle.series.specs.Series.{diagonalAt}
-use Rattle.vector.specs.Run.{magnitudes, Fixed, cap, boundOk, rows, start, runOn, fixed, wholePlan, diagonalFinite, firstIf, firstTurn, runFor, run}
-use Rattle.vector.specs.Values.{vectorBy, vectorIf, ratesOk, valueVector}
-use Rattle.vector.specs.Count.{planIn, planWhen, planIf, firstPlan, firstNorm, rowSum, TwoRows}
-use Rattle.vector.specs.Refusals.{numerical}
+use Rattle.series.specs.Series.{diagonalAt, rows}
+use Rattle.vector.specs.Run.{magnitudes, Fixed, cap, boundOk, start, runOn, fixed, wholePlan, diagonalFinite, firstIf, firstTurn, runFor, run}
+use Rattle.vector.specs.Values.{vectorBy, vectorIf, ratesOk, valueVector, vectorOver, inputChecks}
+use Rattle.vector.specs.Count.{planIn, planWhen, planIf, firstPlan, firstNorm, rowSum, TwoRows, planAhead, planOver}
+use Rattle.series.specs.Refusals.{numerical}
 use Rattle.vector.specs.Inner.{planFor, aheadOf}
 use Rattle.vector.specs.declared.FirstPlan.the-variants as FirstPlan
-use Rattle.vector.specs.Drift.{diagonalBefore, fixedBefore, runForBefore, runBefore, planWhenBefore, ratesOkBefore, vectorIfBefore, valueVectorBefore, planIfBefore, firstPlanBefore, DriftZero}
+use Rattle.vector.specs.Drift.{DriftZero, driftlessDiagonal, driftlessFixed, driftlessRun, driftlessPlan, driftlessInput, driftlessVector, driftlessFirst}
 use Rattle.series.proofs.Lists.{at-tab, tab-ext}
-use Rattle.vector.proofs.Bounds.{bound-range, rates-above}
+use Rattle.vector.proofs.Bounds.{bound-range, rates-above, input-passes}
 use Rattle.series.proofs.Extremes.{above-zero}
+use Rattle.vector.specs.declared.RunInput.{RunInput}
 use Rattle.vector.proofs.Lots.{lots, square-is}
-use Rattle.vector.proofs.Rows.{whole-finite, square-nonneg, few-lots, few-rows, entry-nonneg, two-rows-before, sized-finite}
+use Rattle.vector.proofs.Rows.{whole-finite, square-nonneg, few-lots, few-rows, entry-nonneg, two-rows-driftless, sized-finite}
 use Rattle.vector.proofs.Ahead.{begins, ahead-is, ahead-fails}
 
 abs-nonneg : (x : Float) → T (nonneg x) → abs x ≡ x
@@ -38,7 +39,7 @@ lots-finite (negsuc n) h = rw (ofInt-neg binary64 n, finite-neg (whole (pos (suc
 
 module _ (b : ℕ) (alpha eta : Float) (ok : boundOk b ≡ true) (pa : positive alpha ≡ true) (pe : positive eta ≡ true) where
   abbrev old : Fixed
-  old = fixedBefore b alpha eta
+  old = driftlessFixed b alpha eta
 
   -- ---- the diagonal and its magnitudes
   pub square-above : (i : ℕ) → i < rows b → T (nonneg (alpha ⊗ whole (minus i b) ⊗ whole (minus i b)))
@@ -48,94 +49,106 @@ module _ (b : ℕ) (alpha eta : Float) (ok : boundOk b ≡ true) (pa : positive 
   row-finite i h = lots-finite (minus i b) (le-trans (few-rows b i h) (bound-range b ok .1))
 
   module _ (beta : Float) (z : eq beta 0ᶠ ≡ true) where
-    pub entry-before : (i : ℕ) → i < rows b → diagonalAt b alpha beta eta i ≡ diagonalBefore b alpha eta i
-    unfolding diagonalAt diagonalBefore
-    entry-before i h =
+    pub entry-driftless : (i : ℕ) → i < rows b → diagonalAt b alpha beta eta i ≡ driftlessDiagonal b alpha eta i
+    unfolding diagonalAt driftlessDiagonal
+    entry-driftless i h =
         let q = whole (minus i b) in
         ap (λ (y : Float). y ⊕ 2ᶠ ⊗ eta) (sub-nothing binary64 (alpha ⊗ q ⊗ q) (zero-times binary64 q (zero-test binary64 beta z) (row-finite i h)) (square-above i h) (mul-fits binary64 (alpha ⊗ q) q))
 
-    pub fixed-before : fixed b alpha beta eta ≡ old
-    unfolding magnitudes fixed fixedBefore
-    fixed-before = rw (
-      tab-ext (rows b) (diagonalAt b alpha beta eta) (diagonalBefore b alpha eta) entry-before,
-      tab-ext (rows b) (λ i. abs (at (tab (rows b) (diagonalBefore b alpha eta)) i)) (diagonalBefore b alpha eta)
-          (λ i h. rw (at-tab (rows b) (diagonalBefore b alpha eta) i h) (abs-nonneg _ (entry-nonneg b alpha eta ok pa pe i h))),
-    )
-
   -- ---- a diagonal that is not finite fails the first plan by its norm
-  pub first-before : (tau : Float) → firstTurn old tau ≡ wholePlan old tau
+  pub first-driftless : (tau : Float) → firstTurn old tau ≡ wholePlan old tau
   unfolding firstIf start
-  first-before tau = go (diagonalFinite old) (positive (tau ⊗ firstNorm old)) refl refl
+  first-driftless tau = go (diagonalFinite old) (positive (tau ⊗ firstNorm old)) refl refl
     where
       go : (t s : Bool) → diagonalFinite old ≡ t → positive (tau ⊗ firstNorm old) ≡ s → firstIf t old tau ≡ wholePlan old tau
       go true s e k = refl
       go false true e k = absurd (true≢false (sym (sized-finite b alpha eta ok pa pe tau k) ∙ e))
       go false false e k = sym (begins old tau false k)
 
-  run-old : (t : Bool) (tau : Float) → runFor t old tau ≡ runForBefore t old tau
-  unfolding runFor runForBefore
-  run-old false tau = refl
-  run-old true tau = ap (runOn cap old) (first-before tau)
+-- ---- numbers without a drift
+module _ (x : RunInput) (ok : boundOk (x .bound) ≡ true) (pa : positive (x .alpha) ≡ true) (z : eq (x .beta) 0ᶠ ≡ true) (pe : positive (x .eta) ≡ true) where
+  abbrev driftless : Fixed
+  driftless = driftlessFixed (x .bound) (x .alpha) (x .eta)
 
-  plan-old : (t : Bool) (tau : Float) → planWhen t old tau ≡ planWhenBefore t old tau
-  unfolding planWhen planWhenBefore
-  plan-old false tau = refl
-  plan-old true tau = ap planIn (first-before tau)
+  abbrev entry : ℕ → Float
+  entry = driftlessDiagonal (x .bound) (x .alpha) (x .eta)
+
+  fixed-driftless : fixed x ≡ driftless
+  unfolding magnitudes fixed driftlessFixed
+  fixed-driftless = rw (
+    tab-ext (rows (x .bound)) (diagonalAt (x .bound) (x .alpha) (x .beta) (x .eta)) entry (entry-driftless (x .bound) (x .alpha) (x .eta) ok pa pe (x .beta) z),
+    tab-ext (rows (x .bound)) (λ i. abs (at (tab (rows (x .bound)) entry) i)) entry
+        (λ i h. rw (at-tab (rows (x .bound)) entry i h) (abs-nonneg _ (entry-nonneg (x .bound) (x .alpha) (x .eta) ok pa pe i h))),
+  )
+
+  begun-driftless : firstTurn (fixed x) (x .tau) ≡ wholePlan driftless (x .tau)
+  begun-driftless = ap (λ (p : Fixed). firstTurn p (x .tau)) fixed-driftless ∙ first-driftless (x .bound) (x .alpha) (x .eta) ok pa pe (x .tau)
+
+  -- ---- the first plan from two rows
+  abbrev twoNorm : Float
+  twoNorm = larger (rowSum (x .alpha) (x .eta) (x .bound) 1ᶠ) (rowSum (x .alpha) (x .eta) (x .bound - 1) 2ᶠ)
+
+  norms : firstNorm driftless ≡ twoNorm
+  norms = two-rows-driftless (x .bound) (x .alpha) (x .eta) ok pa pe
+
+  two-norm : firstNorm (fixed x) ≡ twoNorm
+  two-norm = ap (λ (p : Fixed). firstNorm p) fixed-driftless ∙ norms
+
+  sizes : x .tau ⊗ firstNorm driftless ≡ x .tau ⊗ twoNorm
+  sizes = ap (λ (y : Float). x .tau ⊗ y) norms
+
+  pub two-ahead : positive (x .tau ⊗ twoNorm) ≡ true → aheadOf (planFor (x .tau ⊗ twoNorm) (x .tau) cap) ≡ planIn (firstTurn (fixed x) (x .tau))
+  two-ahead e =
+      ap (λ (y : Float). aheadOf (planFor y (x .tau) cap)) (sym sizes)
+      ∙ sym (ap planIn begun-driftless ∙ ahead-is driftless (x .tau) (ap positive sizes ∙ e))
+
+  pub two-fail : positive (x .tau ⊗ twoNorm) ≡ false → FirstPlan.Refused numerical ≡ planIn (firstTurn (fixed x) (x .tau))
+  two-fail e = sym (ap planIn begun-driftless ∙ ahead-fails driftless (x .tau) (ap positive sizes ∙ e))
 
 pub two-rows : TwoRows
-two-rows b alpha beta eta ok pa z pe = ap (λ (p : Fixed). firstNorm p) (fixed-before b alpha eta ok pa pe beta z) ∙ two-rows-before b alpha eta ok pa pe
+two-rows x ok pa z pe = two-norm x ok pa z pe
 
--- ---- the first plan from two rows
-module _ (b : ℕ) (alpha beta eta tau : Float) (ok : boundOk b ≡ true) (pa : positive alpha ≡ true) (z : eq beta 0ᶠ ≡ true) (pe : positive eta ≡ true) where
-  abbrev twoSize : Float
-  twoSize = tau ⊗ larger (rowSum alpha eta b 1ᶠ) (rowSum alpha eta (b - 1) 2ᶠ)
+-- ---- the replies
+module _ (x : RunInput) (z : eq (x .beta) 0ᶠ ≡ true) where
+  abbrev bare : RunInput
+  bare = driftlessInput (x .alpha) (x .eta) (x .bound) (x .tau)
 
-  sizes : tau ⊗ firstNorm (fixedBefore b alpha eta) ≡ twoSize
-  sizes = ap (λ (x : Float). tau ⊗ x) (two-rows-before b alpha eta ok pa pe)
+  -- the checks ask of beta only whether it is finite
+  rates-driftless : ratesOk x ≡ ratesOk bare
+  unfolding ratesOk finite ofBits
+  rates-driftless = rw (zero-finite (zero-test binary64 (x .beta) z))
 
-  begun-before : firstTurn (fixed b alpha beta eta) tau ≡ wholePlan (fixedBefore b alpha eta) tau
-  begun-before = ap (λ (p : Fixed). firstTurn p tau) (fixed-before b alpha eta ok pa pe beta z) ∙ first-before b alpha eta ok pa pe tau
+  runs-driftless : boundOk (x .bound) ≡ true → ratesOk x ≡ true → run x ≡ driftlessRun (x .alpha) (x .eta) (x .bound) (x .tau)
+  unfolding run driftlessRun
+  runs-driftless ok r =
+      let (pa, pb, pe) = rates-above x r in
+      rw (begun-driftless x ok pa z pe, fixed-driftless x ok pa z pe)
 
-  pub two-ahead : positive twoSize ≡ true → aheadOf (planFor twoSize tau cap) ≡ planIn (firstTurn (fixed b alpha beta eta) tau)
-  two-ahead e =
-      ap (λ (x : Float). aheadOf (planFor x tau cap)) (sym sizes)
-      ∙ sym (ap planIn begun-before ∙ ahead-is (fixedBefore b alpha eta) tau (ap positive sizes ∙ e))
+  plans-driftless : boundOk (x .bound) ≡ true → ratesOk x ≡ true → planAhead x ≡ driftlessPlan (x .alpha) (x .eta) (x .bound) (x .tau)
+  unfolding planAhead driftlessPlan
+  plans-driftless ok r = let (pa, pb, pe) = rates-above x r in rw (begun-driftless x ok pa z pe)
 
-  pub two-fail : positive twoSize ≡ false → FirstPlan.Refused numerical ≡ planIn (firstTurn (fixed b alpha beta eta) tau)
-  two-fail e = sym (ap planIn begun-before ∙ ahead-fails (fixedBefore b alpha eta) tau (ap positive sizes ∙ e))
+  vectors-driftless : valueVector x ≡ driftlessVector (x .alpha) (x .eta) (x .bound) (x .tau)
+  unfolding valueVector driftlessVector vectorOver vectorIf
+  vectors-driftless = rw (← rates-driftless) (go (firstFailing (inputChecks x)) refl)
+    where
+      go : (v : Verdict) → firstFailing (inputChecks x) ≡ v
+          → vectorIf v (vectorBy (rows (x .bound)) (run x)) ≡ vectorIf v (vectorBy (rows (x .bound)) (driftlessRun (x .alpha) (x .eta) (x .bound) (x .tau)))
+      go passes e = let (r, ok) = input-passes x e in ap (vectorBy (rows (x .bound))) (runs-driftless ok r)
+      go (refused n) e = refl
 
--- ---- the checks, and the replies
-rates-before : (alpha beta eta tau : Float) → eq beta 0ᶠ ≡ true → ratesOk alpha beta eta tau ≡ ratesOkBefore alpha eta tau
-unfolding ratesOk ratesOkBefore
-rates-before alpha beta eta tau z = rw (zero-finite (zero-test binary64 beta z), and-true (positive alpha))
-
-runs-before : (b : ℕ) (alpha beta eta tau : Float) → boundOk b ≡ true → ratesOk alpha beta eta tau ≡ true → eq beta 0ᶠ ≡ true → run b alpha beta eta tau ≡ runBefore b alpha eta tau
-unfolding run runBefore
-runs-before b alpha beta eta tau ok r z =
-    let (pa, pb, pe) = rates-above alpha beta eta tau r in rw (fixed-before b alpha eta ok pa pe beta z) (run-old b alpha eta ok pa pe (lt 0ᶠ tau) tau)
-
-plans-before : (b : ℕ) (alpha beta eta tau : Float) → boundOk b ≡ true → ratesOk alpha beta eta tau ≡ true → eq beta 0ᶠ ≡ true
-    → planWhen (lt 0ᶠ tau) (fixed b alpha beta eta) tau ≡ planWhenBefore (lt 0ᶠ tau) (fixedBefore b alpha eta) tau
-plans-before b alpha beta eta tau ok r z =
-    let (pa, pb, pe) = rates-above alpha beta eta tau r in rw (fixed-before b alpha eta ok pa pe beta z) (plan-old b alpha eta ok pa pe (lt 0ᶠ tau) tau)
-
-vectors-before : (alpha beta eta : Float) (b : ℕ) (tau : Float) → eq beta 0ᶠ ≡ true → valueVector alpha beta eta b tau ≡ valueVectorBefore alpha eta b tau
-unfolding valueVector valueVectorBefore vectorIf vectorIfBefore
-vectors-before alpha beta eta b tau z = rw (← rates-before alpha beta eta tau z) (go (ratesOk alpha beta eta tau) (boundOk b) refl refl)
-  where
-    go : (f t : Bool) → ratesOk alpha beta eta tau ≡ f → boundOk b ≡ t → vectorIf f t alpha beta eta b tau ≡ vectorIfBefore f t alpha eta b tau
-    go false t r ok = refl
-    go true false r ok = refl
-    go true true r ok = ap (vectorBy (rows b)) (runs-before b alpha beta eta tau ok r z)
-
-first-plans-before : (alpha beta eta : Float) (b : ℕ) (tau : Float) → eq beta 0ᶠ ≡ true → firstPlan alpha beta eta b tau ≡ firstPlanBefore alpha eta b tau
-unfolding firstPlan firstPlanBefore planIf planIfBefore
-first-plans-before alpha beta eta b tau z = rw (← rates-before alpha beta eta tau z) (go (ratesOk alpha beta eta tau) (boundOk b) refl refl)
-  where
-    go : (f t : Bool) → ratesOk alpha beta eta tau ≡ f → boundOk b ≡ t → planIf f t alpha beta eta b tau ≡ planIfBefore f t alpha eta b tau
-    go false t r ok = refl
-    go true false r ok = refl
-    go true true r ok = plans-before b alpha beta eta tau ok r z
+  first-plans-driftless : firstPlan x ≡ driftlessFirst (x .alpha) (x .eta) (x .bound) (x .tau)
+  unfolding firstPlan driftlessFirst planOver planIf
+  first-plans-driftless = rw (← rates-driftless) (go (firstFailing (inputChecks x)) refl)
+    where
+      go : (v : Verdict) → firstFailing (inputChecks x) ≡ v → planIf v (planAhead x) ≡ planIf v (driftlessPlan (x .alpha) (x .eta) (x .bound) (x .tau))
+      go passes e = let (r, ok) = input-passes x e in plans-driftless ok r
+      go (refused n) e = refl
 
 pub drift-zero : DriftZero
-drift-zero = record { runs = runs-before; plans = plans-before; vectors = vectors-before; first = first-plans-before }
+drift-zero = record {
+  runs = λ x ok r z. runs-driftless x z ok r;
+  plans = λ x ok r z. plans-driftless x z ok r;
+  vectors = vectors-driftless;
+  first = first-plans-driftless;
+}

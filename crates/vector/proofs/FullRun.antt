@@ -13,14 +13,14 @@ use lib.Ieee.{Float, nan, inf, lt}
 use Rattle.elementary.specs.Float.{_⊕_, _⊗_, 0ᶠ, 1ᶠ, finite, positive}
 use Rattle.elementary.specs.Elementary.{LN, orNan}
 use Rattle.series.specs.Vectors.{tab, at, fill, every, fold, smaller}
-use Rattle.series.specs.Series.{diagonalAt, leftAt}
-use Rattle.vector.specs.Run.{failed, cap, rows, fixedOver, begin, divided, rebalances, runOn, run}
+use Rattle.series.specs.Series.{diagonalAt, leftAt, rows}
+use Rattle.vector.specs.Run.{failed, cap, fixedOver, begin, divided, rebalances, runOn, run}
 use Rattle.vector.specs.Values.{room, padded}
-use Rattle.series.specs.Slices.{Fit}
+use Rattle.series.specs.Slices.{Fit, rightBy}
 use Rattle.vector.specs.Inner.{planOf, stoppedOf, AfterBy, AfterIs, BegunIs, EndIs}
 use Rattle.series.specs.Half.{filledOut, fullSize, fullFactors, full, Centred}
 use Rattle.vector.specs.Half.{fullFixed, RowsStand}
-use Rattle.series.specs.Slices.{rightBy}
+use Rattle.vector.specs.declared.RunInput.{RunInput}
 use Rattle.vector.specs.declared.Outcome.{Outcome}
 use Rattle.vector.specs.declared.Outcome.the-variants as Outcome
 use Rattle.vector.specs.declared.plan.Planned.{Planned}
@@ -95,21 +95,21 @@ module _ (h : Bool) (n : ℕ) (some : 1 ≤ n) (a : Pace) (v o : List Float) (r 
       rw (← good, ← low, ← all) (after-by _ _ _ x)
 
 -- ---- the whole run by its first n rows
-module _ (h : Bool) (n bound : ℕ) (alpha beta eta tau : Float) (some : 1 ≤ n) (stand : RowsStand h n bound alpha beta eta) (later : lt 0ᶠ tau ≡ true) where
+module _ (h : Bool) (n : ℕ) (x : RunInput) (some : 1 ≤ n) (stand : RowsStand h n (x .bound) (x .alpha) (x .beta) (x .eta)) (later : lt 0ᶠ (x .tau) ≡ true) where
   abbrev entries : ℕ → List Float
-  entries k = tab k (diagonalAt bound alpha beta eta)
+  entries k = tab k (diagonalAt (x .bound) (x .alpha) (x .beta) (x .eta))
 
-  all-finite : every n (λ i. finite (at (entries n) i)) ≡ every (rows bound) (λ i. finite (at (entries (rows bound)) i))
-  all-finite = every-with h n some (λ x y. finite x) (entries n) (entries n) ∙ ap₂ (λ (k : ℕ) (l : List Float). every k (λ i. finite (at l i))) (stand .sized) (stand .diagonals)
+  all-finite : every n (λ i. finite (at (entries n) i)) ≡ every (rows (x .bound)) (λ i. finite (at (entries (rows (x .bound))) i))
+  all-finite = every-with h n some (λ y z. finite y) (entries n) (entries n) ∙ ap₂ (λ (k : ℕ) (l : List Float). every k (λ i. finite (at l i))) (stand .sized) (stand .diagonals)
 
   pub run-full : (d o : List Float) (q : Outcome) (w′ o′ : List Float) → d ≡ entries n → o ≡ fill n 0ᶠ → every n (λ i. finite (at (entries n) i)) ≡ true
-      → EndIs (runOn cap (fullFixed h n d eta) (begin (fullFixed h n d eta) cap (fill (fullSize h n) 1ᶠ) (full h n o) tau)) q w′ o′ → EndIs (run bound alpha beta eta tau) q w′ o′
-  run-full d o q w′ o′ ed eo f x =
-      run-later bound alpha beta eta tau (full h n d) (full h n o) q w′ o′ later (ap (full h n) ed ∙ stand .diagonals)
-      (ap (full h n) eo ∙ full-fill h n some 0ᶠ ∙ ap (λ (k : ℕ). fill k 0ᶠ) (stand .sized)) (sym all-finite ∙ f) (rw (stand .sized) at x)
+      → EndIs (runOn cap (fullFixed h n d (x .eta)) (begin (fullFixed h n d (x .eta)) cap (fill (fullSize h n) 1ᶠ) (full h n o) (x .tau))) q w′ o′ → EndIs (run x) q w′ o′
+  run-full d o q w′ o′ ed eo f e =
+      run-later x (full h n d) (full h n o) q w′ o′ later (ap (full h n) ed ∙ stand .diagonals)
+      (ap (full h n) eo ∙ full-fill h n some 0ᶠ ∙ ap (λ (k : ℕ). fill k 0ᶠ) (stand .sized)) (sym all-finite ∙ f) (rw (stand .sized) at e)
 
-  pub run-full-refused : every n (λ i. finite (at (entries n) i)) ≡ false → run bound alpha beta eta tau ≡ failed 0
-  run-full-refused f = run-refused bound alpha beta eta tau later (sym all-finite ∙ f)
+  pub run-full-refused : every n (λ i. finite (at (entries n) i)) ≡ false → run x ≡ failed 0
+  run-full-refused f = run-refused x later (sym all-finite ∙ f)
 
 -- ---- an array whose first n rows are l's, filled out to all rows
 module _ (h : Bool) (n : ℕ) (a l : List Float) (e : a ≡ padded n l) (long : length l ≡ n) (some : 1 ≤ n) where

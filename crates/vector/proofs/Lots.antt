@@ -9,7 +9,7 @@ use lib.Dec.{leb}
 use lib.Ieee.{Float, binary64, minus}
 use Rattle.elementary.specs.Float.{_⊕_, _⊗_, whole, 2ᶠ}
 use Rattle.elementary.proofs.Signs.{mul-neg-right, mul-neg-neg, ofInt-neg}
-use Rattle.vector.specs.Drift.{diagonalBefore}
+use Rattle.vector.specs.Drift.{driftlessDiagonal}
 
 pub lots : ℕ → ℕ → ℕ
 lots b i = natAbs (minus i b)
@@ -34,6 +34,6 @@ pub square-is : (b : ℕ) (x : Float) (i : ℕ) → x ⊗ whole (minus i b) ⊗ 
 unfolding lots
 square-is b x i = square-of x (minus i b)
 
-pub diagonal-is : (b : ℕ) (alpha eta : Float) (i : ℕ) → diagonalBefore b alpha eta i ≡ alpha ⊗ whole (pos (lots b i)) ⊗ whole (pos (lots b i)) ⊕ 2ᶠ ⊗ eta
-unfolding diagonalBefore
+pub diagonal-is : (b : ℕ) (alpha eta : Float) (i : ℕ) → driftlessDiagonal b alpha eta i ≡ alpha ⊗ whole (pos (lots b i)) ⊗ whole (pos (lots b i)) ⊕ 2ᶠ ⊗ eta
+unfolding driftlessDiagonal
 diagonal-is b alpha eta i = rw (square-is b alpha i)

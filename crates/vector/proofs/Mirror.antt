@@ -11,10 +11,11 @@ use lib.Ieee.Fits.{add-fits}
 use Rattle.elementary.specs.Float.{_⊕_, _⊖_, _⊗_, hex, 0ᶠ, 1ᶠ, finite, positive}
 use Rattle.elementary.specs.Reply.{Reply}
 use Rattle.elementary.proofs.Signs.{add-comm-f}
-use Rattle.series.specs.Vectors.{tab, at, fill, every, fold, larger, smaller}
-use Rattle.series.specs.Series.{leftAt, rightAt}
-use Rattle.vector.specs.Run.{cap, Ended, vector, overCap, failed, magnitudes, fixedOver, Going, Turn, going, ended, norm, start, begin, divided, rebalances, rebalance, next, stepped, stepOperator, turn, runOn, diagonalFinite, firstIf, runFor}
-use Rattle.vector.specs.Promises.{Mirror, MirrorEnd, MirrorRuns}
+use Rattle.series.specs.Vectors.{tab, at, fill, every, fold, larger, smaller, before, after, Mirror}
+use Rattle.series.specs.Series.{leftAt, rightAt, Operator, rowAt, applied, term, plus, bothFinite, converged, Sum, summing, summed, judge, nextTerm, series, taylorStep}
+use Rattle.vector.specs.Run.{cap, Ended, vector, overCap, failed, magnitudes, fixedOver, Going, Turn, going, ended, norm, start, begin, divided, rebalances, rebalance, next, stepped, stepOperator, turn, runOn, diagonalFinite, firstIf, runFor, runFrom}
+use Rattle.series.specs.Refusals.{numerical}
+use Rattle.vector.specs.Promises.{MirrorEnd, MirrorRuns}
 use Rattle.series.proofs.Lists.{Opposite, length-tab, every-mirror}
 use Rattle.series.proofs.Extremes.{largest-mirror, smallest-mirror}
 use Rattle.series.proofs.Mirror.{mirror-sym, tab-mirror, Replies, values, refusals, taylor-replies, factors}
@@ -136,7 +137,7 @@ module _ (n : ℕ) (d d′ : List Float) (D : Mirror n d d′) (eta : Float) whe
   firsts true tau = begins cap (fill n 1ᶠ) (fill n 1ᶠ) (fill n 0ᶠ) (fill n 0ᶠ) tau (fill-facing n 1ᶠ) (fill-facing n 0ᶠ)
 
   pub ends : (later : Bool) (tau : Float) → Ends n (runFor later (fixedOver n d eta) tau) (runFor later (fixedOver n d′ eta) tau)
-  unfolding runFor
+  unfolding runFrom
   ends false tau = vectors (fill-facing n 1ᶠ) (fill-facing n 0ᶠ)
   ends true tau = rw diagonals-alike (runs cap (firsts (diagonalFinite (fixedOver n d′ eta)) tau))
 

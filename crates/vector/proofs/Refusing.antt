@@ -1,15 +1,16 @@
 -- The value vector is refused just where its floats, its bound or its run are. Assumes nothing.
-use mathlib.Core.Path.{_≡_, refl, subst}
+use mathlib.Core.Path.{_≡_, refl, ap, _∙_}
 use Prim.Native.Nat.{ℕ}
 use native.Mathlib.Omega.{arith}
-use mathlib.Core.Bool.{Bool, true, false}
-use lib.Ieee.{Float}
-use Rattle.elementary.specs.Elementary.{outside}
-use Rattle.vector.specs.Refusals.{configuration, numerical}
-use Rattle.vector.specs.Run.{Ended, vector, overCap, failed, boundOk, rows, run}
-use Rattle.vector.specs.Values.{refusedVector, vectorBy, vectorIf, ratesOk, valueVector}
+use Rattle.elementary.specs.Checks.{Verdict, passes, refused, firstFailing, Refuses, here, later}
+use Rattle.elementary.proofs.Checks.{first-failing}
+use Rattle.series.specs.Refusals.{numerical}
+use Rattle.vector.specs.Run.{Ended, vector, overCap, failed, run}
+use Rattle.series.specs.Series.{rows}
+use Rattle.vector.specs.Values.{refusedVector, vectorBy, vectorIf, vectorOver, inputChecks, valueVector}
 use Rattle.vector.specs.Refusing.{VectorRefused, by-5, by-1, by-11, VectorRefusals}
 use Rattle.vector.specs.declared.Outcome.the-variants as Outcome
+use Rattle.vector.proofs.Bounds.{input-passes, rates-refused, bound-refused, all-passed}
 use Rattle.vector.proofs.Causes.{runs-fail}
 
 failed-by : (m : ℕ) (e : Ended) (n : ℕ) → vectorBy m e .outcome ≡ Outcome.Refused n → (s : ℕ) × (e ≡ failed s) × (n ≡ numerical)
@@ -19,18 +20,22 @@ failed-by m (overCap need b) n i = let z : _≡_ {A = ℕ} 0 1 = cc in absurd (o
 failed-by m (failed s) n i = (s, refl, cc)
 
 pub vector-refusals : VectorRefusals
-unfolding valueVector vectorIf vectorBy refusedVector
-vector-refusals alpha beta eta bound tau n = (to (ratesOk alpha beta eta tau) (boundOk bound) refl refl, from n)
+unfolding valueVector vectorOver vectorIf vectorBy refusedVector
+vector-refusals x n = (to (firstFailing (inputChecks x)) refl, from n)
   where
-    to : (f b : Bool) → ratesOk alpha beta eta tau ≡ f → boundOk bound ≡ b → vectorIf f b alpha beta eta bound tau .outcome ≡ Outcome.Refused n → VectorRefused alpha beta eta bound tau n
-    to false b ef eb i = let z : outside ≡ n = cc in subst (λ (m : ℕ). VectorRefused alpha beta eta bound tau m) z (by-5 ef)
-    to true false ef eb i = let z : configuration ≡ n = cc in subst (λ (m : ℕ). VectorRefused alpha beta eta bound tau m) z (by-1 ef eb)
-    to true true ef eb i =
-        let (s, e, z) = failed-by (rows bound) (run bound alpha beta eta tau) n i in
-        let c = runs-fail bound alpha beta eta tau s .0 e in
-        rw z (by-11 ef eb (c .0) (c .1))
+    checked : (m : ℕ) → Refuses (inputChecks x) m → VectorRefused x m
+    checked m (here f) = by-5 f
+    checked m (later f (here b)) = by-1 f b
 
-    from : (m : ℕ) → VectorRefused alpha beta eta bound tau m → vectorIf (ratesOk alpha beta eta tau) (boundOk bound) alpha beta eta bound tau .outcome ≡ Outcome.Refused m
-    from m (by-5 ef) = rw ef
-    from m (by-1 ef eb) = rw (ef, eb)
-    from m (by-11 {s} ef eb l c) = rw (ef, eb, runs-fail bound alpha beta eta tau s .1 (l, c))
+    to : (v : Verdict) → firstFailing (inputChecks x) ≡ v → vectorIf v (vectorBy (rows (x .bound)) (run x)) .outcome ≡ Outcome.Refused n → VectorRefused x n
+    to passes t i =
+        let (f, b) = input-passes x t in
+        let (s, e, z) = failed-by (rows (x .bound)) (run x) n i in
+        let c = runs-fail x s .0 e in
+        rw z (by-11 f b (c .0) (c .1))
+    to (refused m) t i = let z : m ≡ n = cc in checked n (first-failing (inputChecks x) n .0 (t ∙ ap refused z))
+
+    from : (m : ℕ) → VectorRefused x m → vectorIf (firstFailing (inputChecks x)) (vectorBy (rows (x .bound)) (run x)) .outcome ≡ Outcome.Refused m
+    from m (by-5 f) = rw (rates-refused x f)
+    from m (by-1 f b) = rw (bound-refused x f b)
+    from m (by-11 {s} f b l c) = rw (all-passed x f b, runs-fail x s .1 (l, c))

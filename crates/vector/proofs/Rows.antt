@@ -19,13 +19,13 @@ use Rattle.elementary.proofs.Signs.{nonneg, add-finite, mul-finite}
 use Rattle.elementary.proofs.Order.{ofInt-mono, le-refl-f, lt→le, finite-below, add-nonneg, add-mono, mul-nonneg, mul-number, mul-twice-number, mul-mono, positive-nonneg}
 use Rattle.elementary.proofs.ExpZero.{exp-at-zero}
 use Rattle.series.specs.Vectors.{tab, at, fill, every, larger}
-use Rattle.series.specs.Series.{leftAt, rightAt}
-use Rattle.vector.specs.Run.{rows, norm, boundOk, diagonalFinite}
+use Rattle.series.specs.Series.{leftAt, rightAt, rows}
+use Rattle.vector.specs.Run.{norm, boundOk, diagonalFinite}
 use Rattle.vector.specs.Count.{firstNorm, rowSum}
-use Rattle.vector.specs.Drift.{diagonalBefore, fixedBefore}
 use Rattle.series.proofs.Lists.{at-tab, every-ext, every-true}
 use Rattle.series.proofs.Loops.{fold-at}
 use Rattle.series.proofs.Extremes.{not-above, first-two}
+use Rattle.vector.specs.Drift.{driftlessDiagonal, driftlessFixed}
 use Rattle.vector.proofs.Lots.{lots, lots-of, lots-are, diagonal-is}
 use Rattle.vector.proofs.Plans.{whole-nonneg}
 use Rattle.vector.proofs.Bounds.{bound-range}
@@ -71,12 +71,12 @@ module _ (n : ℕ) where
 -- ---- the sum of each row
 module _ (b : ℕ) (alpha eta : Float) where
   row : ℕ → Float
-  row i = at (tab (rows b) (diagonalBefore b alpha eta)) i ⊕ eta ⊗ (at (tab (rows b) (leftAt (none (rows b)))) i ⊕ at (tab (rows b) (rightAt (rows b) (none (rows b)))) i)
+  row i = at (tab (rows b) (driftlessDiagonal b alpha eta)) i ⊕ eta ⊗ (at (tab (rows b) (leftAt (none (rows b)))) i ⊕ at (tab (rows b) (rightAt (rows b) (none (rows b)))) i)
 
   row-is : (i : ℕ) (l r f : Float) → i < rows b → leftAt (none (rows b)) i ≡ l → rightAt (rows b) (none (rows b)) i ≡ r → l ⊕ r ≡ f → row i ≡ rowSum alpha eta (lots b i) f
   unfolding row rowSum
   row-is i l r f h el er ef =
-      rw (at-tab (rows b) (diagonalBefore b alpha eta) i h, at-tab (rows b) (leftAt (none (rows b))) i h, at-tab (rows b) (rightAt (rows b) (none (rows b))) i h, diagonal-is b alpha eta i, el, er, ef)
+      rw (at-tab (rows b) (driftlessDiagonal b alpha eta) i h, at-tab (rows b) (leftAt (none (rows b))) i h, at-tab (rows b) (rightAt (rows b) (none (rows b))) i h, diagonal-is b alpha eta i, el, er, ef)
 
   -- the end rows, and those between them
   row-first : 1 ≤ b → row 0 ≡ rowSum alpha eta b 1ᶠ
@@ -165,10 +165,10 @@ module _ (alpha eta : Float) (a : T (positive alpha)) (e : T (positive eta)) whe
         add-mono binary64 _ _ _ _ (diag-nonneg m (omega arith)) (diag-nonneg n k) (eta-times f p t) (eta-times f p t) (diag-grows m n h k) (le-refl-f _ (eta-times f p t))
 
 -- ---- the largest of them
-pub two-rows-before : (b : ℕ) (alpha eta : Float) → boundOk b ≡ true → positive alpha ≡ true → positive eta ≡ true
-    → firstNorm (fixedBefore b alpha eta) ≡ larger (rowSum alpha eta b 1ᶠ) (rowSum alpha eta (b - 1) 2ᶠ)
-unfolding norm fixedBefore row rowSum finite ofBits
-two-rows-before b alpha eta ok pa pe =
+pub two-rows-driftless : (b : ℕ) (alpha eta : Float) → boundOk b ≡ true → positive alpha ≡ true → positive eta ≡ true
+    → firstNorm (driftlessFixed b alpha eta) ≡ larger (rowSum alpha eta b 1ᶠ) (rowSum alpha eta (b - 1) 2ᶠ)
+unfolding norm driftlessFixed row rowSum finite ofBits
+two-rows-driftless b alpha eta ok pa pe =
     fold-at larger 0ᶠ (rows b) (suc (suc (2 * b - 1))) f (omega (arith, low))
     ∙ first-two (2 * b - 1) f (rw first (x+, held)) below
     ∙ rw (first, second)
@@ -245,10 +245,10 @@ few-rows b i h = le-trans (le-of-eq (sym (lots-of b i))) (few-lots b i h)
 
 module _ (b : ℕ) (alpha eta : Float) (ok : boundOk b ≡ true) (pa : positive alpha ≡ true) (pe : positive eta ≡ true) where
   -- every entry is at or above zero, and at most that of the end row
-  pub entry-nonneg : (i : ℕ) → i < rows b → T (nonneg (diagonalBefore b alpha eta i))
+  pub entry-nonneg : (i : ℕ) → i < rows b → T (nonneg (driftlessDiagonal b alpha eta i))
   entry-nonneg i h = rw (diagonal-is b alpha eta i) (diag-nonneg alpha eta (rw pa tt) (rw pe tt) (lots b i) (le-trans (few-lots b i h) (bound-range b ok .1)))
 
-  entry-finite : T (finite (rowSum alpha eta b 1ᶠ)) → (i : ℕ) → i < rows b → finite (diagonalBefore b alpha eta i) ≡ true
+  entry-finite : T (finite (rowSum alpha eta b 1ᶠ)) → (i : ℕ) → i < rows b → finite (driftlessDiagonal b alpha eta i) ≡ true
   unfolding rowSum
   entry-finite t i h =
       let few = few-lots b i h in
@@ -256,16 +256,16 @@ module _ (b : ℕ) (alpha eta : Float) (ok : boundOk b ≡ true) (pa : positive 
       rw (diagonal-is b alpha eta i)
       (is-true _ (finite-below _ _ (diag-nonneg alpha eta (rw pa tt) (rw pe tt) (lots b i) (le-trans few high)) (diag-grows alpha eta (rw pa tt) (rw pe tt) (lots b i) b few high) (add-finite binary64 _ _ t .0)))
 
-  end-finite : (tau : Float) → positive (tau ⊗ firstNorm (fixedBefore b alpha eta)) ≡ true → T (finite (rowSum alpha eta b 1ᶠ))
+  end-finite : (tau : Float) → positive (tau ⊗ firstNorm (driftlessFixed b alpha eta)) ≡ true → T (finite (rowSum alpha eta b 1ᶠ))
   unfolding finite ofBits
   end-finite tau h =
       let high = bound-range b ok .1 in
       let x+ = sum-nonneg alpha eta (rw pa tt) (rw pe tt) 1ᶠ tt tt b high in
       let y+ = sum-nonneg alpha eta (rw pa tt) (rw pe tt) 2ᶠ tt tt (b - 1) (omega (arith, high)) in
-      let norm-finite = mul-finite binary64 tau (firstNorm (fixedBefore b alpha eta)) (positive-nonneg (tau ⊗ firstNorm (fixedBefore b alpha eta)) (rw h tt) .1) .1 in
-      finite-below _ _ x+ (first-below _ _ x+ y+) (subst (λ (z : Float). T (finite z)) (two-rows-before b alpha eta ok pa pe) norm-finite)
+      let norm-finite = mul-finite binary64 tau (firstNorm (driftlessFixed b alpha eta)) (positive-nonneg (tau ⊗ firstNorm (driftlessFixed b alpha eta)) (rw h tt) .1) .1 in
+      finite-below _ _ x+ (first-below _ _ x+ y+) (subst (λ (z : Float). T (finite z)) (two-rows-driftless b alpha eta ok pa pe) norm-finite)
 
-  pub sized-finite : (tau : Float) → positive (tau ⊗ firstNorm (fixedBefore b alpha eta)) ≡ true → diagonalFinite (fixedBefore b alpha eta) ≡ true
-  unfolding fixedBefore
+  pub sized-finite : (tau : Float) → positive (tau ⊗ firstNorm (driftlessFixed b alpha eta)) ≡ true → diagonalFinite (driftlessFixed b alpha eta) ≡ true
+  unfolding driftlessFixed
   sized-finite tau h =
-      every-ext (rows b) _ (λ i. true) (λ i k. rw (at-tab (rows b) (diagonalBefore b alpha eta) i k) (entry-finite (end-finite tau h) i k)) ∙ every-true (rows b)
+      every-ext (rows b) _ (λ i. true) (λ i k. rw (at-tab (rows b) (driftlessDiagonal b alpha eta) i k) (entry-finite (end-finite tau h) i k)) ∙ every-true (rows b)

@@ -13,12 +13,12 @@ use Rattle.elementary.specs.Float.{_⊕_, _⊖_, _⊗_, _⊘_, 0ᶠ, 1ᶠ, fini
 use Rattle.elementary.specs.Reply.{Reply, value, refusal}
 use Rattle.elementary.specs.Elementary.{LN, orNan}
 use Rattle.series.specs.Vectors.{tab, at, fill, every, fold, larger, smaller}
-use Rattle.series.specs.Series.{diagonalAt, leftAt, rightAt, taylorStep}
-use Rattle.vector.specs.Run.{Ended, vector, overCap, failed, Fixed, Going, going, ended, cap, rows, start, begin, divided, floor, rebalances, rebalance, next, stepped, stepOperator, turn, runOn, fixedOver, fixed, firstIf, runFor, run}
+use Rattle.series.specs.Series.{diagonalAt, leftAt, rightAt, taylorStep, rows, operatorOver}
+use Rattle.vector.specs.Run.{Ended, vector, overCap, failed, Fixed, Going, going, ended, cap, start, begin, divided, floor, rebalances, rebalance, next, stepped, stepOperator, turn, runOn, fixedOver, fixed, firstIf, runFor, run, runFrom}
 use Rattle.vector.specs.Values.{padded, vectorOf, vectorBy}
-use Rattle.series.specs.Series.{operatorOver}
 use Rattle.vector.specs.Inner.{goingOver, planBy, planOf, pacedOf, askedOf, stoppedOf, endBy, AfterBy, AfterIs, Standing, weightBy, weight, BegunIs, PlanSpent, Between, EndIs}
 use Rattle.series.specs.Half.{StepIs}
+use Rattle.vector.specs.declared.RunInput.{RunInput}
 use Rattle.vector.specs.declared.Outcome.{Outcome}
 use Rattle.vector.specs.declared.Outcome.the-variants as Outcome
 use Rattle.vector.specs.declared.plan.Planned.{Planned}
@@ -231,21 +231,24 @@ pub between-next : (p : Fixed) (r : Ended) (w o w′ o′ : List Float) (a q : P
 between-next p r w o w′ o′ a q s e g = (rw (s .asks e .1) at (g .0), rw e (omega (arith, g .1)))
 
 -- ---- the whole run, and the answer that its end gives
-module _ (bound : ℕ) (alpha beta eta tau : Float) where
+module _ (x : RunInput) where
+  abbrev n : ℕ
+  n = rows (x .bound)
+
   abbrev entries : List Float
-  entries = tab (rows bound) (diagonalAt bound alpha beta eta)
+  entries = tab n (diagonalAt (x .bound) (x .alpha) (x .beta) (x .eta))
 
   abbrev allFinite : Bool
-  allFinite = every (rows bound) (λ i. finite (at entries i))
+  allFinite = every n (λ i. finite (at entries i))
 
-  pub run-later : (d o : List Float) (q : Outcome) (w′ o′ : List Float) → lt 0ᶠ tau ≡ true → d ≡ entries → o ≡ fill (rows bound) 0ᶠ → allFinite ≡ true
-      → EndIs (runOn cap (fixedOver (rows bound) d eta) (begin (fixedOver (rows bound) d eta) cap (fill (rows bound) 1ᶠ) o tau)) q w′ o′ → EndIs (run bound alpha beta eta tau) q w′ o′
-  unfolding run runFor fixed firstIf
-  run-later d o q w′ o′ e ed eo f x = rw (e, f, ← ed, ← eo) x
+  pub run-later : (d o : List Float) (q : Outcome) (w′ o′ : List Float) → lt 0ᶠ (x .tau) ≡ true → d ≡ entries → o ≡ fill n 0ᶠ → allFinite ≡ true
+      → EndIs (runOn cap (fixedOver n d (x .eta)) (begin (fixedOver n d (x .eta)) cap (fill n 1ᶠ) o (x .tau))) q w′ o′ → EndIs (run x) q w′ o′
+  unfolding run runFrom fixed firstIf
+  run-later d o q w′ o′ e ed eo f h = rw (e, f, ← ed, ← eo) h
 
   -- where an entry of the diagonal is not finite
-  pub run-refused : lt 0ᶠ tau ≡ true → allFinite ≡ false → run bound alpha beta eta tau ≡ failed 0
-  unfolding run runFor runOn fixed firstIf
+  pub run-refused : lt 0ᶠ (x .tau) ≡ true → allFinite ≡ false → run x ≡ failed 0
+  unfolding run runFrom runOn fixed firstIf
   run-refused e f = rw (e, f)
 
 -- where it is done, with the vector that it left

@@ -7,8 +7,9 @@ use mathlib.Core.Bool.{Bool, true, false}
 use mathlib.Core.List.{List}
 use lib.Ieee.{Float, lt}
 use Rattle.elementary.specs.Float.{0ᶠ}
-use Rattle.vector.specs.Run.{Ended, vector, overCap, failed, Fixed, Turn, going, ended, cap, turn, runOn, fixed, firstIf, runFor, run, spent}
+use Rattle.vector.specs.Run.{Ended, vector, overCap, failed, Fixed, Turn, going, ended, cap, turn, runOn, fixed, firstIf, runFor, runFrom, run, spent}
 use Rattle.vector.specs.Promises.{StepsWithin, BudgetWithin, SumOf}
+use Rattle.vector.specs.declared.RunInput.{RunInput}
 use Rattle.vector.proofs.Turns.{Any, EndOk, TurnOk, begin-ok, turn-ok}
 
 -- ---- the run, of whatever weights
@@ -30,13 +31,13 @@ unfolding firstIf
 first-ok false p tau = omega arith
 first-ok true p tau = begin-ok Any p cap _ _ tau tt
 
-run-ok : (bound : ℕ) (alpha beta eta tau : Float) → EndOk cap Any (run bound alpha beta eta tau)
-unfolding run runFor
-run-ok bound alpha beta eta tau = go (lt 0ᶠ tau)
+run-ok : (x : RunInput) → EndOk cap Any (run x)
+unfolding run runFrom
+run-ok x = go (lt 0ᶠ (x .tau))
   where
-    go : (later : Bool) → EndOk cap Any (runFor later (fixed bound alpha beta eta) tau)
+    go : (later : Bool) → EndOk cap Any (runFor later (fixed x) (x .tau))
     go false = (tt, omega arith)
-    go true = on-ok Any cap _ _ (le-refl cap) (first-ok _ _ tau)
+    go true = on-ok Any cap _ _ (le-refl cap) (first-ok _ _ (x .tau))
 
 spent-within : (r : Ended) → EndOk cap Any r → spent r ≤ cap
 unfolding spent
@@ -45,7 +46,7 @@ spent-within (overCap need b) e = omega arith
 spent-within (failed s) e = e
 
 pub steps-within : StepsWithin
-steps-within bound alpha beta eta tau = spent-within (run bound alpha beta eta tau) (run-ok bound alpha beta eta tau)
+steps-within x = spent-within (run x) (run-ok x)
 
 pub budget-within : BudgetWithin
-budget-within bound alpha beta eta tau need b e = subst (EndOk cap Any) e (run-ok bound alpha beta eta tau) .0
+budget-within x need b e = subst (EndOk cap Any) e (run-ok x) .0

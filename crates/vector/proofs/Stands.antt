@@ -7,13 +7,13 @@ use lib.IntN.{pos}
 use lib.Ieee.{Float, eq}
 use Rattle.elementary.specs.Float.{_⊕_, _⊗_, whole, 0ᶠ, 2ᶠ, positive}
 use Rattle.series.specs.Vectors.{tab}
-use Rattle.series.specs.Series.{diagonalAt}
-use Rattle.vector.specs.Run.{boundOk, rows}
+use Rattle.series.specs.Series.{diagonalAt, rows}
+use Rattle.vector.specs.Run.{boundOk}
 use Rattle.series.specs.Half.{fullSize, fullFactors}
 use Rattle.vector.specs.Half.{RowsStand}
 use Rattle.vector.proofs.Lots.{lots, lots-are, diagonal-is}
 use Rattle.series.proofs.Full.{full-tab}
-use Rattle.vector.proofs.Drift.{entry-before}
+use Rattle.vector.proofs.Drift.{entry-driftless}
 
 pub all-stand : (b : ℕ) (alpha beta eta : Float) → RowsStand false (rows b) b alpha beta eta
 unfolding fullSize fullFactors
@@ -24,9 +24,9 @@ module _ (b : ℕ) (alpha beta eta : Float) (ok : boundOk b ≡ true) (pa : posi
   opposite-entries : (i j : ℕ) → suc (i + j) ≡ rows b → diagonalAt b alpha beta eta i ≡ diagonalAt b alpha beta eta j
   opposite-entries i j e =
       let same : lots b i ≡ lots b j = lots-are b i ∙ omega arith ∙ sym (lots-are b j) in
-      entry-before b alpha eta ok pa pe beta z i (omega arith)
+      entry-driftless b alpha eta ok pa pe beta z i (omega arith)
       ∙ diagonal-is b alpha eta i ∙ ap (λ (m : ℕ). alpha ⊗ whole (pos m) ⊗ whole (pos m) ⊕ 2ᶠ ⊗ eta) same ∙ sym (diagonal-is b alpha eta j)
-      ∙ sym (entry-before b alpha eta ok pa pe beta z j (omega arith))
+      ∙ sym (entry-driftless b alpha eta ok pa pe beta z j (omega arith))
 
   half-sized : fullSize true (b + 1) ≡ rows b
   unfolding fullSize

@@ -14,9 +14,8 @@ use Rattle.elementary.specs.Float.{_⊕_, _⊖_, _⊗_, whole, 0ᶠ, 2ᶠ, fini
 use Rattle.elementary.proofs.Signs.{neg-neg, mul-neg-left, mul-neg-neg, ofInt-neg}
 use Rattle.elementary.proofs.Zeros.{Zero, zero-of, zero-neg, times-zero, sub-nothing}
 use Rattle.series.specs.Vectors.{tab}
-use Rattle.series.specs.Series.{diagonalAt}
-use Rattle.vector.specs.Run.{Ended, vector, overCap, failed, boundOk, rows, fixedOver, fixed, runFor, run}
-use Rattle.vector.specs.Values.{ratesOk}
+use Rattle.series.specs.Series.{diagonalAt, rows}
+use Rattle.vector.specs.Run.{Ended, vector, overCap, failed, boundOk, fixedOver, fixed, runFor, run}
 use Rattle.vector.specs.Promises.{TurnedMirror, FullLength}
 use Rattle.vector.proofs.Bounds.{rates-above}
 use Rattle.vector.proofs.Lots.{lots, lots-are, square-is}
@@ -78,9 +77,10 @@ module _ (b : ℕ) (alpha beta eta : Float) (ok : boundOk b ≡ true) (pa : posi
 
 pub turned-mirror : TurnedMirror
 unfolding run fixed
-turned-mirror b alpha beta eta tau ok r =
-    let (pa, pb, pe) = rates-above alpha beta eta tau r in
-    mirror-end (rows b) (ends (rows b) _ _ (tab-mirror (rows b) _ _ (diagonal-turned b alpha beta eta ok pa pb pe)) eta (lt 0ᶠ tau) tau)
+turned-mirror x ok r =
+    let (pa, pb, pe) = rates-above x r in
+    let n = rows (x .bound) in
+    mirror-end n (ends n _ _ (tab-mirror n _ _ (diagonal-turned (x .bound) (x .alpha) (x .beta) (x .eta) ok pa pb pe)) (x .eta) (lt 0ᶠ (x .tau)) (x .tau))
 
 -- ---- the lengths: any diagonal has one that mirrors it
 abbrev Long : ℕ → Ended → Type 0
@@ -99,4 +99,4 @@ run-long n f eta later tau =
 
 pub full-length : FullLength
 unfolding run fixed
-full-length bound alpha beta eta tau w o s e = subst (Long (rows bound)) e (run-long (rows bound) (diagonalAt bound alpha beta eta) eta (lt 0ᶠ tau) tau)
+full-length x w o s e = subst (Long (rows (x .bound))) e (run-long (rows (x .bound)) (diagonalAt (x .bound) (x .alpha) (x .beta) (x .eta)) (x .eta) (lt 0ᶠ (x .tau)) (x .tau))

@@ -14,6 +14,7 @@ use Rattle.series.specs.Vectors.{tab, at, fill, every, fold, smaller}
 use Rattle.series.specs.Series.{leftAt, rightAt, taylorStep}
 use Rattle.series.specs.Causes.{SeriesFails}
 use Rattle.vector.specs.Run.{Ended, overCap, failed, Fixed, Going, Turn, going, ended, cap, norm, needed, divided, rebalances, stepOperator, turn, diagonalFinite, firstTurn, fixed, run}
+use Rattle.vector.specs.declared.RunInput.{RunInput}
 
 -- what a run over tau meets: its states, each with the budget left
 pub data Reached (p : Fixed) (tau : Float) : ℕ → Turn → Type 0 where
@@ -26,8 +27,8 @@ GoingKeeps = (p : Fixed) (tau : Float) (b : ℕ) (g : Going) → Reached p tau b
 
 -- the result of a run is the end that it meets
 abbrev pub RunsEnd : Type 0
-RunsEnd = (bound : ℕ) (alpha beta eta tau : Float) (r : Ended) → lt 0ᶠ tau ≡ true
-    → (run bound alpha beta eta tau ≡ r) ↔ ((b : ℕ) × Reached (fixed bound alpha beta eta) tau b (ended r))
+RunsEnd = (x : RunInput) (r : Ended) → lt 0ᶠ (x .tau) ≡ true
+    → (run x ≡ r) ↔ ((b : ℕ) × Reached (fixed x) (x .tau) b (ended r))
 
 -- ---- a step of a run: its sum, or why there is none
 abbrev pub stepSum : Fixed → Going → Reply (List Float)
@@ -74,7 +75,7 @@ pub data RunFails (p : Fixed) (tau : Float) : ℕ → Type 0 where
   by-weight : {b : ℕ} {g : Going} {v : List Float} → Rebalancing p tau b g v → weightsPositive p v ≡ false → RunFails p tau (cap - b)
 
 abbrev pub RunsFail : Type 0
-RunsFail = (bound : ℕ) (alpha beta eta tau : Float) (s : ℕ) → (run bound alpha beta eta tau ≡ failed s) ↔ ((lt 0ᶠ tau ≡ true) × RunFails (fixed bound alpha beta eta) tau s)
+RunsFail = (x : RunInput) (s : ℕ) → (run x ≡ failed s) ↔ ((lt 0ᶠ (x .tau) ≡ true) × RunFails (fixed x) (x .tau) s)
 
 -- ---- why a run reports the cap: a plan does not fail, and the steps that it needs, those reported, are above the budget left
 pub record CapReported (p : Fixed) (tau need : Float) (b : ℕ) : Type 0 where
@@ -87,5 +88,5 @@ pub record CapReported (p : Fixed) (tau need : Float) (b : ℕ) : Type 0 where
   pub above : T (lt (whole (pos b)) need)
 
 abbrev pub CapReports : Type 0
-CapReports = (bound : ℕ) (alpha beta eta tau need : Float) (b : ℕ)
-    → (run bound alpha beta eta tau ≡ overCap need b) ↔ ((lt 0ᶠ tau ≡ true) × CapReported (fixed bound alpha beta eta) tau need b)
+CapReports = (x : RunInput) (need : Float) (b : ℕ)
+    → (run x ≡ overCap need b) ↔ ((lt 0ᶠ (x .tau) ≡ true) × CapReported (fixed x) (x .tau) need b)

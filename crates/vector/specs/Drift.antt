@@ -1,64 +1,48 @@
--- Change request 7: at drift 0 the definitions are those of before, reply for reply. They stand here, over what has stayed. The statement is proved once, in proofs/. Definitions only.
+-- Change request 7: at drift 0 each reply is the one that is reckoned without any beta. What is driftless stands here, over what a drift does not touch. The statement is proved once, in proofs/. Definitions only.
 use mathlib.Core.Path.{_≡_}
 use Prim.Native.Nat.{ℕ}
-use mathlib.Core.Bool.{Bool, true, false, _&&_}
+use mathlib.Core.Bool.{true}
 use lib.Ieee.{Float, eq, lt, minus}
 use Rattle.elementary.specs.Float.{_⊕_, _⊗_, whole, 0ᶠ, 1ᶠ, 2ᶠ, finite, positive}
 use Rattle.elementary.specs.Elementary.{outside}
 use Rattle.vector.specs.Refusals.{configuration}
 use Rattle.series.specs.Vectors.{tab, fill}
-use Rattle.vector.specs.Run.{Ended, vector, Fixed, cap, boundOk, rows, runOn, wholePlan, fixed, run}
-use Rattle.vector.specs.Values.{refusedVector, vectorBy, ratesOk, valueVector}
-use Rattle.vector.specs.Count.{planIn, planWhen, firstPlan}
+use Rattle.vector.specs.Run.{Ended, vector, Fixed, cap, boundOk, runOn, wholePlan, fixed, run, runFrom}
+use Rattle.series.specs.Series.{rows}
+use Rattle.vector.specs.Values.{refusedVector, vectorBy, ratesOk, valueVector, vectorOver}
+use Rattle.vector.specs.Count.{planIn, planWhen, firstPlan, planAhead, planOver}
+use Rattle.vector.specs.declared.RunInput.{RunInput}
 use Rattle.vector.specs.declared.VectorAnswer.{VectorAnswer}
 use Rattle.vector.specs.declared.FirstPlan.{FirstPlan}
-use Rattle.vector.specs.declared.FirstPlan.the-variants as FirstPlan
 
 -- (alpha × q) × q + 2 × eta
-unfoldable pub diagonalBefore : ℕ → Float → Float → ℕ → Float
-diagonalBefore bound alpha eta i = let q = whole (minus i bound) in alpha ⊗ q ⊗ q ⊕ 2ᶠ ⊗ eta
+unfoldable pub driftlessDiagonal : ℕ → Float → Float → ℕ → Float
+driftlessDiagonal bound alpha eta i = let q = whole (minus i bound) in alpha ⊗ q ⊗ q ⊕ 2ᶠ ⊗ eta
 
--- the norm took the diagonal as it is
-unfoldable pub fixedBefore : ℕ → Float → Float → Fixed
-fixedBefore bound alpha eta = let d = tab (rows bound) (diagonalBefore bound alpha eta) in record { n = rows bound; diagonal = d; sizes = d; eta = eta }
+-- the norm takes the diagonal as it is
+unfoldable pub driftlessFixed : ℕ → Float → Float → Fixed
+driftlessFixed bound alpha eta = let d = tab (rows bound) (driftlessDiagonal bound alpha eta) in record { n = rows bound; diagonal = d; sizes = d; eta = eta }
 
--- a run began with its first plan, whatever the diagonal
-unfoldable pub runForBefore : Bool → Fixed → Float → Ended
-runForBefore false p tau = vector (fill (p .n) 1ᶠ) (fill (p .n) 0ᶠ) 0
-runForBefore true p tau = runOn cap p (wholePlan p tau)
+-- a run begins with its first plan, whatever the diagonal
+unfoldable pub driftlessRun : Float → Float → ℕ → Float → Ended
+driftlessRun alpha eta bound tau = let p = driftlessFixed bound alpha eta in runFrom (lt 0ᶠ tau) p (wholePlan p tau)
 
-unfoldable pub runBefore : ℕ → Float → Float → Float → Ended
-runBefore bound alpha eta tau = runForBefore (lt 0ᶠ tau) (fixedBefore bound alpha eta) tau
+unfoldable pub driftlessPlan : Float → Float → ℕ → Float → FirstPlan
+driftlessPlan alpha eta bound tau = planWhen (lt 0ᶠ tau) (wholePlan (driftlessFixed bound alpha eta) tau)
 
-unfoldable pub planWhenBefore : Bool → Fixed → Float → FirstPlan
-planWhenBefore false p tau = FirstPlan.Steps 0
-planWhenBefore true p tau = planIn (wholePlan p tau)
+-- ---- the replies over them; the checks are asked of a beta of 0.0, which passes
+abbrev pub driftlessInput : Float → Float → ℕ → Float → RunInput
+driftlessInput alpha eta bound tau = record { alpha = alpha; beta = 0ᶠ; eta = eta; bound = bound; tau = tau }
 
--- alpha and eta finite and above zero, tau finite; then the bound
-unfoldable pub ratesOkBefore : Float → Float → Float → Bool
-ratesOkBefore alpha eta tau = positive alpha && positive eta && finite tau
+unfoldable pub driftlessVector : Float → Float → ℕ → Float → VectorAnswer
+driftlessVector alpha eta bound tau = vectorOver (driftlessRun alpha eta bound tau) (driftlessInput alpha eta bound tau)
 
-unfoldable pub vectorIfBefore : Bool → Bool → Float → Float → ℕ → Float → VectorAnswer
-vectorIfBefore false b alpha eta bound tau = refusedVector outside
-vectorIfBefore true false alpha eta bound tau = refusedVector configuration
-vectorIfBefore true true alpha eta bound tau = vectorBy (rows bound) (runBefore bound alpha eta tau)
+unfoldable pub driftlessFirst : Float → Float → ℕ → Float → FirstPlan
+driftlessFirst alpha eta bound tau = planOver (driftlessPlan alpha eta bound tau) (driftlessInput alpha eta bound tau)
 
-unfoldable pub valueVectorBefore : Float → Float → ℕ → Float → VectorAnswer
-valueVectorBefore alpha eta bound tau = vectorIfBefore (ratesOkBefore alpha eta tau) (boundOk bound) alpha eta bound tau
-
-unfoldable pub planIfBefore : Bool → Bool → Float → Float → ℕ → Float → FirstPlan
-planIfBefore false b alpha eta bound tau = FirstPlan.Refused outside
-planIfBefore true false alpha eta bound tau = FirstPlan.Refused configuration
-planIfBefore true true alpha eta bound tau = planWhenBefore (lt 0ᶠ tau) (fixedBefore bound alpha eta) tau
-
-unfoldable pub firstPlanBefore : Float → Float → ℕ → Float → FirstPlan
-firstPlanBefore alpha eta bound tau = planIfBefore (ratesOkBefore alpha eta tau) (boundOk bound) alpha eta bound tau
-
--- ---- either zero: the run from rates that pass, the value vector and the first plan from any numbers
+-- ---- either zero: the run and the plan from rates that pass, the value vector and the first plan from any numbers
 pub record DriftZero : Type 0 where
-  pub runs : (bound : ℕ) (alpha beta eta tau : Float) → boundOk bound ≡ true → ratesOk alpha beta eta tau ≡ true → eq beta 0ᶠ ≡ true
-      → run bound alpha beta eta tau ≡ runBefore bound alpha eta tau
-  pub plans : (bound : ℕ) (alpha beta eta tau : Float) → boundOk bound ≡ true → ratesOk alpha beta eta tau ≡ true → eq beta 0ᶠ ≡ true
-      → planWhen (lt 0ᶠ tau) (fixed bound alpha beta eta) tau ≡ planWhenBefore (lt 0ᶠ tau) (fixedBefore bound alpha eta) tau
-  pub vectors : (alpha beta eta : Float) (bound : ℕ) (tau : Float) → eq beta 0ᶠ ≡ true → valueVector alpha beta eta bound tau ≡ valueVectorBefore alpha eta bound tau
-  pub first : (alpha beta eta : Float) (bound : ℕ) (tau : Float) → eq beta 0ᶠ ≡ true → firstPlan alpha beta eta bound tau ≡ firstPlanBefore alpha eta bound tau
+  pub runs : (x : RunInput) → boundOk (x .bound) ≡ true → ratesOk x ≡ true → eq (x .beta) 0ᶠ ≡ true → run x ≡ driftlessRun (x .alpha) (x .eta) (x .bound) (x .tau)
+  pub plans : (x : RunInput) → boundOk (x .bound) ≡ true → ratesOk x ≡ true → eq (x .beta) 0ᶠ ≡ true → planAhead x ≡ driftlessPlan (x .alpha) (x .eta) (x .bound) (x .tau)
+  pub vectors : (x : RunInput) → eq (x .beta) 0ᶠ ≡ true → valueVector x ≡ driftlessVector (x .alpha) (x .eta) (x .bound) (x .tau)
+  pub first : (x : RunInput) → eq (x .beta) 0ᶠ ≡ true → firstPlan x ≡ driftlessFirst (x .alpha) (x .eta) (x .bound) (x .tau)

@@ -5,9 +5,9 @@ use mathlib.Core.Bool.{Bool}
 use mathlib.Core.List.{List}
 use lib.Ieee.{Float}
 use Rattle.series.specs.Vectors.{tab}
-use Rattle.series.specs.Series.{diagonalAt}
+use Rattle.series.specs.Series.{diagonalAt, rows}
 use Rattle.series.specs.Half.{fullSize, full}
-use Rattle.vector.specs.Run.{Fixed, fixedOver, rows}
+use Rattle.vector.specs.Run.{Fixed, fixedOver}
 
 -- a run's own numbers over all rows
 abbrev pub fullFixed : Bool → ℕ → List Float → Float → Fixed

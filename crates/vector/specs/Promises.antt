@@ -10,21 +10,22 @@ use Rattle.elementary.specs.Reply.{value}
 use Rattle.elementary.specs.Elementary.{LN, orNan}
 use Rattle.series.specs.Vectors.{at, tab, fill}
 unfoldable pub use Rattle.series.specs.Vectors.{Mirror}
-use Rattle.series.specs.Series.{taylorStep}
-use Rattle.vector.specs.Run.{Ended, vector, overCap, failed, Fixed, fixedOver, Going, going, ended, cap, boundOk, rows, run, runFor, turn, stepOperator, divided, spent}
+use Rattle.series.specs.Series.{taylorStep, rows}
+use Rattle.vector.specs.Run.{Ended, vector, overCap, failed, Fixed, fixedOver, Going, going, ended, cap, boundOk, run, runFor, turn, stepOperator, divided, spent}
 use Rattle.vector.specs.Values.{ratesOk}
+use Rattle.vector.specs.declared.RunInput.{RunInput}
 
 -- ---- the steps: never more than 11,000
 abbrev pub StepsWithin : Type 0
-StepsWithin = (bound : ℕ) (alpha beta eta tau : Float) → spent (run bound alpha beta eta tau) ≤ cap
+StepsWithin = (x : RunInput) → spent (run x) ≤ cap
 
 -- a report leaves no more than the whole budget
 abbrev pub BudgetWithin : Type 0
-BudgetWithin = (bound : ℕ) (alpha beta eta tau need : Float) (b : ℕ) → run bound alpha beta eta tau ≡ overCap need b → b ≤ cap
+BudgetWithin = (x : RunInput) (need : Float) (b : ℕ) → run x ≡ overCap need b → b ≤ cap
 
 -- ---- a finished run has a weight and an offset for each row
 abbrev pub FullLength : Type 0
-FullLength = (bound : ℕ) (alpha beta eta tau : Float) (w o : List Float) (s : ℕ) → run bound alpha beta eta tau ≡ vector w o s → (length w ≡ rows bound) × (length o ≡ rows bound)
+FullLength = (x : RunInput) (w o : List Float) (s : ℕ) → run x ≡ vector w o s → (length w ≡ rows (x .bound)) × (length o ≡ rows (x .bound))
 
 -- ---- each step is the Taylor sum of the weights before it, divided by its largest entry
 -- the weights and offsets after a step whose sum is v: as divided, or rebalanced
@@ -56,7 +57,10 @@ abbrev pub MirrorRuns : Type 0
 MirrorRuns = (n : ℕ) (d d′ : List Float) (eta : Float) → Mirror n d d′ → (later : Bool) (tau : Float)
     → MirrorEnd n (runFor later (fixedOver n d eta) tau) (runFor later (fixedOver n d′ eta) tau)
 
+-- the drift turned: minus beta
+abbrev pub turnedInput : RunInput → RunInput
+turnedInput x = record { alpha = x .alpha; beta = neg (x .beta); eta = x .eta; bound = x .bound; tau = x .tau }
+
 -- the diagonal at q lots and beta is that at minus q and minus beta, so a run and the one with the drift turned are mirror images
 abbrev pub TurnedMirror : Type 0
-TurnedMirror = (bound : ℕ) (alpha beta eta tau : Float) → boundOk bound ≡ true → ratesOk alpha beta eta tau ≡ true
-    → MirrorEnd (rows bound) (run bound alpha beta eta tau) (run bound alpha (neg beta) eta tau)
+TurnedMirror = (x : RunInput) → boundOk (x .bound) ≡ true → ratesOk x ≡ true → MirrorEnd (rows (x .bound)) (run x) (run (turnedInput x))

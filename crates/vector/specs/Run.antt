@@ -11,6 +11,7 @@ use Rattle.elementary.specs.Elementary.{LN, CEIL, orNan}
 use Rattle.series.specs.Vectors.{tab, at, fill, every, fold, larger, smaller, abs}
 pub use Rattle.series.specs.Series.{rows}
 use Rattle.series.specs.Series.{Operator, diagonalAt, leftAt, rightAt, taylorStep}
+use Rattle.vector.specs.declared.RunInput.{RunInput}
 
 -- the step budget, and the largest bound
 abbrev pub cap : ℕ
@@ -124,8 +125,8 @@ runOn (suc b) p (ended r) = r
 runOn zero p (going g) = failed cap
 runOn (suc b) p (going g) = runOn b p (turn p b g)
 
-unfoldable pub fixed : ℕ → Float → Float → Float → Fixed
-fixed bound alpha beta eta = fixedOver (rows bound) (tab (rows bound) (diagonalAt bound alpha beta eta)) eta
+unfoldable pub fixed : RunInput → Fixed
+fixed x = fixedOver (rows (x .bound)) (tab (rows (x .bound)) (diagonalAt (x .bound) (x .alpha) (x .beta) (x .eta))) (x .eta)
 
 -- where a run begins: the first plan, over all rows and with the whole budget
 abbrev pub wholePlan : Fixed → Float → Turn
@@ -142,13 +143,17 @@ firstIf true p tau = wholePlan p tau
 abbrev pub firstTurn : Fixed → Float → Turn
 firstTurn p tau = firstIf (diagonalFinite p) p tau
 
--- is tau above zero
-unfoldable pub runFor : Bool → Fixed → Float → Ended
-runFor false p tau = vector (fill (p .n) 1ᶠ) (fill (p .n) 0ᶠ) 0
-runFor true p tau = runOn cap p (firstTurn p tau)
+-- is there time left; and where the run then begins
+unfoldable pub runFrom : Bool → Fixed → Turn → Ended
+runFrom false p t = vector (fill (p .n) 1ᶠ) (fill (p .n) 0ᶠ) 0
+runFrom true p t = runOn cap p t
 
-unfoldable pub run : ℕ → Float → Float → Float → Float → Ended
-run bound alpha beta eta tau = runFor (lt 0ᶠ tau) (fixed bound alpha beta eta) tau
+abbrev pub runFor : Bool → Fixed → Float → Ended
+runFor later p tau = runFrom later p (firstTurn p tau)
+
+-- time is left where tau is above zero
+unfoldable pub run : RunInput → Ended
+run x = runFor (lt 0ᶠ (x .tau)) (fixed x) (x .tau)
 
 -- the finished steps, under a report and a refusal too
 unfoldable pub spent : Ended → ℕ

@@ -1,13 +1,17 @@
 -- Document 01, module 3: the value vector's reply. Definitions only.
 use Prim.Native.Nat.{ℕ, _-_}
-use mathlib.Core.Bool.{Bool, true, false, _&&_}
-use mathlib.Core.List.{List, _++_}
+use mathlib.Core.Bool.{Bool, _&&_}
+use mathlib.Core.List.{List, [], _∷_, _++_}
 use lib.Ieee.{Float}
 use Rattle.elementary.specs.Float.{0ᶠ, finite, positive}
 use Rattle.elementary.specs.Elementary.{outside}
-use Rattle.vector.specs.Refusals.{configuration, numerical}
+use Rattle.elementary.specs.Checks.{Verdict, passes, refused, firstFailing}
+use Rattle.vector.specs.Refusals.{configuration}
+use Rattle.series.specs.Refusals.{numerical}
 use Rattle.series.specs.Vectors.{fill}
-use Rattle.vector.specs.Run.{Ended, vector, overCap, failed, cap, boundOk, rows, run}
+use Rattle.vector.specs.Run.{Ended, vector, overCap, failed, cap, boundOk, run}
+use Rattle.series.specs.Series.{rows}
+use Rattle.vector.specs.declared.RunInput.{RunInput}
 use Rattle.vector.specs.declared.ValueVector.{ValueVector}
 use Rattle.vector.specs.declared.Outcome.{Outcome}
 use Rattle.vector.specs.declared.Outcome.the-variants as Outcome
@@ -36,15 +40,22 @@ vectorBy n (vector w o s) = record { outcome = Outcome.Done s; vector = vectorOf
 vectorBy n (overCap need b) = record { outcome = Outcome.OverCap need b (cap - b); vector = blankVector }
 vectorBy n (failed s) = refusedVector numerical
 
--- are the floats fine, is the bound
-unfoldable pub vectorIf : Bool → Bool → Float → Float → Float → ℕ → Float → VectorAnswer
-vectorIf false b alpha beta eta bound tau = refusedVector outside
-vectorIf true false alpha beta eta bound tau = refusedVector configuration
-vectorIf true true alpha beta eta bound tau = vectorBy (rows bound) (run bound alpha beta eta tau)
-
+-- ---- the checks
 -- alpha and eta finite and above zero, beta and tau finite
-unfoldable pub ratesOk : Float → Float → Float → Float → Bool
-ratesOk alpha beta eta tau = positive alpha && finite beta && positive eta && finite tau
+unfoldable pub ratesOk : RunInput → Bool
+ratesOk x = positive (x .alpha) && finite (x .beta) && positive (x .eta) && finite (x .tau)
 
-unfoldable pub valueVector : Float → Float → Float → ℕ → Float → VectorAnswer
-valueVector alpha beta eta bound tau = vectorIf (ratesOk alpha beta eta tau) (boundOk bound) alpha beta eta bound tau
+-- in order: the floats, the bound
+abbrev pub inputChecks : RunInput → List (Bool × ℕ)
+inputChecks x = (ratesOk x, outside) ∷ (boundOk (x .bound), configuration) ∷ []
+
+-- ---- the reply, by the checks and the run
+unfoldable pub vectorIf : Verdict → VectorAnswer → VectorAnswer
+vectorIf passes a = a
+vectorIf (refused n) a = refusedVector n
+
+unfoldable pub vectorOver : Ended → RunInput → VectorAnswer
+vectorOver e x = vectorIf (firstFailing (inputChecks x)) (vectorBy (rows (x .bound)) e)
+
+unfoldable pub valueVector : RunInput → VectorAnswer
+valueVector x = vectorOver (run x) x

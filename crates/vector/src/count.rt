@@ -4,14 +4,15 @@ ghost use mathlib.Core.Path.{_≡_};
 ghost use Prim.Native.Nat.{_-_, _≤_};
 ghost use mathlib.Core.Bool.{true};
 ghost use lib.ListN.{length};
-ghost use lib.Ieee.{eq, lt};
+ghost use lib.Ieee.{eq};
 ghost use Rattle.elementary.specs.Float.{0ᶠ, 1ᶠ, 2ᶠ, positive};
 ghost use Rattle.series.specs.Vectors.{larger};
 ghost use Rattle.vector.specs.Run.{boundOk, fixedOver, fixed, wholePlan, firstTurn};
-ghost use Rattle.vector.specs.Count.{planIn, planWhen, rowSum};
+ghost use Rattle.vector.specs.Count.{planIn, planAhead, rowSum};
 ghost use Rattle.vector.specs.Inner.{aheadOf};
 use crate::FirstPlan;
 use crate::MAX_EXPM_STEPS;
+use crate::RunInput;
 use crate::plan::Planned;
 use crate::refusals::NUMERICAL;
 
@@ -46,13 +47,13 @@ fn ahead(plan: Planned) -> FirstPlan
 }
 
 // The first plan without a drift, over a time above zero, from two rows.
-fn plan_of_two(alpha: f64, beta: f64, eta: f64, bound: u32, tau: f64) -> FirstPlan
-    requires { ⌜ (boundOk bound ≡ true) × (positive alpha ≡ true) × (eq beta 0ᶠ ≡ true) × (positive eta ≡ true) ⌝ }
-    ensures { λ r. ⌜ r ≡ planIn (firstTurn (fixed bound alpha beta eta) tau) ⌝ }
+fn plan_of_two(input: RunInput) -> FirstPlan
+    requires { ⌜ (boundOk (input .bound) ≡ true) × (positive (input .alpha) ≡ true) × (eq (input .beta) 0ᶠ ≡ true) × (positive (input .eta) ≡ true) ⌝ }
+    ensures { λ r. ⌜ r ≡ planIn (firstTurn (fixed input) (input .tau)) ⌝ }
 {
-    let size = tau * norm_at_first(alpha, eta, bound);
+    let size = input.tau * norm_at_first(input.alpha, input.eta, input.bound);
     if elementary::is_positive_finite(size) {
-        return ahead(crate::plan::plan_for(size, tau, MAX_EXPM_STEPS));
+        return ahead(crate::plan::plan_for(size, input.tau, MAX_EXPM_STEPS));
     }
     FirstPlan::Refused(NUMERICAL)
 }
@@ -79,28 +80,34 @@ fn plan_of_rows(diag: &[f64], eta: f64, tau: f64, n: usize) -> FirstPlan
 }
 
 // The first plan over a time above zero, from all rows.
-fn plan_of_all(alpha: f64, beta: f64, eta: f64, bound: u32, tau: f64) -> FirstPlan
-    requires { ⌜ (1 ≤ bound) × (bound ≤ 200) ⌝ }
-    ensures { λ r. ⌜ r ≡ planIn (firstTurn (fixed bound alpha beta eta) tau) ⌝ }
+fn plan_of_all(input: RunInput) -> FirstPlan
+    requires { ⌜ (1 ≤ input .bound) × (input .bound ≤ 200) ⌝ }
+    ensures { λ r. ⌜ r ≡ planIn (firstTurn (fixed input) (input .tau)) ⌝ }
 {
-    let n = (2 * bound + 1) as usize;
+    let n = (2 * input.bound + 1) as usize;
     let mut diag = crate::run::zeros();
-    if series::fill_shifted_diagonal(alpha, beta, eta, bound, &mut diag[..n]) {
-        return plan_of_rows(&diag[..n], eta, tau, n);
+    if series::fill_shifted_diagonal(
+        input.alpha,
+        input.beta,
+        input.eta,
+        input.bound,
+        &mut diag[..n],
+    ) {
+        return plan_of_rows(&diag[..n], input.eta, input.tau, n);
     }
     FirstPlan::Refused(NUMERICAL)
 }
 
 // The first plan where the numbers pass the checks.
-pub(crate) fn plan_within(alpha: f64, beta: f64, eta: f64, bound: u32, tau: f64) -> FirstPlan
-    requires { ⌜ (boundOk bound ≡ true) × (positive alpha ≡ true) × (positive eta ≡ true) ⌝ }
-    ensures { λ r. ⌜ r ≡ planWhen (lt 0ᶠ tau) (fixed bound alpha beta eta) tau ⌝ }
+pub(crate) fn plan_within(input: RunInput) -> FirstPlan
+    requires { ⌜ (boundOk (input .bound) ≡ true) × (positive (input .alpha) ≡ true) × (positive (input .eta) ≡ true) ⌝ }
+    ensures { λ r. ⌜ r ≡ planAhead input ⌝ }
 {
-    if 0.0 < tau {
-        if beta == 0.0 {
-            return plan_of_two(alpha, beta, eta, bound, tau);
+    if 0.0 < input.tau {
+        if input.beta == 0.0 {
+            return plan_of_two(input);
         }
-        return plan_of_all(alpha, beta, eta, bound, tau);
+        return plan_of_all(input);
     }
     FirstPlan::Steps(0)
 }

@@ -7,9 +7,11 @@ mod run;
 
 pub use run::refused_vector;
 ghost use mathlib.Core.Path.{_≡_};
+ghost use Rattle.elementary.specs.Checks.{firstFailing, checkOf};
 ghost use Rattle.vector.specs.Run.{rebalances};
-ghost use Rattle.vector.specs.Values.{valueVector};
+ghost use Rattle.vector.specs.Values.{inputChecks, valueVector};
 ghost use Rattle.vector.specs.Count.{firstPlan};
+use elementary::Check;
 
 // The largest bound.
 pub const MAX_INVENTORY_LOTS: u32 = 200;
@@ -22,6 +24,16 @@ pub const MAX_EXPM_STEPS: u32 = 11000;
 
 // Below this weight a step is followed by rebalancing.
 const REBALANCE_FLOOR: f64 = 1e-200;
+
+// What a run, and so a value vector, is made from: alpha, what the drift makes a second, eta, the bound,
+// and the seconds to the end.
+pub struct RunInput {
+    pub alpha: f64,
+    pub beta: f64,
+    pub eta: f64,
+    pub bound: u32,
+    pub tau: f64,
+}
 
 // v_i is proportional to w_i exp(log_offset_i), over the first n entries; the rest is 0.0.
 pub struct ValueVector {
@@ -60,30 +72,39 @@ pub fn must_rebalance(smallest: f64, steps: u32) -> bool
     (0 < steps) & (smallest < REBALANCE_FLOOR)
 }
 
-// The value vector at tau seconds before the end, beta being what the drift makes a second: refused
-// by 5, then 1, then 11.
-pub fn value_vector(alpha: f64, beta: f64, eta: f64, bound: u32, tau: f64) -> VectorAnswer
-    ensures { λ r. ⌜ r ≡ valueVector alpha beta eta bound tau ⌝ }
+// Whether a run can be made from an input: refused by 5, then 1.
+pub fn check_input(input: RunInput) -> Check
+    ensures { λ r. ⌜ r ≡ checkOf (firstFailing (inputChecks input)) ⌝ }
 {
-    if run::floats_fit(alpha, beta, eta, tau) {
-        if run::bound_fits(bound) {
-            return run::run_vector(alpha, beta, eta, bound, tau);
+    if run::floats_fit(input) {
+        if (1 <= input.bound) & (input.bound <= MAX_INVENTORY_LOTS) {
+            return Check::Passes;
         }
-        return run::refused_vector(refusals::CONFIGURATION);
+        return Check::Refused(refusals::CONFIGURATION);
     }
-    run::refused_vector(elementary::OUTSIDE)
+    Check::Refused(elementary::OUTSIDE)
+}
+
+// The value vector at tau seconds before the end: refused by 5, then 1, then 11.
+pub fn value_vector(input: RunInput) -> VectorAnswer
+    ensures { λ r. ⌜ r ≡ valueVector input ⌝ }
+{
+    match check_input(input) {
+        Check::Passes => {}
+        Check::Refused(number) => {
+            return run::refused_vector(number);
+        }
+    }
+    run::run_vector(input)
 }
 
 // The first plan of the run that `value_vector` makes, before anything runs; 0 steps where no time is
 // left. Refused by 5, then 1, then 11.
-pub fn first_plan(alpha: f64, beta: f64, eta: f64, bound: u32, tau: f64) -> FirstPlan
-    ensures { λ r. ⌜ r ≡ firstPlan alpha beta eta bound tau ⌝ }
+pub fn first_plan(input: RunInput) -> FirstPlan
+    ensures { λ r. ⌜ r ≡ firstPlan input ⌝ }
 {
-    if run::floats_fit(alpha, beta, eta, tau) {
-        if run::bound_fits(bound) {
-            return count::plan_within(alpha, beta, eta, bound, tau);
-        }
-        return FirstPlan::Refused(refusals::CONFIGURATION);
+    match check_input(input) {
+        Check::Passes => count::plan_within(input),
+        Check::Refused(number) => FirstPlan::Refused(number),
     }
-    FirstPlan::Refused(elementary::OUTSIDE)
 }

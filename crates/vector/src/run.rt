@@ -9,7 +9,8 @@ ghost use mathlib.Core.Bool.{true, false, not, _&&_};
 ghost use Rattle.elementary.specs.Float.{_⊕_, _⊘_, 0ᶠ, 1ᶠ, finite, positive};
 ghost use Rattle.elementary.specs.Elementary.{LN, orNan};
 ghost use Rattle.series.specs.Vectors.{tab, at, fill, every, fold, larger, smaller};
-ghost use Rattle.vector.specs.Run.{boundOk, rows, cap, run, runOn, begin, divided, rebalances};
+ghost use Rattle.vector.specs.Run.{boundOk, cap, run, runOn, begin, divided, rebalances};
+ghost use Rattle.series.specs.Series.{rows};
 ghost use Rattle.vector.specs.Values.{blankVector, vectorOf, refusedVector, vectorBy, ratesOk};
 ghost use Rattle.vector.specs.Inner.{pacedOf, askedOf, stoppedOf, refusedPace, endBy, AfterIs, BegunIs, PlanSpent, Between, weight, EndIs};
 ghost use Rattle.series.specs.Slices.{Sizes, Fit};
@@ -17,8 +18,8 @@ ghost use Rattle.series.specs.Half.{filledOut, fullSize, fullFactors, full, Cen
 ghost use Rattle.vector.specs.Half.{fullFixed, RowsStand};
 use crate::MAX_DIM;
 use crate::MAX_EXPM_STEPS;
-use crate::MAX_INVENTORY_LOTS;
 use crate::Outcome;
+use crate::RunInput;
 use crate::ValueVector;
 use crate::VectorAnswer;
 use crate::plan::Planned;
@@ -362,20 +363,13 @@ pub fn refused_vector(number: u8) -> VectorAnswer
 }
 
 // Whether alpha and eta are finite and above zero, and beta and tau are finite.
-pub(crate) fn floats_fit(alpha: f64, beta: f64, eta: f64, tau: f64) -> bool
-    ensures { λ r. ⌜ r ≡ ratesOk alpha beta eta tau ⌝ }
+pub(crate) fn floats_fit(input: RunInput) -> bool
+    ensures { λ r. ⌜ r ≡ ratesOk input ⌝ }
 {
-    elementary::is_positive_finite(alpha)
-        & elementary::is_finite(beta)
-        & elementary::is_positive_finite(eta)
-        & elementary::is_finite(tau)
-}
-
-// Whether a bound is 1 to 200.
-pub(crate) fn bound_fits(bound: u32) -> bool
-    ensures { λ r. ⌜ r ≡ boundOk bound ⌝ }
-{
-    (1 <= bound) & (bound <= MAX_INVENTORY_LOTS)
+    elementary::is_positive_finite(input.alpha)
+        & elementary::is_finite(input.beta)
+        & elementary::is_positive_finite(input.eta)
+        & elementary::is_finite(input.tau)
 }
 
 // Every weight 1.0.
@@ -418,59 +412,36 @@ fn fill_mirror(x: &mut [f64], n: usize)
 
 // The run over tau seconds, above zero, by n rows, which stand for all: refused by 11 at once where an
 // entry of the diagonal is not finite.
-fn run_rows(
-    w: &mut [f64],
-    o: &mut [f64],
-    alpha: f64,
-    beta: f64,
-    eta: f64,
-    bound: u32,
-    tau: f64,
-    n: usize,
-    half: bool,
-) -> Outcome
-    requires { ⌜ (2 ≤ n) × (n ≤ rows bound) × (bound ≤ 200) × (lt 0ᶠ tau ≡ true) × (now w ≡ fill n 1ᶠ) × (now o ≡ fill n 0ᶠ) ⌝ }
-    requires { ⌜ RowsStand half n bound alpha beta eta ⌝ }
-    ensures { λ r. ⌜ EndIs (run bound alpha beta eta tau) r (full half n (now (w .exit))) (full half n (now (o .exit))) ⌝ }
+fn run_rows(w: &mut [f64], o: &mut [f64], input: RunInput, n: usize, half: bool) -> Outcome
+    requires { ⌜ (2 ≤ n) × (n ≤ rows (input .bound)) × (input .bound ≤ 200) × (lt 0ᶠ (input .tau) ≡ true) × (now w ≡ fill n 1ᶠ) × (now o ≡ fill n 0ᶠ) ⌝ }
+    requires { ⌜ RowsStand half n (input .bound) (input .alpha) (input .beta) (input .eta) ⌝ }
+    ensures { λ r. ⌜ EndIs (run input) r (full half n (now (w .exit))) (full half n (now (o .exit))) ⌝ }
 {
     let mut diag_s = zeros();
-    if series::fill_shifted_diagonal(alpha, beta, eta, bound, &mut diag_s[..n]) {
-        return run_plans(w, o, &diag_s[..n], eta, tau, n, half);
+    if series::fill_shifted_diagonal(
+        input.alpha,
+        input.beta,
+        input.eta,
+        input.bound,
+        &mut diag_s[..n],
+    ) {
+        return run_plans(w, o, &diag_s[..n], input.eta, input.tau, n, half);
     }
     Outcome::Refused(NUMERICAL)
 }
 
 // Takes a vector from the end of the time back over tau seconds, above zero, by its rows, which stand for
 // all, and hands it back with every row filled; or the blank one where the run is not done.
-fn run_back(
-    v: ValueVector,
-    alpha: f64,
-    beta: f64,
-    eta: f64,
-    bound: u32,
-    tau: f64,
-    n: usize,
-    half: bool,
-) -> VectorAnswer
-    requires { ⌜ (2 ≤ n) × (n ≤ rows bound) × (bound ≤ 200) × (lt 0ᶠ tau ≡ true) × (v ≡ vectorOf n (fill n 1ᶠ) (fill n 0ᶠ)) ⌝ }
-    requires { ⌜ RowsStand half n bound alpha beta eta ⌝ }
-    ensures { λ r. ⌜ r ≡ vectorBy (rows bound) (run bound alpha beta eta tau) ⌝ }
+fn run_back(v: ValueVector, input: RunInput, n: usize, half: bool) -> VectorAnswer
+    requires { ⌜ (2 ≤ n) × (n ≤ rows (input .bound)) × (input .bound ≤ 200) × (lt 0ᶠ (input .tau) ≡ true) × (v ≡ vectorOf n (fill n 1ᶠ) (fill n 0ᶠ)) ⌝ }
+    requires { ⌜ RowsStand half n (input .bound) (input .alpha) (input .beta) (input .eta) ⌝ }
+    ensures { λ r. ⌜ r ≡ vectorBy (rows (input .bound)) (run input) ⌝ }
 {
     let mut w = v.w;
     let mut o = v.log_offset;
-    let outcome = run_rows(
-        &mut w[..n],
-        &mut o[..n],
-        alpha,
-        beta,
-        eta,
-        bound,
-        tau,
-        n,
-        half,
-    );
+    let outcome = run_rows(&mut w[..n], &mut o[..n], input, n, half);
     if let Outcome::Done(steps) = outcome {
-        let all = (2 * bound + 1) as usize;
+        let all = (2 * input.bound + 1) as usize;
         fill_mirror(&mut w[..all], n);
         fill_mirror(&mut o[..all], n);
         return VectorAnswer {
@@ -489,18 +460,18 @@ fn run_back(
 }
 
 // The vector at tau seconds before the end. Without a drift the rows up to the centre are enough.
-pub(crate) fn run_vector(alpha: f64, beta: f64, eta: f64, bound: u32, tau: f64) -> VectorAnswer
-    requires { ⌜ (boundOk bound ≡ true) × (positive alpha ≡ true) × (positive eta ≡ true) ⌝ }
-    ensures { λ r. ⌜ r ≡ vectorBy (rows bound) (run bound alpha beta eta tau) ⌝ }
+pub(crate) fn run_vector(input: RunInput) -> VectorAnswer
+    requires { ⌜ (boundOk (input .bound) ≡ true) × (positive (input .alpha) ≡ true) × (positive (input .eta) ≡ true) ⌝ }
+    ensures { λ r. ⌜ r ≡ vectorBy (rows (input .bound)) (run input) ⌝ }
 {
-    let centre = bound as usize;
+    let centre = input.bound as usize;
     let n = 2 * centre + 1;
-    if 0.0 < tau {
-        if beta == 0.0 {
+    if 0.0 < input.tau {
+        if input.beta == 0.0 {
             let half = centre + 1;
-            return run_back(at_end(half), alpha, beta, eta, bound, tau, half, true);
+            return run_back(at_end(half), input, half, true);
         }
-        return run_back(at_end(n), alpha, beta, eta, bound, tau, n, false);
+        return run_back(at_end(n), input, n, false);
     }
     VectorAnswer {
         outcome: Outcome::Done(0),

@@ -5,6 +5,7 @@ use harness::pattern_of;
 use harness::put;
 use harness::put_number;
 use vector::Outcome;
+use vector::RunInput;
 
 // A space and a float's 16 hex digits, in lower case.
 fn put_float(out: &mut [u8], at: usize, x: f64) -> usize {
@@ -38,7 +39,13 @@ fn put_outcome(out: &mut [u8], start: usize, outcome: Outcome) -> usize {
 }
 
 fn put_run(out: &mut [u8], start: usize, alpha: f64, eta: f64, bound: u32, tau: f64) -> usize {
-    let a = vector::value_vector(alpha, 0.0, eta, bound, tau);
+    let a = vector::value_vector(RunInput {
+        alpha,
+        beta: 0.0,
+        eta,
+        bound,
+        tau,
+    });
     let outcome = a.outcome;
     let at = put_outcome(out, start, outcome);
     put(out, at, b"\n")

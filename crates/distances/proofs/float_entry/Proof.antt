@@ -1,85 +1,55 @@
-use mathlib.Core.Path.{_≡_, sym, _∙_, ap}
-use mathlib.Core.Bool.{true}
-use lib.IntN.{ℤ, natAbs}
-use lib.Dec.{leb}
+-- By the verdict of the checks; past them the entry answers from its run. Assumes nothing.
+use mathlib.Core.Path.{_≡_, sym, _∙_}
 use mir.Facts.{toZ-ofZ}
 use borrow.Author.Needs.{needs}
 use borrow.Author.Tests.{leb-true}
-use Rattle.distances.specs.FloatEntry.{entryIf, floatsOk, floatEntry}
+use Rattle.elementary.specs.Checks.{passes, firstFailing}
+use Rattle.elementary.proofs.Checks.{check-passes, check-refused}
+use Rattle.distances.specs.FloatEntry.{entryChecks, entryIf, entryOver, floatEntry}
+use Rattle.distances.proofs.Checked.{passed}
 use Rattle.distances.proofs.float_entry.Statement.{statement}
 use Rattle.distances.proofs.float_entry.Tie as tie
 
-held : (c : tie.After-within) → let a = c .before .before .before .before .before .args in leb (natAbs (a .q)) (a .bound) ≡ c .within .result
-held c =
-    let s = c .before .before .before .before .before in
-    sym (c .within .ensures ∙ ap (λ (z : ℤ). leb (natAbs z) (s .args .bound)) (toZ-ofZ (s .fits .q)))
+passes-is : (c : tie.After-enum-told) → let a = c .before .before .before .args in firstFailing (entryChecks (a .k) (a .base) (a .input) (a .q)) ≡ passes
+passes-is c = check-passes _ (rw (toZ-ofZ (c .before .before .before .fits .q)) at (sym (c .enum-told .given .1) ∙ c .before .before .check-entry .ensures))
 
-floats-fit-requires : tie.Need-floats-fit-requires
-floats-fit-requires c κs = search needs
+check-entry-requires : tie.Need-check-entry-requires
+check-entry-requires c κs = search needs
 
-bound-fits-requires : tie.Need-bound-fits-requires
-bound-fits-requires c κs = search needs
+enum-told : tie.Need-enum-told
+enum-told c = search needs
 
-within-requires : tie.Need-within-requires
-within-requires c κs = search needs
-
--- the floats pass
-passed : (c : tie.Then1) → let a = c .before .before .args in floatsOk (a .k) (a .alpha) (a .beta) (a .eta) (a .base) (a .tau) ≡ true
-passed c = sym (c .before .floats-fit .ensures) ∙ c .if1 .taken
-
-entry-within-requires : tie.Need-entry-within-requires
-entry-within-requires c κs =
-    let w = c .before in
-    let b = w .before .before in
-    let s = b .before .before .before in
-    rw (toZ-ofZ (s .fits .q)) (passed (b .before), sym (b .bound-fits .ensures) ∙ w .before .if2 .taken, leb-true _ _ (held w ∙ c .if3 .taken))
-
-returns : tie.Need-returns
-unfolding floatEntry entryIf
-returns c =
-    let w = c .before .before in
-    let b = w .before .before in
-    let s = b .before .before .before in
-    rw (passed (b .before), ← (b .bound-fits .ensures), w .before .if2 .taken, held w, c .before .if3 .taken, c .entry-within .ensures, toZ-ofZ (s .fits .q))
+enum-known-number : tie.Need-enum-known-number
+enum-known-number c = search needs
 
 refused-entry-requires : tie.Need-refused-entry-requires
 refused-entry-requires c κs = search needs
 
+returns : tie.Need-returns
+unfolding floatEntry entryOver entryIf
+returns c =
+    let n = c .before .before in
+    let e = n .before .before in
+    rw (check-refused _ _ (rw (toZ-ofZ (e .before .fits .q)) at (sym (n .number .given .1) ∙ e .check-entry .ensures))) (c .refused-entry .ensures)
+
+entry-within-requires : tie.Need-entry-within-requires
+entry-within-requires c κs =
+    let s = c .before .before .before in
+    let p = passed _ _ _ (s .args .q) (passes-is c) in
+    rw (toZ-ofZ (s .fits .q)) (p .floats, p .bound-ok, leb-true _ _ (p .held))
+
 returns-2 : tie.Need-returns-2
-unfolding floatEntry entryIf
-returns-2 c =
-    let w = c .before .before in
-    let b = w .before .before in
-    rw (passed (b .before), ← (b .bound-fits .ensures), w .before .if2 .taken, held w, c .before .if3 .left, c .refused-entry .ensures)
-
-refused-entry-requires-2 : tie.Need-refused-entry-requires-2
-refused-entry-requires-2 c κs = search needs
-
-returns-3 : tie.Need-returns-3
-unfolding floatEntry entryIf
-returns-3 c =
-    let b = c .before .before in
-    rw (passed (b .before), ← (b .bound-fits .ensures), c .before .if2 .left, c .refused-entry2 .ensures)
-
-refused-entry-requires-3 : tie.Need-refused-entry-requires-3
-refused-entry-requires-3 c κs = search needs
-
-returns-4 : tie.Need-returns-4
-unfolding floatEntry entryIf
-returns-4 c = rw (← (c .before .before .floats-fit .ensures), c .before .if1 .left, c .refused-entry3 .ensures)
+unfolding floatEntry entryOver entryIf
+returns-2 c = rw (passes-is (c .before), c .entry-within .ensures, toZ-ofZ (c .before .before .before .before .fits .q))
 
 pub float-entry-spec : {M : Type 1} → statement M
 float-entry-spec =
     tie.close
     (tie.spec
-    floats-fit-requires
-    bound-fits-requires
-    within-requires
-    entry-within-requires
-    returns
+    check-entry-requires
+    enum-told
+    enum-known-number
     refused-entry-requires
-    returns-2
-    refused-entry-requires-2
-    returns-3
-    refused-entry-requires-3
-    returns-4)
+    returns
+    entry-within-requires
+    returns-2)

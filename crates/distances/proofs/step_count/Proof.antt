@@ -1,75 +1,52 @@
--- The checks are the float entry's; past them the rates and the bound pass below. Assumes nothing.
-use mathlib.Core.Path.{_≡_, sym, ap, _∙_}
-use mathlib.Core.Bool.{true}
-use lib.IntN.{ℤ, natAbs}
-use lib.Dec.{leb}
+-- By the verdict of the checks; past them the numbers of the run pass below. Assumes nothing.
+use mathlib.Core.Path.{_≡_, sym, _∙_}
 use mir.Facts.{toZ-ofZ}
 use borrow.Author.Needs.{needs}
-use Rattle.vector.specs.Count.{planIf, firstPlan}
-use Rattle.distances.specs.FloatEntry.{floatsOk}
-use Rattle.distances.specs.Count.{countIf, stepCount}
-use Rattle.distances.proofs.Reading.{rates-pass}
+use Rattle.elementary.specs.Checks.{passes, firstFailing}
+use Rattle.elementary.proofs.Checks.{check-passes, check-refused}
+use Rattle.vector.specs.Count.{planIf, planOver, firstPlan}
+use Rattle.distances.specs.FloatEntry.{entryChecks}
+use Rattle.distances.specs.Count.{countOver, stepCount}
+use Rattle.distances.proofs.Checked.{passed, input-passes}
 use Rattle.distances.proofs.step_count.Statement.{statement}
 use Rattle.distances.proofs.step_count.Tie as tie
 
-floats-fit-requires : tie.Need-floats-fit-requires
-floats-fit-requires c κs = search needs
+passes-is : (c : tie.After-enum-told) → let a = c .before .before .before .args in firstFailing (entryChecks (a .k) (a .base) (a .input) (a .q)) ≡ passes
+passes-is c = check-passes _ (rw (toZ-ofZ (c .before .before .before .fits .q)) at (sym (c .enum-told .given .1) ∙ c .before .before .check-entry .ensures))
 
-bound-fits-requires : tie.Need-bound-fits-requires
-bound-fits-requires c κs = search needs
+check-entry-requires : tie.Need-check-entry-requires
+check-entry-requires c κs = search needs
 
-within-requires : tie.Need-within-requires
-within-requires c κs = search needs
+enum-told : tie.Need-enum-told
+enum-told c = search needs
 
 first-plan-requires : tie.Need-first-plan-requires
 first-plan-requires c κs = search needs
 
--- the floats pass, and so does the holding
-passed : (c : tie.Then1) → let a = c .before .before .args in floatsOk (a .k) (a .alpha) (a .beta) (a .eta) (a .base) (a .tau) ≡ true
-passed c = sym (c .before .floats-fit .ensures) ∙ c .if1 .taken
-
-held : (c : tie.After-within) → let a = c .before .before .before .before .before .args in leb (natAbs (a .q)) (a .bound) ≡ c .within .result
-held c =
-    let s = c .before .before .before .before .before in
-    sym (c .within .ensures ∙ ap (λ (z : ℤ). leb (natAbs z) (s .args .bound)) (toZ-ofZ (s .fits .q)))
+enum-known-number : tie.Need-enum-known-number
+enum-known-number c = search needs
 
 returns : tie.Need-returns
-unfolding stepCount countIf firstPlan planIf
+unfolding stepCount countOver firstPlan planOver planIf
 returns c =
-    let w = c .before .before in
-    let b = w .before .before in
-    let a = b .before .before .before .args in
-    let fine = passed (b .before) in
-    let bound-ok = sym (b .bound-fits .ensures) ∙ w .before .if2 .taken in
-    rw (fine, bound-ok, held w, c .before .if3 .taken)
-    (rw (rates-pass (a .k) (a .alpha) (a .beta) (a .eta) (a .base) (a .tau) fine, bound-ok) at (c .first-plan .ensures))
+    let e = passes-is (c .before) in
+    let p = passed _ _ _ (c .before .before .before .before .args .q) e in
+    rw e (rw (input-passes _ _ _ (p .floats) (p .bound-ok)) at (c .first-plan .ensures))
 
 returns-2 : tie.Need-returns-2
-unfolding stepCount countIf
+unfolding stepCount countOver planIf
 returns-2 c =
-    let w = c .before in
-    let b = w .before .before in
-    rw (passed (b .before), ← (b .bound-fits .ensures), w .before .if2 .taken, held w, c .if3 .left)
-
-returns-3 : tie.Need-returns-3
-unfolding stepCount countIf
-returns-3 c =
-    let b = c .before in
-    rw (passed (b .before), ← (b .bound-fits .ensures), c .if2 .left)
-
-returns-4 : tie.Need-returns-4
-unfolding stepCount countIf
-returns-4 c = rw (← (c .before .floats-fit .ensures), c .if1 .left)
+    let n = c .before in
+    let e = n .before .before in
+    rw (check-refused _ _ (rw (toZ-ofZ (e .before .fits .q)) at (sym (n .number .given .1) ∙ e .check-entry .ensures)))
 
 pub step-count-spec : {M : Type 1} → statement M
 step-count-spec =
     tie.close
     (tie.spec
-    floats-fit-requires
-    bound-fits-requires
-    within-requires
+    check-entry-requires
+    enum-told
     first-plan-requires
+    enum-known-number
     returns
-    returns-2
-    returns-3
-    returns-4)
+    returns-2)

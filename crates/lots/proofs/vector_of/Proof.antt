@@ -6,12 +6,17 @@ use Rattle.lots.proofs.vector_of.Tie as tie
 floats-fit-requires : tie.Need-floats-fit-requires
 floats-fit-requires c κs = search needs
 
+run-input-requires : tie.Need-run-input-requires
+run-input-requires c κs = search needs
+
 value-vector-requires : tie.Need-value-vector-requires
 value-vector-requires c κs = search needs
 
 returns : tie.Need-returns
 unfolding reckonIf
-returns c = rw (← (c .before .before .floats-fit .ensures), c .before .if1 .taken, c .value-vector .ensures)
+returns c =
+    let i = c .before in
+    rw (← (i .before .before .floats-fit .ensures), i .before .if1 .taken, c .value-vector .ensures, i .run-input .ensures)
 
 refused-vector-requires : tie.Need-refused-vector-requires
 refused-vector-requires c κs = search needs
@@ -23,4 +28,4 @@ returns-2 c = rw (← (c .before .before .floats-fit .ensures), c .before .if1 .
 pub vector-of-spec : {M : Type 1} → statement M
 vector-of-spec =
     tie.close
-    (tie.spec floats-fit-requires value-vector-requires returns refused-vector-requires returns-2)
+    (tie.spec floats-fit-requires run-input-requires value-vector-requires returns refused-vector-requires returns-2)

@@ -1,49 +1,44 @@
--- The checks in the definition's order; past them alpha and eta are above zero. Assumes nothing.
-use mathlib.Core.Path.{sym, _∙_}
+-- By the verdict of the checks; past them alpha and eta are above zero. Assumes nothing.
+use mathlib.Core.Path.{_≡_, sym, _∙_}
 use borrow.Author.Needs.{needs}
-use Rattle.vector.specs.Count.{firstPlan, planIf}
-use Rattle.vector.proofs.Bounds.{rates-above}
+use Rattle.elementary.specs.Checks.{passes, firstFailing}
+use Rattle.elementary.proofs.Checks.{check-passes, check-refused}
+use Rattle.vector.specs.Values.{inputChecks}
+use Rattle.vector.specs.Count.{firstPlan, planOver, planIf}
+use Rattle.vector.proofs.Bounds.{input-passed}
 use Rattle.vector.proofs.first_plan.Statement.{statement}
 use Rattle.vector.proofs.first_plan.Tie as tie
 
-floats-fit-requires : tie.Need-floats-fit-requires
-floats-fit-requires c κs = search needs
+passes-is : (c : tie.After-enum-told) → firstFailing (inputChecks (c .before .before .before .args .input)) ≡ passes
+passes-is c = check-passes _ (sym (c .enum-told .given .1) ∙ c .before .before .check-input .ensures)
 
-bound-fits-requires : tie.Need-bound-fits-requires
-bound-fits-requires c κs = search needs
+check-input-requires : tie.Need-check-input-requires
+check-input-requires c κs = search needs
+
+enum-told : tie.Need-enum-told
+enum-told c = search needs
 
 plan-within-requires : tie.Need-plan-within-requires
-plan-within-requires c κs =
-    let b = c .before in
-    let f = b .before .before in
-    let r = rates-above _ _ _ _ (sym (f .floats-fit .ensures) ∙ b .before .if1 .taken) in
-    (sym (b .bound-fits .ensures) ∙ c .if2 .taken, r .0, r .2)
+plan-within-requires c κs = input-passed _ (passes-is c)
+
+enum-known-number : tie.Need-enum-known-number
+enum-known-number c = search needs
 
 returns : tie.Need-returns
-unfolding firstPlan planIf
-returns c =
-    let b = c .before .before in
-    let f = b .before .before in
-    rw (← f .floats-fit .ensures, b .before .if1 .taken, ← b .bound-fits .ensures, c .before .if2 .taken) (c .plan-within .ensures)
+unfolding firstPlan planOver planIf
+returns c = rw (passes-is (c .before)) (c .plan-within .ensures)
 
 returns-2 : tie.Need-returns-2
-unfolding firstPlan planIf
-returns-2 c =
-    let b = c .before in
-    let f = b .before .before in
-    rw (← f .floats-fit .ensures, b .before .if1 .taken, ← b .bound-fits .ensures, c .if2 .left)
-
-returns-3 : tie.Need-returns-3
-unfolding firstPlan planIf
-returns-3 c = rw (← c .before .floats-fit .ensures, c .if1 .left)
+unfolding firstPlan planOver planIf
+returns-2 c = let n = c .before in rw (check-refused _ _ (sym (n .number .given .1) ∙ n .before .before .check-input .ensures))
 
 pub first-plan-spec : {M : Type 1} → statement M
 first-plan-spec =
     tie.close
     (tie.spec
-    floats-fit-requires
-    bound-fits-requires
+    check-input-requires
+    enum-told
     plan-within-requires
+    enum-known-number
     returns
-    returns-2
-    returns-3)
+    returns-2)

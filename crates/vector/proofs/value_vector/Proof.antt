@@ -1,57 +1,49 @@
-use mathlib.Core.Path.{sym, _∙_}
+-- By the verdict of the checks; past them alpha and eta are above zero. Assumes nothing.
+use mathlib.Core.Path.{_≡_, sym, _∙_}
 use borrow.Author.Needs.{needs}
-use Rattle.vector.specs.Values.{valueVector, vectorIf}
-use Rattle.vector.proofs.Bounds.{rates-above}
+use Rattle.elementary.specs.Checks.{passes, firstFailing}
+use Rattle.elementary.proofs.Checks.{check-passes, check-refused}
+use Rattle.vector.specs.Values.{inputChecks, vectorIf, vectorOver, valueVector}
+use Rattle.vector.proofs.Bounds.{input-passed}
 use Rattle.vector.proofs.value_vector.Statement.{statement}
 use Rattle.vector.proofs.value_vector.Tie as tie
 
-floats-fit-requires : tie.Need-floats-fit-requires
-floats-fit-requires c κs = search needs
+passes-is : (c : tie.After-enum-told) → firstFailing (inputChecks (c .before .before .before .args .input)) ≡ passes
+passes-is c = check-passes _ (sym (c .enum-told .given .1) ∙ c .before .before .check-input .ensures)
 
-bound-fits-requires : tie.Need-bound-fits-requires
-bound-fits-requires c κs = search needs
+check-input-requires : tie.Need-check-input-requires
+check-input-requires c κs = search needs
 
-run-vector-requires : tie.Need-run-vector-requires
-run-vector-requires c κs =
-    let b = c .before in
-    let f = b .before .before in
-    let r = rates-above _ _ _ _ (sym (f .floats-fit .ensures) ∙ b .before .if1 .taken) in
-    (sym (b .bound-fits .ensures) ∙ c .if2 .taken, r .0, r .2)
+enum-told : tie.Need-enum-told
+enum-told c = search needs
 
-returns : tie.Need-returns
-unfolding valueVector vectorIf
-returns c =
-    let b = c .before .before in
-    let f = b .before in
-    rw (← (f .before .floats-fit .ensures), f .if1 .taken, ← (b .bound-fits .ensures), c .before .if2 .taken, c .run-vector .ensures)
+enum-known-number : tie.Need-enum-known-number
+enum-known-number c = search needs
 
 refused-vector-requires : tie.Need-refused-vector-requires
 refused-vector-requires c κs = search needs
 
+returns : tie.Need-returns
+unfolding valueVector vectorOver vectorIf
+returns c =
+    let n = c .before .before in
+    rw (check-refused _ _ (sym (n .number .given .1) ∙ n .before .before .check-input .ensures)) (c .refused-vector .ensures)
+
+run-vector-requires : tie.Need-run-vector-requires
+run-vector-requires c κs = input-passed _ (passes-is c)
+
 returns-2 : tie.Need-returns-2
-unfolding valueVector vectorIf
-returns-2 c =
-    let f = c .before .before .before in
-    rw (← (f .before .floats-fit .ensures), f .if1 .taken, ← (c .before .before .bound-fits .ensures), c .before .if2 .left, c .refused-vector .ensures)
-
-refused-vector-requires-2 : tie.Need-refused-vector-requires-2
-refused-vector-requires-2 c κs = search needs
-
-returns-3 : tie.Need-returns-3
-unfolding valueVector vectorIf
-returns-3 c =
-    let f = c .before in
-    rw (← (f .before .floats-fit .ensures), f .if1 .left, c .refused-vector2 .ensures)
+unfolding valueVector vectorOver vectorIf
+returns-2 c = rw (passes-is (c .before)) (c .run-vector .ensures)
 
 pub value-vector-spec : {M : Type 1} → statement M
 value-vector-spec =
     tie.close
     (tie.spec
-    floats-fit-requires
-    bound-fits-requires
-    run-vector-requires
-    returns
+    check-input-requires
+    enum-told
+    enum-known-number
     refused-vector-requires
-    returns-2
-    refused-vector-requires-2
-    returns-3)
+    returns
+    run-vector-requires
+    returns-2)

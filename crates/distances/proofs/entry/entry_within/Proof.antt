@@ -5,7 +5,8 @@ use lib.IntN.{ℤ}
 use lib.Ieee.{Float}
 use mir.Facts.{toZ-ofZ}
 use borrow.Author.Needs.{needs}
-use Rattle.vector.specs.Run.{Ended, vector, overCap, failed, rows, run}
+use Rattle.vector.specs.Run.{Ended, vector, overCap, failed, run}
+use Rattle.series.specs.Series.{rows}
 use Rattle.vector.specs.Values.{vectorOf, refusedVector, vectorBy}
 use Rattle.distances.specs.Distances.{place, exactAt}
 use Rattle.distances.specs.FloatEntry.{refusedEntry, withVector, answerBy}
@@ -16,7 +17,7 @@ use Rattle.distances.specs.declared.Answer.the-variants as Answer
 use Rattle.distances.specs.declared.FloatAnswer.{FloatAnswer}
 use Rattle.vector.proofs.Bounds.{bound-range}
 use Rattle.distances.proofs.Holdings.{place-most}
-use Rattle.distances.proofs.Reading.{vector-is}
+use Rattle.distances.proofs.Checked.{vector-is}
 use Rattle.distances.proofs.entry.entry_within.Statement.{statement}
 use Rattle.distances.proofs.entry.entry_within.Tie as tie
 
@@ -33,14 +34,14 @@ module _ (b : ℕ) (k base : Float) (q : ℤ) where
   entry-is (overCap need l) = refl
   entry-is (failed s) = refl
 
-come : (c : tie.After-value-vector) → let a = c .before .args in c .value-vector .result ≡ vectorBy (rows (a .bound)) (run (a .bound) (a .alpha) (a .beta) (a .eta) (a .tau))
-come c = let s = c .before in c .value-vector .ensures ∙ vector-is (s .args .k) (s .args .alpha) (s .args .beta) (s .args .eta) (s .args .base) (s .args .bound) (s .args .tau) (s .pre .0) (s .pre .1)
+come : (c : tie.After-value-vector) → let a = c .before .args in c .value-vector .result ≡ vectorBy (rows (a .input .bound)) (run (a .input))
+come c = let s = c .before in c .value-vector .ensures ∙ vector-is (s .args .k) (s .args .base) (s .args .input) (s .pre .0) (s .pre .1)
 
 ended : (c : tie.After-value-vector) → let a = c .before .args in
-    answerBy (a .bound) (a .k) (a .base) (a .q) (run (a .bound) (a .alpha) (a .beta) (a .eta) (a .tau)) ≡ entry (a .bound) (a .k) (a .base) (a .q) (c .value-vector .result .outcome) (c .value-vector .result .vector)
+    answerBy (a .input .bound) (a .k) (a .base) (a .q) (run (a .input)) ≡ entry (a .input .bound) (a .k) (a .base) (a .q) (c .value-vector .result .outcome) (c .value-vector .result .vector)
 ended c =
     let a = c .before .args in
-    rw (come c) (entry-is (a .bound) (a .k) (a .base) (a .q) (run (a .bound) (a .alpha) (a .beta) (a .eta) (a .tau)))
+    rw (come c) (entry-is (a .input .bound) (a .k) (a .base) (a .q) (run (a .input)))
 
 -- a run that is done has a vector of full length
 done-length : (n s : ℕ) (e : Ended) → vectorBy n e .outcome ≡ Outcome.Done s → vectorBy n e .vector .n ≡ n
@@ -49,10 +50,10 @@ done-length n s (vector w o t) h = refl
 done-length n s (overCap need l) h = cc
 done-length n s (failed t) h = cc
 
-full : (c : tie.After-value-vector) (s : ℕ) → c .value-vector .result .outcome ≡ Outcome.Done s → c .value-vector .result .vector .n ≡ rows (c .before .args .bound)
+full : (c : tie.After-value-vector) (s : ℕ) → c .value-vector .result .outcome ≡ Outcome.Done s → c .value-vector .result .vector .n ≡ rows (c .before .args .input .bound)
 full c s h =
     let a = c .before .args in
-    rw (come c) (done-length (rows (a .bound)) s (run (a .bound) (a .alpha) (a .beta) (a .eta) (a .tau)) (rw (come c) at h))
+    rw (come c) (done-length (rows (a .input .bound)) s (run (a .input)) (rw (come c) at h))
 
 value-vector-requires : tie.Need-value-vector-requires
 value-vector-requires c κs = search needs
@@ -69,8 +70,8 @@ sides-in-requires c κs =
     let r = p .before .before .before .before .before in
     let s = r .before in
     let a = s .args in
-    let e : p .place-of .result ≡ place (a .bound) (a .q) = p .place-of .ensures ∙ ap (place (a .bound)) (toZ-ofZ (s .fits .q)) in
-    omega (arith, e, place-most (a .q) (a .bound) (s .pre .2), bound-range (a .bound) (s .pre .1), full r _ (p .before .before .outcome .given .1))
+    let e : p .place-of .result ≡ place (a .input .bound) (a .q) = p .place-of .ensures ∙ ap (place (a .input .bound)) (toZ-ofZ (s .fits .q)) in
+    omega (arith, e, place-most (a .q) (a .input .bound) (s .pre .2), bound-range (a .input .bound) (s .pre .1), full r _ (p .before .before .outcome .given .1))
 
 with-vector-requires : tie.Need-with-vector-requires
 with-vector-requires c κs = search needs

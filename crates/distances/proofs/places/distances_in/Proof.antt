@@ -8,6 +8,7 @@ use mir.Facts.{toZ-ofZ}
 use borrow.Author.Needs.{needs}
 use borrow.Author.Tests.{leb-true}
 use Rattle.elementary.specs.Float.{positive}
+use Rattle.elementary.specs.Checks.{verdict, firstOf, firstFailing}
 use Rattle.distances.specs.Distances.{place, distancesIf, lengthOk, exactDistances}
 use Rattle.distances.proofs.Holdings.{length-range, place-most}
 use Rattle.distances.proofs.places.distances_in.Statement.{statement}
@@ -55,23 +56,23 @@ sides-in-requires c κs =
     omega (arith, placed c, place-most (a .q) (a .n / 2) (small (c .before)), length-range (a .n) (sized (c .before .before .before)))
 
 returns : tie.Need-returns
-unfolding exactDistances distancesIf
+unfolding exactDistances distancesIf firstFailing firstOf verdict
 returns c =
     let w = c .before .before .before in
     rw (scaled (w .before .before .before), sized (w .before), held w, c .before .before .if3 .taken, c .sides-in .ensures, placed (c .before))
 
 returns-2 : tie.Need-returns-2
-unfolding exactDistances distancesIf
+unfolding exactDistances distancesIf firstFailing firstOf verdict
 returns-2 c =
     let w = c .before in
     rw (scaled (w .before .before .before), sized (w .before), held w, c .if3 .left)
 
 returns-3 : tie.Need-returns-3
-unfolding exactDistances distancesIf
+unfolding exactDistances distancesIf firstFailing firstOf verdict
 returns-3 c = rw (scaled (c .before .before), ← (c .before .length-fits .ensures), c .if2 .left)
 
 returns-4 : tie.Need-returns-4
-unfolding exactDistances distancesIf
+unfolding exactDistances distancesIf firstFailing firstOf verdict
 returns-4 c = rw (← (c .before .scale-fits .ensures), c .if1 .left)
 
 pub distances-in-spec : {M : Type 1} → statement M

@@ -1,12 +1,11 @@
 use mathlib.Core.Path.{_≡_, sym, ap, _∙_, subst}
-use mathlib.Core.Bool.{not}
+use mathlib.Core.Bool.{not, true, false}
 use Prim.Native.Nat.{ℕ, _+_, _*_, _%_, _^_, _≤_, _<_}
 use native.Mathlib.Nat.{le-of-lt}
 use native.Mathlib.Omega.{arith}
 use lib.Dec.{T, lit≤}
 use lib.IntN.{ℤ, pos, _+ℤ_}
 use native.Mathlib.Numerals.{add-one}
-use mathlib.Core.Bool.{true, false}
 use lib.Ieee.{Float, binary64, fits, nanBits, ofBits, minus, lt}
 use Rattle.elementary.specs.Float.{count, hex, ½ᶠ, _⊗_}
 use Rattle.elementary.specs.Inner.{SplitOf}

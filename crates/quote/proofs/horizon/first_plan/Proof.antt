@@ -34,6 +34,9 @@ enum-known-m c = search needs
 seconds-to-terminal-requires : tie.Need-seconds-to-terminal-requires
 seconds-to-terminal-requires c κs = search needs
 
+run-input-requires : tie.Need-run-input-requires
+run-input-requires c κs = search needs
+
 step-count-requires : tie.Need-step-count-requires
 step-count-requires c κs = search needs
 
@@ -43,10 +46,11 @@ enum-known-number c = search needs
 returns-2 : tie.Need-returns-2
 unfolding deskPlan deskPlanIf planFrom
 returns-2 c =
-    let t = c .before in
+    let i = c .before in
+    let t = i .before in
     let m = t .before .before in
     let n = m .before .before in
-    rw (c .step-count .ensures, time-is (n .before), model-is n, m .m .given .1, t .seconds-to-terminal .ensures, kept (m .m .given .0 .1 .0) (t .before .known-told .given .1 .0 .1))
+    rw (c .step-count .ensures, i .run-input .ensures, time-is (n .before), model-is n, m .m .given .1, t .seconds-to-terminal .ensures, kept (m .m .given .0 .1 .0) (t .before .known-told .given .1 .0 .1))
 
 returns-3 : tie.Need-returns-3
 unfolding deskPlan deskPlanIf planFrom
@@ -63,6 +67,7 @@ first-plan-spec =
     new-requires
     enum-known-m
     seconds-to-terminal-requires
+    run-input-requires
     step-count-requires
     enum-known-number
     returns-2

@@ -1,9 +1,7 @@
 use mathlib.Core.Path.{_≡_, sym, _∙_}
-use lib.Dec.{T}
 use mir.Facts.{toZ-ofZ}
 use borrow.Author.Needs.{needs}
-use Rattle.amounts.specs.Amounts.{amountOk}
-use Rattle.prices.specs.Prices.{each, rounded, quotesBy, buildQuotes}
+use Rattle.prices.specs.Prices.{quotesBy, buildQuotes}
 use Rattle.prices.proofs.Facing.{rounded-within}
 use Rattle.quote.proofs.quotes.build_quotes.Statement.{statement}
 use Rattle.quote.proofs.quotes.build_quotes.Tie as tie

@@ -3,6 +3,9 @@ use borrow.Author.Needs.{needs}
 use Rattle.quote.proofs.quotes.exact_of.Statement.{statement}
 use Rattle.quote.proofs.quotes.exact_of.Tie as tie
 
+run-input-requires : tie.Need-run-input-requires
+run-input-requires c κs = search needs
+
 float-entry-requires : tie.Need-float-entry-requires
 float-entry-requires c κs = search needs
 
@@ -12,8 +15,9 @@ from-answer-requires c κs = search needs
 returns : tie.Need-returns
 returns c =
     let e = c .before in
-    let s = e .before in
-    rw (c .from-answer .ensures, e .float-entry .ensures, toZ-ofZ (s .fits .mid), toZ-ofZ (s .fits .least), toZ-ofZ (s .fits .q))
+    let i = e .before in
+    let s = i .before in
+    rw (c .from-answer .ensures, e .float-entry .ensures, i .run-input .ensures, toZ-ofZ (s .fits .mid), toZ-ofZ (s .fits .least), toZ-ofZ (s .fits .q))
 
 pub exact-of-spec : {M : Type 1} → statement M
-exact-of-spec = tie.close (tie.spec float-entry-requires from-answer-requires returns)
+exact-of-spec = tie.close (tie.spec run-input-requires float-entry-requires from-answer-requires returns)

@@ -14,13 +14,13 @@ use Rattle.vector.proofs.count.plan_of_all.Statement.{statement}
 use Rattle.vector.proofs.count.plan_of_all.Tie as tie
 
 -- the diagonal as it is stored, and whether it is finite
-length-of : (c : tie.After-fill-shifted-diagonal) → let n = rows (c .before .before .before .args .bound) in length (take n (c .before .before .zeros .result)) ≡ n
-length-of c = blank-length _ _ (c .before .before .zeros .ensures) (omega (arith, c .before .before .before .pre .1))
+length-of : (c : tie.After-fill-shifted-diagonal) → let n = rows (c .before .before .before .before .args .input .bound) in length (take n (c .before .before .zeros .result)) ≡ n
+length-of c = blank-length _ _ (c .before .before .zeros .ensures) (omega (arith, c .before .before .before .before .pre .1))
 
-diagonal : (c : tie.After-fill-shifted-diagonal) → let a = c .before .before .before .args in c .fill-shifted-diagonal .last .1 .1 .1 .1 .0 ≡ tab (rows (a .bound)) (diagonalAt (a .bound) (a .alpha) (a .beta) (a .eta))
+diagonal : (c : tie.After-fill-shifted-diagonal) → let a = c .before .before .before .before .args .input in c .fill-shifted-diagonal .last .1 .1 .1 .1 .0 ≡ tab (rows (a .bound)) (diagonalAt (a .bound) (a .alpha) (a .beta) (a .eta))
 diagonal c = diagonal-over _ _ _ _ _ _ _ (length-of c) (le-refl _) (c .fill-shifted-diagonal .ensures .0)
 
-fine : (c : tie.After-fill-shifted-diagonal) → let a = c .before .before .before .args in c .fill-shifted-diagonal .result ≡ every (rows (a .bound)) (λ i. finite (at (tab (rows (a .bound)) (diagonalAt (a .bound) (a .alpha) (a .beta) (a .eta))) i))
+fine : (c : tie.After-fill-shifted-diagonal) → let a = c .before .before .before .before .args .input in c .fill-shifted-diagonal .result ≡ every (rows (a .bound)) (λ i. finite (at (tab (rows (a .bound)) (diagonalAt (a .bound) (a .alpha) (a .beta) (a .eta))) i))
 fine c = diagonal-fine _ _ _ _ _ _ _ (length-of c) (le-refl _) (c .fill-shifted-diagonal .ensures .0) _ (c .fill-shifted-diagonal .ensures .1)
 
 mul-n : tie.Need-mul-n
@@ -39,7 +39,7 @@ array-borrow-prefix-diag : tie.Need-array-borrow-prefix-diag
 array-borrow-prefix-diag c = search needs
 
 slice-aggregate-fill-shifted-diagonal : tie.Need-slice-aggregate-fill-shifted-diagonal
-slice-aggregate-fill-shifted-diagonal c = sym (blank-length _ _ (c .before .zeros .ensures) (omega (arith, c .before .before .pre .1)))
+slice-aggregate-fill-shifted-diagonal c = sym (blank-length _ _ (c .before .zeros .ensures) (omega (arith, c .before .before .before .pre .1)))
 
 fill-shifted-diagonal-requires : tie.Need-fill-shifted-diagonal-requires
 fill-shifted-diagonal-requires c κs = tt
@@ -51,15 +51,15 @@ slice-aggregate-plan-of-rows : tie.Need-slice-aggregate-plan-of-rows
 slice-aggregate-plan-of-rows c = sym (stored-length _ _ _ _ (diagonal (c .before .before .before)))
 
 plan-of-rows-requires : tie.Need-plan-of-rows-requires
-plan-of-rows-requires c κs = (omega (arith, c .before .before .before .before .before .before .pre .1), stored-length _ _ _ _ (diagonal (c .before .before .before)))
+plan-of-rows-requires c κs = (omega (arith, c .before .before .before .before .before .before .before .pre .1), stored-length _ _ _ _ (diagonal (c .before .before .before)))
 
 returns : tie.Need-returns
 returns c =
     let f = c .before .before .before .before in
-    c .plan-of-rows .ensures ∙ all-rows _ _ _ _ _ _ (stored-part _ _ _ _ (diagonal f)) (sym (fine f) ∙ c .before .before .if1 .taken)
+    c .plan-of-rows .ensures ∙ all-rows _ _ (stored-part _ _ _ _ (diagonal f)) (sym (fine f) ∙ c .before .before .if1 .taken)
 
 returns-2 : tie.Need-returns-2
-returns-2 c = no-rows _ _ _ _ _ (sym (fine (c .before .before)) ∙ c .if1 .left)
+returns-2 c = no-rows _ (sym (fine (c .before .before)) ∙ c .if1 .left)
 
 pub plan-of-all-spec : {M : Type 1} → statement M
 plan-of-all-spec =

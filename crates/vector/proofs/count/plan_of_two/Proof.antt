@@ -1,8 +1,6 @@
 -- Without a drift two rows have the largest sum, and where it passes the diagonal is finite. Assumes nothing.
-use mathlib.Core.Path.{sym, ap, _∙_}
+use mathlib.Core.Path.{sym, _∙_}
 use borrow.Author.Needs.{needs}
-use Rattle.elementary.specs.Float.{_⊗_, positive}
-use Rattle.vector.specs.Inner.{aheadOf}
 use Rattle.vector.proofs.Bounds.{bound-range}
 use Rattle.vector.proofs.Drift.{two-ahead, two-fail}
 use Rattle.vector.proofs.count.plan_of_two.Statement.{statement}
@@ -23,17 +21,17 @@ ahead-requires c κs = search needs
 returns : tie.Need-returns
 returns c =
     let test = c .before .before .before in
-    let norm = test .before .norm-at-first .ensures in
-    let p = test .before .before .pre in
+    let norm = test .before .before .norm-at-first .ensures in
+    let p = test .before .before .before .pre in
     rw (c .ahead .ensures, c .before .plan-for .ensures, norm)
-    (two-ahead _ _ _ _ _ (p .0) (p .1) (p .2) (p .3) (rw norm at (sym (test .is-positive-finite .ensures) ∙ c .before .before .if1 .taken)))
+    (two-ahead _ (p .0) (p .1) (p .2) (p .3) (rw norm at (sym (test .is-positive-finite .ensures) ∙ c .before .before .if1 .taken)))
 
 returns-2 : tie.Need-returns-2
 returns-2 c =
     let test = c .before in
-    let norm = test .before .norm-at-first .ensures in
-    let p = test .before .before .pre in
-    two-fail _ _ _ _ _ (p .0) (p .1) (p .2) (p .3) (rw norm at (sym (test .is-positive-finite .ensures) ∙ c .if1 .left))
+    let norm = test .before .before .norm-at-first .ensures in
+    let p = test .before .before .before .pre in
+    two-fail _ (p .0) (p .1) (p .2) (p .3) (rw norm at (sym (test .is-positive-finite .ensures) ∙ c .if1 .left))
 
 pub plan-of-two-spec : {M : Type 1} → statement M
 plan-of-two-spec =

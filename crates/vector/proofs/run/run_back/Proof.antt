@@ -12,7 +12,8 @@ use denote.Enum.Declared.{tagOf}
 use types.Run.{OneOf}
 use Rattle.elementary.specs.Float.{0ᶠ, 1ᶠ}
 use Rattle.series.specs.Vectors.{fill}
-use Rattle.vector.specs.Run.{Ended, vector, overCap, failed, rows}
+use Rattle.vector.specs.Run.{Ended, vector, overCap, failed}
+use Rattle.series.specs.Series.{rows}
 use Rattle.vector.specs.Values.{room, padded, blankVector, refusedVector, vectorBy}
 use Rattle.vector.specs.Inner.{EndIs}
 use Rattle.series.specs.Half.{fullSize}
@@ -69,10 +70,10 @@ offsets-long c = c .run-rows .kept .1 .0 ∙ length-lent _ _ _ (offsets (entry c
 some : (c : tie.After-run-rows) → 1 ≤ first c
 some c = omega (arith, entry c .pre .0 .0)
 
-sized : (c : tie.After-run-rows) → fullSize (half c) (first c) ≡ rows (entry c .args .bound)
+sized : (c : tie.After-run-rows) → fullSize (half c) (first c) ≡ rows (entry c .args .input .bound)
 sized c = entry c .pre .1 .sized
 
-within : (c : tie.After-run-rows) → rows (entry c .args .bound) ≤ room
+within : (c : tie.After-run-rows) → rows (entry c .args .input .bound) ≤ room
 within c = omega (arith, entry c .pre .0 .2)
 
 array-borrow-prefix-w : tie.Need-array-borrow-prefix-w
@@ -106,27 +107,27 @@ cast-all : tie.Need-cast-all
 cast-all c = search needs
 
 array-borrow-prefix-w-2 : tie.Need-array-borrow-prefix-w-2
-array-borrow-prefix-w-2 c = let p = c .before .before .before .before .before in out-room (half p) _ _ _ (weights-back p) (weights-long p) (some p) _ (sized p) (within p)
+array-borrow-prefix-w-2 c = let p = c .before .before .before .before .before .before in out-room (half p) _ _ _ (weights-back p) (weights-long p) (some p) _ (sized p) (within p)
 
 slice-aggregate-fill-mirror : tie.Need-slice-aggregate-fill-mirror
-slice-aggregate-fill-mirror c = let p = c .before .before .before .before .before .before in sym (out-length (half p) _ _ _ (weights-back p) (weights-long p) (some p) _ (sized p) (within p))
+slice-aggregate-fill-mirror c = let p = c .before .before .before .before .before .before .before in sym (out-length (half p) _ _ _ (weights-back p) (weights-long p) (some p) _ (sized p) (within p))
 
 fill-mirror-requires : tie.Need-fill-mirror-requires
-fill-mirror-requires c κs = let p = c .before .before .before .before .before .before in out-asks (half p) _ _ _ (weights-back p) (weights-long p) (some p) _ (sized p) (within p)
+fill-mirror-requires c κs = let p = c .before .before .before .before .before .before .before in out-asks (half p) _ _ _ (weights-back p) (weights-long p) (some p) _ (sized p) (within p)
 
 array-borrow-prefix-o-2 : tie.Need-array-borrow-prefix-o-2
-array-borrow-prefix-o-2 c = let p = c .before .before .before .before .before .before .before .before in out-room (half p) _ _ _ (offsets-back p) (offsets-long p) (some p) _ (sized p) (within p)
+array-borrow-prefix-o-2 c = let p = c .before .before .before .before .before .before .before .before .before in out-room (half p) _ _ _ (offsets-back p) (offsets-long p) (some p) _ (sized p) (within p)
 
 slice-aggregate-fill-mirror-2 : tie.Need-slice-aggregate-fill-mirror-2
-slice-aggregate-fill-mirror-2 c = let p = c .before .before .before .before .before .before .before .before .before in sym (out-length (half p) _ _ _ (offsets-back p) (offsets-long p) (some p) _ (sized p) (within p))
+slice-aggregate-fill-mirror-2 c = let p = c .before .before .before .before .before .before .before .before .before .before in sym (out-length (half p) _ _ _ (offsets-back p) (offsets-long p) (some p) _ (sized p) (within p))
 
 fill-mirror-requires-2 : tie.Need-fill-mirror-requires-2
-fill-mirror-requires-2 c κs = let p = c .before .before .before .before .before .before .before .before .before in out-asks (half p) _ _ _ (offsets-back p) (offsets-long p) (some p) _ (sized p) (within p)
+fill-mirror-requires-2 c κs = let p = c .before .before .before .before .before .before .before .before .before .before in out-asks (half p) _ _ _ (offsets-back p) (offsets-long p) (some p) _ (sized p) (within p)
 
 returns : tie.Need-returns
 returns c =
-    let p = c .before .before .before .before .before .before .before .before .before .before .before in
-    done _ _ _ _ _ _ _ _ (p .run-rows .ensures) (c .before .before .before .before .before .before .before .outcome .given .1)
+    let p = c .before .before .before .before .before .before .before .before .before .before .before .before in
+    done _ _ _ _ _ _ _ _ (p .run-rows .ensures) (c .before .before .before .before .before .before .before .before .outcome .given .1)
     (out-is (half p) _ _ _ (weights-back p) (weights-long p) (some p) _ (sized p) (within p) _ (c .before .before .before .before .fill-mirror .ensures))
     (out-is (half p) _ _ _ (offsets-back p) (offsets-long p) (some p) _ (sized p) (within p) _ (c .before .fill-mirror2 .ensures))
 

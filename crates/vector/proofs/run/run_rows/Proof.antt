@@ -22,10 +22,10 @@ few c = omega (arith, c .pre .0 .1, c .pre .0 .2)
 length-of : (c : tie.After-fill-shifted-diagonal) → let n = c .before .before .before .before .before .args .n in length (take n (c .before .before .zeros .result)) ≡ n
 length-of c = blank-length _ _ (c .before .before .zeros .ensures) (few (c .before .before .before .before .before))
 
-diagonal : (c : tie.After-fill-shifted-diagonal) → let a = c .before .before .before .before .before .args in c .fill-shifted-diagonal .last .1 .1 .1 .1 .0 ≡ tab (a .n) (diagonalAt (a .bound) (a .alpha) (a .beta) (a .eta))
+diagonal : (c : tie.After-fill-shifted-diagonal) → let a = c .before .before .before .before .before .args in c .fill-shifted-diagonal .last .1 .1 .1 .1 .0 ≡ tab (a .n) (diagonalAt (a .input .bound) (a .input .alpha) (a .input .beta) (a .input .eta))
 diagonal c = diagonal-over _ _ _ _ _ _ _ (length-of c) (c .before .before .before .before .before .pre .0 .1) (c .fill-shifted-diagonal .ensures .0)
 
-fine : (c : tie.After-fill-shifted-diagonal) → let a = c .before .before .before .before .before .args in c .fill-shifted-diagonal .result ≡ every (a .n) (λ i. finite (at (tab (a .n) (diagonalAt (a .bound) (a .alpha) (a .beta) (a .eta))) i))
+fine : (c : tie.After-fill-shifted-diagonal) → let a = c .before .before .before .before .before .args in c .fill-shifted-diagonal .result ≡ every (a .n) (λ i. finite (at (tab (a .n) (diagonalAt (a .input .bound) (a .input .alpha) (a .input .beta) (a .input .eta))) i))
 fine c = diagonal-fine _ _ _ _ _ _ _ (length-of c) (c .before .before .before .before .before .pre .0 .1) (c .fill-shifted-diagonal .ensures .0) _ (c .fill-shifted-diagonal .ensures .1)
 
 zeros-requires : tie.Need-zeros-requires
@@ -62,13 +62,13 @@ returns c =
     let p = c .before .before .before .before in
     let f = p .before .before .before .before .before .before in
     let s = p .before .before .before .before .before .before .before .before .before .before .before in
-    run-full (s .args .half) _ _ _ _ _ _ (omega (arith, s .pre .0 .0)) (s .pre .1) (s .pre .0 .3) _ _ _ _ _ (stored-part _ _ _ _ (diagonal f)) (s .pre .0 .5) (sym (fine f) ∙ p .before .before .before .before .if1 .taken) (p .run-plans .ensures)
+    run-full (s .args .half) _ _ (omega (arith, s .pre .0 .0)) (s .pre .1) (s .pre .0 .3) _ _ _ _ _ (stored-part _ _ _ _ (diagonal f)) (s .pre .0 .5) (sym (fine f) ∙ p .before .before .before .before .if1 .taken) (p .run-plans .ensures)
 
 returns-2 : tie.Need-returns-2
 unfolding EndIs
 returns-2 c =
     let s = c .before .before .before .before .before .before .before in
-    rw (run-full-refused (s .args .half) _ _ _ _ _ _ (omega (arith, s .pre .0 .0)) (s .pre .1) (s .pre .0 .3) (sym (fine (c .before .before)) ∙ c .if1 .left)) refl
+    rw (run-full-refused (s .args .half) _ _ (omega (arith, s .pre .0 .0)) (s .pre .1) (s .pre .0 .3) (sym (fine (c .before .before)) ∙ c .if1 .left)) refl
 
 pub run-rows-spec : {M : Type 1} → statement M
 run-rows-spec =
