@@ -5,28 +5,37 @@ use Prim.Native.Nat.{ℕ, suc, _*_, _/_, _≤_}
 use native.Mathlib.Nat.{le-div-iff-mul-le, mul-div-cancel, mul-mod-left}
 use native.Mathlib.Omega.{arith}
 use mathlib.Core.Bool.{Bool, true, false, _&&_, and-eq-true-iff}
+use mathlib.Core.List.{_∷_, []}
 use borrow.Author.Tests.{leb-true, leb-false, le-leb, eq-eqb}
 use lib.IntN.{ℤ, pos, negsuc, negℤ, natAbs, _*ℤ_}
 use lib.Signed.{quotZ, remZ}
 use lib.Dec.{T, leb, ltb→lt}
 use lib.Ieee.{Float}
 use lib.Ieee.Bits.{is-true}
+use Rattle.elementary.specs.Elementary.{outside}
+use Rattle.elementary.specs.Checks.{verdict, firstOf, firstFailing, Passes, none, each}
+use Rattle.elementary.specs.declared.Check.the-variants as Check
+use Rattle.elementary.proofs.Checks.{none-failing, check-passes}
 use Rattle.vector.specs.Values.{refusedVector, valueVector}
+use Rattle.vector.specs.declared.ValueVector.{ValueVector}
+use Rattle.vector.specs.declared.Outcome.{Outcome}
+use Rattle.vector.specs.declared.Outcome.the-variants as Outcome
+use Rattle.vector.specs.declared.VectorAnswer.{VectorAnswer}
 use Rattle.distances.specs.FloatEntry.{floatEntry}
 use Rattle.distances.specs.Reading.{readBy, answerFrom}
 use Rattle.distances.proofs.Reading.{entry-reads}
+use Rattle.amounts.specs.Refusals.{limits}
 use Rattle.amounts.specs.Amounts.{amountOk, above0, timeOk, tauOf}
 use Rattle.model.specs.Configuration.{configLimits, configOk}
-use Rattle.model.specs.Model.{lots, holdingOk, marketOk, modelOf, modelOk, modelIf, modelLimits, modelFrom, modelBy, newModel, checkIf, checkCall, inputOf}
-use Rattle.quote.specs.Quotes.{exactFrom, exactIf, exactAnswer, exactBy, exactQuotes, fromIf, quotesByAnswer}
-use Rattle.lots.specs.Reckoning.{reckonIf, reckoning, quotesFrom, holdingOf, lotsIf, quotesOfLots, FromVector, LotsAreSingle}
+use Rattle.model.specs.Model.{lots, holdingOk, marketOk, modelOf, modelOk, modelIf, modelLimits, modelFrom, modelBy, checkCall, inputOf, exactChecks, exactModel, checkExact}
+use Rattle.quote.specs.Quotes.{exactFrom, exactAnswer, exactBy, exactQuotes, fromIf, quotesByAnswer}
+use Rattle.lots.specs.Reckoning.{reckonIf, reckoning, quotesFrom, holdingOf, lotsIf, quotesOfLots, FromVector, LotsAreSingle, beside, reckoned, lotsChecks}
 use Rattle.model.specs.declared.GLFTConfig.{GLFTConfig}
 use Rattle.model.specs.declared.Model.{Model}
 use Rattle.model.specs.declared.ModelAnswer.{ModelAnswer}
 use Rattle.model.specs.declared.ModelAnswer.the-variants as ModelAnswer
-use Rattle.model.specs.declared.Check.the-variants as Check
 use Rattle.amounts.proofs.Signed.{natAbs-neg, quot-neg, rem-neg}
-use Rattle.model.proofs.Passed.{Outcome, stopped, passed, outcome, bound-passed, lots-passed, tau-passed, floats-passed, lot-passed, spread-passed, made-amounts}
+use Rattle.model.proofs.Passed.{Made, stopped, passed, made, exact-passed, bound-passed, lots-passed, tau-passed, floats-passed, lot-passed, spread-passed, exact-amounts}
 
 -- ---- so many lots of a size above zero: their magnitude, and that they are a whole number of lots
 natAbs-times : (q : ℤ) (n : ℕ) → natAbs (q *ℤ pos n) ≡ natAbs q * n
@@ -85,28 +94,41 @@ module _ (mid h : ℤ) (c : GLFTConfig) (vol : ℤ) (t : ℕ) where
   Read (ModelAnswer.Model m q) = answerFrom (valueVector (inputOf m tau)) (m .k) (m .base) q ≡ floatEntry (m .k) (m .base) (inputOf m tau) q .answer
   Read (ModelAnswer.Refused r) = Unit {0}
 
-  model-read : {a : ModelAnswer} → timeOk t ≡ true → Outcome (modelLimits mid h c vol) (configOk c) true (marketOk mid vol) (holdingOk h c) (modelOk (modelOf c vol)) (modelOf c vol) (lots h c) a → Read a
+  model-read : {a : ModelAnswer} → Made (exactChecks mid h c vol t) (modelOf c vol) (lots h c) a → Read a
   unfolding Read modelOf modelFrom modelBy
-  model-read e (stopped k) = tt
-  model-read e (passed l v d k g f) =
+  model-read (stopped k) = tt
+  model-read (passed k) =
       let m = modelOf c vol in
+      let p = exact-passed mid h c vol t k in
       sym (entry-reads (m .k) (m .base) (inputOf m tau) (lots h c)
-      (floats-passed m tau f (tau-passed mid h c vol t (rw (e, l)))) (bound-passed c v) (lots-passed h c g))
+      (floats-passed m tau (p .4) (tau-passed mid h c vol t (p .0))) (bound-passed c (p .1)) (lots-passed h c (p .3)))
+
+  made-read : Read (exactModel mid h c vol t)
+  unfolding exactModel
+  made-read = model-read (made _ _ _)
 
 pub from-vector : FromVector
-unfolding quotesFrom quotesByAnswer fromIf exactQuotes exactAnswer exactIf exactFrom newModel Read
-from-vector mid h c vol t m q e made =
-    let r = subst (Read mid h c vol t) made (model-read mid h c vol t e (outcome _ _ _ _ _ _ _ _)) in
-    let a = made-amounts true mid h c vol m q made in
-    rw (e, made, is-true (amountOk mid) (a .0), is-true (amountOk (c .«min_spread»)) (a .1)) (ap (exactBy mid (c .«min_spread»)) r)
+unfolding quotesFrom quotesByAnswer fromIf exactQuotes exactAnswer exactFrom Read
+from-vector mid h c vol t m q made =
+    let r = subst (Read mid h c vol t) made (made-read mid h c vol t) in
+    let a = exact-amounts mid h c vol t m q made in
+    rw (made, is-true (amountOk mid) (a .0), is-true (amountOk (c .«min_spread»)) (a .1)) (ap (exactBy mid (c .«min_spread»)) r)
+
+-- ---- a reckoning is read with the model's k and base: what stands beside a report or a refusal is not read
+read-beside : (o : Outcome) (v : ValueVector) (k base : Float) (q : ℤ) → readBy o v (beside o k) (beside o base) q ≡ readBy o v k base q
+unfolding readBy beside
+read-beside (Outcome.Done s) v k base q = refl
+read-beside (Outcome.OverCap need b s) v k base q = refl
+read-beside (Outcome.Refused n) v k base q = refl
+
+lots-read : (mid : ℤ) (c : GLFTConfig) (m : Model) (a : VectorAnswer) (q : ℤ)
+    → quotesOfLots mid c (reckoned m a) q ≡ lotsIf (firstFailing (lotsChecks c q)) (quotesFrom mid (c .«min_spread») (m .k) (m .base) q a)
+unfolding quotesOfLots quotesFrom reckoned answerFrom
+lots-read mid c m a q = rw (read-beside (a .outcome) (a .vector) (m .k) (m .base) q)
 
 -- ---- the checks that no holding takes part in
-check-passed : (l v m : Bool) → checkIf l v m ≡ Check.Passes → (l ≡ true) × (v ≡ true) × (m ≡ true)
-unfolding checkIf
-check-passed false v m e = let z : _≡_ {A = ℕ} 0 1 = cc in absurd (omega arith)
-check-passed true false m e = let z : _≡_ {A = ℕ} 0 1 = cc in absurd (omega arith)
-check-passed true true false e = let z : _≡_ {A = ℕ} 0 1 = cc in absurd (omega arith)
-check-passed true true true e = (refl, refl, refl)
+market-passed : {l v m : Bool} {i j k : ℕ} → Passes ((l, i) ∷ (v, j) ∷ (m, k) ∷ []) → (l ≡ true) × (v ≡ true) × (m ≡ true)
+market-passed (each l (each v (each m none))) = (l, v, m)
 
 -- with a holding within the limit, or not
 limits-with : (x h y z : Bool) → (x && true && y && z) ≡ true → (x && h && y && z) ≡ h
@@ -121,8 +143,8 @@ limits-with false h y z e = cc
 
 module _ (mid : ℤ) (c : GLFTConfig) (vol : ℤ) (t : ℕ) (e : checkCall mid c vol t ≡ Check.Passes) where
   checks : ((timeOk t && modelLimits mid (pos 0) c vol) ≡ true) × (configOk c ≡ true) × (marketOk mid vol ≡ true)
-  unfolding checkCall
-  checks = check-passed _ _ _ e
+  unfolding checkCall checkExact
+  checks = market-passed (none-failing _ .0 (check-passes _ (sym e)))
 
   pub time-checked : timeOk t ≡ true
   time-checked = and-eq-true-iff (timeOk t) (modelLimits mid (pos 0) c vol) .0 (checks .0) .0
@@ -148,25 +170,25 @@ module _ (mid : ℤ) (c : GLFTConfig) (vol : ℤ) (t : ℕ) (e : checkCall mid c
   lot-checked = is-true (above0 (c .«lot_size»)) (lot-passed c (checks .1))
 
   module _ (q : ℤ) (h : natAbs q ≤ c .«max_inventory_lots») where
-    made-by : newModel mid (holdingOf c q) c vol ≡ modelIf (amountOk (holdingOf c q)) true true true true (modelOk (modelOf c vol)) (modelOf c vol) q
-    unfolding newModel
+    made-by : exactModel mid (holdingOf c q) c vol t ≡ modelIf (firstFailing ((amountOk (holdingOf c q), limits) ∷ (modelOk (modelOf c vol), outside) ∷ [])) (modelOf c vol) q
+    unfolding exactModel firstFailing firstOf verdict
     made-by =
         let p = lot-passed c (checks .1) in
-        rw (limits-are (holdingOf c q), checks .1, checks .2, holding-passes c q p h, lots-of-holding c q p)
+        rw (time-checked, limits-are (holdingOf c q), checks .1, checks .2, holding-passes c q p h, lots-of-holding c q p)
 
     -- 2, where the holding is beyond the limit; 5, where the model is refused; and the quotes from the vector
     no-holding : amountOk (holdingOf c q) ≡ false → quotesOfLots mid c (reckoning c vol t) q ≡ exactQuotes mid (holdingOf c q) c vol t
-    unfolding quotesOfLots lotsIf exactQuotes exactAnswer exactIf exactFrom exactBy modelIf
-    no-holding a = rw (lot-checked, a, time-checked, made-by, a)
+    unfolding quotesOfLots lotsIf exactQuotes exactAnswer exactFrom exactBy modelIf firstFailing firstOf verdict
+    no-holding a = rw (lot-checked, a, made-by, a)
 
     no-model : amountOk (holdingOf c q) ≡ true → modelOk (modelOf c vol) ≡ false → quotesOfLots mid c (reckoning c vol t) q ≡ exactQuotes mid (holdingOf c q) c vol t
-    unfolding quotesOfLots lotsIf quotesFrom quotesByAnswer fromIf reckoning reckonIf answerFrom readBy refusedVector exactQuotes exactAnswer exactIf exactFrom exactBy modelIf
-    no-model a f = rw (lot-checked, time-checked, made-by, a, f, amounts-checked)
+    unfolding quotesOfLots lotsIf quotesFrom quotesByAnswer fromIf reckoning reckoned reckonIf answerFrom readBy refusedVector exactQuotes exactAnswer exactFrom exactBy modelIf firstFailing firstOf verdict
+    no-model a f = rw (lot-checked, made-by, a, f, amounts-checked)
 
     with-model : amountOk (holdingOf c q) ≡ true → modelOk (modelOf c vol) ≡ true → quotesOfLots mid c (reckoning c vol t) q ≡ exactQuotes mid (holdingOf c q) c vol t
-    unfolding quotesOfLots lotsIf reckoning reckonIf modelIf
+    unfolding lotsIf reckoning reckonIf modelIf firstFailing firstOf verdict
     with-model a f =
-        rw (lot-checked, a, f) (from-vector mid (holdingOf c q) c vol t (modelOf c vol) q time-checked (rw (made-by, a, f)))
+        rw (lots-read, lot-checked, a, f) (from-vector mid (holdingOf c q) c vol t (modelOf c vol) q (rw (made-by, a, f)))
 
     lots-single : (a f : Bool) → amountOk (holdingOf c q) ≡ a → modelOk (modelOf c vol) ≡ f → quotesOfLots mid c (reckoning c vol t) q ≡ exactQuotes mid (holdingOf c q) c vol t
     lots-single false f ea ef = no-holding ea

@@ -4,12 +4,18 @@ use mathlib.Core.Logic.{_⊎_, _↔_, inl, inr}
 use Prim.Native.Nat.{ℕ, suc, _≤_}
 use native.Mathlib.Omega.{arith}
 use mathlib.Core.Bool.{Bool, true, false, _&&_}
+use mathlib.Core.List.{List, _∷_, []}
 use lib.IntN.{ℤ, pos, negsuc, negℤ, _*ℤ_, *ℤ-comm, *ℤ-negsuc}
 use lib.Ieee.{Float}
+use Rattle.elementary.specs.Elementary.{outside}
+use Rattle.elementary.specs.Checks.{Verdict, verdict, firstOf, firstFailing, checkOf, Refuses, here, later, Passes}
+use Rattle.elementary.specs.Checks as Checks
+use Rattle.elementary.proofs.Checks.{first-failing, none-failing, check-refused}
 use Rattle.vector.specs.Refusals.{configuration}
 use Rattle.vector.specs.declared.ValueVector.{ValueVector}
 use Rattle.vector.specs.declared.Outcome.{Outcome}
 use Rattle.vector.specs.declared.Outcome.the-variants as Outcome
+use Rattle.distances.specs.Refusals.{holding}
 use Rattle.distances.specs.Distances.{exactDistances}
 use Rattle.distances.specs.Reading.{sidesWith, readBy, answerFrom}
 use Rattle.distances.specs.declared.Distance.{Distance}
@@ -18,24 +24,22 @@ use Rattle.distances.specs.declared.Sides.the-variants as Sides
 use Rattle.distances.specs.declared.Answer.the-variants as Answer
 use Rattle.amounts.specs.Refusals.{limits}
 use Rattle.model.specs.Refusals.{market}
-use Rattle.amounts.specs.Amounts.{amountOk, above0}
+use Rattle.amounts.specs.Amounts.{amountOk, timeOk}
 use Rattle.model.specs.Configuration.{configOk, turned}
-use Rattle.model.specs.Model.{modelLimits, checkIf, checkCall}
+use Rattle.model.specs.Model.{modelLimits, checkCall, marketChecks, holdingChecks, checkExact}
 use Rattle.prices.specs.Prices.{buildQuotes}
 use Rattle.prices.specs.declared.QuotesAnswer.{QuotesAnswer}
 use Rattle.prices.specs.declared.QuotesAnswer.the-variants.{Quotes as quoted, Refused as refused}
 use Rattle.quote.specs.Quotes.{withSteps, exactBy, fromIf, quotesByAnswer}
-use Rattle.model.specs.Refusing.{Checked, by-2, by-1, by-22, by-3, by-4, by-5}
 use Rattle.prices.specs.Refusing.{Priced, by-13, by-14}
 use Rattle.quote.specs.Promises.{PricedOf}
-use Rattle.lots.specs.Reckoning.{quotesFrom, holdingOf, lotsIf, quotesOfLots, by-report, by-refusal, LotsEnd, Carries, OneRun, LotsMirror, Early, CheckRefusals, FromRefusals, LotsRefusals}
+use Rattle.lots.specs.Reckoning.{quotesFrom, holdingOf, lotsChecks, lotsIf, quotesOfLots, by-report, by-refusal, LotsEnd, Carries, OneRun, LotsMirror, Early, CheckRefusals, FromRefusals, LotsRefusals}
 use Rattle.model.specs.declared.GLFTConfig.{GLFTConfig}
 use Rattle.quote.specs.declared.ExactQuotes.{ExactQuotes}
 use Rattle.quote.specs.declared.ExactQuotes.the-variants as Exact
-use Rattle.model.specs.declared.Check.{Check}
-use Rattle.model.specs.declared.Check.the-variants as Check
 use Rattle.lots.specs.declared.Reckoning.{Reckoning}
 use Rattle.amounts.proofs.Signed.{natAbs-neg, times-neg}
+use Rattle.model.proofs.Joined.{refuses-more}
 use Rattle.model.proofs.Turned.{limits-turned}
 use Rattle.quote.proofs.Mirrors.{exact-mirror}
 use Rattle.quote.proofs.Pairs.{exact-pairs}
@@ -45,7 +49,7 @@ use Rattle.lots.proofs.Lots.{amounts-checked, lot-checked, lots-are-sin
 
 -- ---- a reckoning that ends in a report or a refusal
 pub lots-end : LotsEnd
-unfolding quotesOfLots quotesFrom quotesByAnswer fromIf answerFrom readBy exactBy
+unfolding quotesOfLots firstFailing firstOf verdict quotesFrom quotesByAnswer fromIf answerFrom readBy exactBy
 lots-end mid c vol t q x e (by-report h) = rw (lot-checked mid c vol t e, amounts-checked mid c vol t e, h)
 lots-end mid c vol t q x e (by-refusal h) = rw (lot-checked mid c vol t e, amounts-checked mid c vol t e, h)
 
@@ -77,16 +81,15 @@ unfolding fromIf Carries
 from-carries true x n h = h
 from-carries false x n h = absurd h
 
-lots-carry : (a b : Bool) (x : ExactQuotes) (n : ℕ) → Carries (lotsIf a b x) n → Carries x n
+lots-carry : (v : Verdict) (x : ExactQuotes) (n : ℕ) → Carries (lotsIf v x) n → Carries x n
 unfolding lotsIf Carries
-lots-carry true true x n h = h
-lots-carry true false x n h = absurd h
-lots-carry false b x n h = absurd h
+lots-carry Checks.passes x n h = h
+lots-carry (Checks.refused r) x n h = absurd h
 
 run-carries : (mid : ℤ) (c : GLFTConfig) (r : Reckoning) (q : ℤ) (n : ℕ) → Carries (quotesOfLots mid c r q) n → spent (r .vector .outcome) ≡ n
 unfolding quotesOfLots quotesFrom quotesByAnswer answerFrom
 run-carries mid c r q n h =
-    outcome-carries mid (c .«min_spread») (r .vector .vector) (r .k) (r .base) q n (r .vector .outcome) (from-carries _ _ n (lots-carry _ _ _ n h))
+    outcome-carries mid (c .«min_spread») (r .vector .vector) (r .k) (r .base) q n (r .vector .outcome) (from-carries _ _ n (lots-carry _ _ n h))
 
 pub one-run : OneRun
 one-run mid c r q p n m h g = sym (run-carries mid c r q n h) ∙ run-carries mid c r p m g
@@ -104,7 +107,7 @@ unfolding holdingOf
 holding-negated c q = negated-times q (c .«lot_size»)
 
 pub check-turned : (mid : ℤ) (c : GLFTConfig) (vol : ℤ) (t : ℕ) → checkCall mid (turned c) vol t ≡ checkCall mid c vol t
-unfolding checkCall modelLimits configOk
+unfolding checkCall checkExact modelLimits configOk
 check-turned mid c vol t = rw (limits-turned c)
 
 pub lots-mirror : LotsMirror
@@ -118,12 +121,10 @@ lots-mirror mid c vol t q e h =
     )
 
 -- ---- what refuses a call whatever the holding
-checked-early : {h f : Bool} (l v m : Bool) (n : ℕ) → checkIf l v m ≡ Check.Refused n → Early n × Checked l v true m h f n
-unfolding checkIf
-checked-early false v m n e = let z : n ≡ limits = cc in rw z (inl refl, by-2)
-checked-early true false m n e = let z : n ≡ configuration = cc in rw z (inr (inl refl), by-1)
-checked-early true true false n e = let z : n ≡ market = cc in rw z (inr (inr refl), by-3)
-checked-early true true true n e = let z : _≡_ {A = ℕ} 0 1 = cc in absurd (omega arith)
+market-early : {l v m : Bool} {n : ℕ} → Refuses ((l, limits) ∷ (v, configuration) ∷ (m, market) ∷ []) n → Early n
+market-early (here e) = inl refl
+market-early (later _ (here e)) = inr (inl refl)
+market-early (later _ (later _ (here e))) = inr (inr refl)
 
 -- 4 and later numbers are not early
 not-early : {A : Type 0} (n : ℕ) → 4 ≤ n → Early n → A
@@ -131,29 +132,28 @@ not-early n h (inl e) = absurd (omega arith)
 not-early n h (inr (inl e)) = absurd (omega arith)
 not-early n h (inr (inr e)) = absurd (omega arith)
 
-early-checked : {l v d m h f : Bool} {n : ℕ} → Early n → Checked l v d m h f n → checkIf l v m ≡ Check.Refused n
-unfolding checkIf
-early-checked y by-2 = refl
-early-checked y by-1 = refl
-early-checked y by-22 = not-early 22 (omega arith) y
-early-checked y by-3 = refl
-early-checked y by-4 = not-early 4 (omega arith) y
-early-checked y by-5 = not-early 5 (omega arith) y
+early-market : {l v m h f : Bool} {n : ℕ} → Early n → Refuses ((l, limits) ∷ (v, configuration) ∷ (m, market) ∷ (h, holding) ∷ (f, outside) ∷ []) n → Refuses ((l, limits) ∷ (v, configuration) ∷ (m, market) ∷ []) n
+early-market y (here e) = here e
+early-market y (later l (here e)) = later l (here e)
+early-market y (later l (later v (here e))) = later l (later v (here e))
+early-market y (later l (later v (later m (here e)))) = not-early 4 (omega arith) y
+early-market y (later l (later v (later m (later h (here e))))) = not-early 5 (omega arith) y
 
 priced-late : {mid least : ℤ} {b a : Distance} {n : ℕ} → Priced mid least b a n → 4 ≤ n
 priced-late (by-13 h) = omega arith
 priced-late (by-14 h k) = omega arith
 
 pub check-refusals : CheckRefusals
-unfolding checkCall
-check-refusals mid c vol t n = (
-  λ e. let k = checked-early _ _ _ n e in (k .0, exact-refusals mid (pos 0) c vol t n .1 (inl (k .1))),
-  λ x.
-      elim (exact-refusals mid (pos 0) c vol t n .0 (x .1)) [
-        | inl k ↦ early-checked (x .0) k
-        | inr k ↦ elim k [ inl f ↦ not-early n (omega (arith, f .0)) (x .0) | inr p ↦ not-early n (priced-late (p .4)) (x .0) ]
-      ],
-)
+unfolding checkCall checkExact checkOf
+check-refusals mid c vol t n =
+    let l = marketChecks (timeOk t && modelLimits mid (pos 0) c vol) mid c vol in (
+      λ e. let k = first-failing l n .0 (check-refused (firstFailing l) n (sym e)) in (market-early k, exact-refusals mid (pos 0) c vol t n .1 (inl (refuses-more (holdingChecks (pos 0) c vol) k))),
+      λ x.
+          elim (exact-refusals mid (pos 0) c vol t n .0 (x .1)) [
+            | inl k ↦ rw (first-failing l n .1 (early-market (x .0) k))
+            | inr k ↦ elim k [ inl f ↦ not-early n (omega (arith, f .0)) (x .0) | inr p ↦ not-early n (priced-late (p .4)) (x .0) ]
+          ],
+    )
 
 -- ---- what refuses quotes from a vector, and those of so many lots
 pub from-refusals : FromRefusals
@@ -166,21 +166,14 @@ from-refusals mid least k base q a n = (to (amountOk mid && amountOk least) refl
     to false h e = inl (cc, h)
     to true h e = inr (h, exact-by mid least (answerFrom a k base q) n (finite-distances .answer a k base q) .0 e)
 
-lots-refused : (a b : Bool) (x : ExactQuotes) (n : ℕ)
-    → (lotsIf a b x ≡ Exact.Refused n)
-    ↔ (((n ≡ configuration) × (a ≡ false)) ⊎ (((n ≡ limits) × (a ≡ true) × (b ≡ false)) ⊎ ((a ≡ true) × (b ≡ true) × (x ≡ Exact.Refused n))))
+lots-refused : (l : List (Bool × ℕ)) (x : ExactQuotes) (n : ℕ) → (lotsIf (firstFailing l) x ≡ Exact.Refused n) ↔ (Refuses l n ⊎ (Passes l × (x ≡ Exact.Refused n)))
 unfolding lotsIf
-lots-refused a b x n = (
-  to a b,
-  λ y. elim y [ inl z ↦ rw (z .1, z .0) | inr z ↦ elim z [ inl u ↦ rw (u .1, u .2, u .0) | inr u ↦ rw (u .0, u .1) (u .2) ] ],
-)
+lots-refused l x n = (to (firstFailing l) refl, λ y. elim y [ inl k ↦ rw (first-failing l n .1 k) | inr k ↦ rw (none-failing l .1 (k .0)) (k .1) ])
   where
-    to : (a b : Bool) → lotsIf a b x ≡ Exact.Refused n
-        → ((n ≡ configuration) × (a ≡ false)) ⊎ (((n ≡ limits) × (a ≡ true) × (b ≡ false)) ⊎ ((a ≡ true) × (b ≡ true) × (x ≡ Exact.Refused n)))
-    to false b e = inl (cc, refl)
-    to true false e = inr (inl (cc, refl, refl))
-    to true true e = inr (inr (refl, refl, e))
+    to : (v : Verdict) → firstFailing l ≡ v → lotsIf v x ≡ Exact.Refused n → Refuses l n ⊎ (Passes l × (x ≡ Exact.Refused n))
+    to Checks.passes k e = inr (none-failing l .0 k, e)
+    to (Checks.refused r) k e = let z : r ≡ n = cc in inl (first-failing l n .0 (k ∙ ap Checks.refused z))
 
 pub lots-refusals : LotsRefusals
 unfolding quotesOfLots
-lots-refusals mid c r q n = lots-refused (above0 (c .«lot_size»)) (amountOk (holdingOf c q)) (quotesFrom mid (c .«min_spread») (r .k) (r .base) q (r .vector)) n
+lots-refusals mid c r q n = lots-refused (lotsChecks c q) (quotesFrom mid (c .«min_spread») (r .k) (r .base) q (r .vector)) n

@@ -5,11 +5,12 @@ use native.Mathlib.Omega.{arith}
 use mathlib.Core.Bool.{Bool, true, false, _&&_}
 use lib.IntN.{ℤ}
 use lib.Ieee.{Float}
+use Rattle.elementary.specs.Checks.{Verdict, passes, refused, firstFailing}
 use Rattle.vector.specs.declared.VectorAnswer.{VectorAnswer}
 use Rattle.distances.specs.Reading.{answerFrom}
-use Rattle.amounts.specs.Amounts.{amountOk, above0}
+use Rattle.amounts.specs.Amounts.{amountOk}
 use Rattle.quote.specs.Quotes.{exactBy, fromIf, quotesByAnswer}
-use Rattle.lots.specs.Reckoning.{quotesFrom, holdingOf, lotsIf, quotesOfLots}
+use Rattle.lots.specs.Reckoning.{quotesFrom, lotsChecks, lotsIf, quotesOfLots}
 use Rattle.quote.specs.Outward.{OutsideOf}
 use Rattle.model.specs.declared.GLFTConfig.{GLFTConfig}
 use Rattle.prices.specs.declared.GlftQuotes.{GlftQuotes}
@@ -28,12 +29,11 @@ from-never mid least k base l v q s = go (amountOk mid && amountOk least)
 
 lots-never : (mid : ℤ) (c : GLFTConfig) (r : Reckoning) (l : ℤ) (q : GlftQuotes) (s : ℕ) → quotesOfLots mid c r l ≡ Exact.Quotes q s → OutsideOf mid (answerFrom (r .vector) (r .k) (r .base) l) q s
 unfolding quotesOfLots lotsIf
-lots-never mid c r l q s = go (above0 (c .«lot_size»)) (amountOk (holdingOf c l))
+lots-never mid c r l q s = go (firstFailing (lotsChecks c l))
   where
-    go : (x y : Bool) → lotsIf x y (quotesFrom mid (c .«min_spread») (r .k) (r .base) l (r .vector)) ≡ Exact.Quotes q s → OutsideOf mid (answerFrom (r .vector) (r .k) (r .base) l) q s
-    go true true e = from-never mid (c .«min_spread») (r .k) (r .base) l (r .vector) q s e
-    go true false e = let z : _≡_ {A = ℕ} 0 1 = cc in absurd (omega arith)
-    go false y e = let z : _≡_ {A = ℕ} 0 1 = cc in absurd (omega arith)
+    go : (v : Verdict) → lotsIf v (quotesFrom mid (c .«min_spread») (r .k) (r .base) l (r .vector)) ≡ Exact.Quotes q s → OutsideOf mid (answerFrom (r .vector) (r .k) (r .base) l) q s
+    go passes e = from-never mid (c .«min_spread») (r .k) (r .base) l (r .vector) q s e
+    go (refused n) e = let z : _≡_ {A = ℕ} 0 1 = cc in absurd (omega arith)
 
 pub lots-never-inside : LotsNeverInside
 lots-never-inside = record { from = from-never; lots = lots-never }

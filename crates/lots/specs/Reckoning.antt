@@ -3,10 +3,13 @@ use mathlib.Core.Path.{_≡_}
 use mathlib.Core.Logic.{_⊎_, _↔_}
 use Prim.Native.Nat.{ℕ, _≤_}
 use mathlib.Core.Bool.{Bool, true, false, _&&_}
-use mathlib.Core.List.{List}
+use mathlib.Core.List.{List, _∷_, []}
 use lib.IntN.{ℤ, pos, negℤ, natAbs, _*ℤ_}
 use lib.Ieee.{Float}
+use Rattle.elementary.specs.Float.{0ᶠ}
 use Rattle.elementary.specs.Elementary.{outside}
+use Rattle.elementary.specs.Checks.{Verdict, passes, refused, firstFailing, Refuses, Passes}
+use Rattle.elementary.specs.declared.Check.the-variants as Check
 use Rattle.vector.specs.Refusals.{configuration}
 use Rattle.vector.specs.Values.{refusedVector, valueVector}
 use Rattle.vector.specs.declared.Outcome.{Outcome}
@@ -18,9 +21,9 @@ use Rattle.distances.specs.Distances.{lent}
 use Rattle.distances.specs.Reading.{answerFrom}
 use Rattle.amounts.specs.Refusals.{limits}
 use Rattle.model.specs.Refusals.{market}
-use Rattle.amounts.specs.Amounts.{amountOk, above0, timeOk, tauOf}
+use Rattle.amounts.specs.Amounts.{amountOk, above0, tauOf}
 use Rattle.model.specs.Configuration.{turned}
-use Rattle.model.specs.Model.{modelOf, modelOk, inputOf, newModel, checkCall}
+use Rattle.model.specs.Model.{modelOf, modelOk, inputOf, checkCall, exactModel}
 use Rattle.quote.specs.Quotes.{exactAnswer, exactQuotes, quotesByAnswer}
 use Rattle.prices.specs.Facing.{Pair}
 use Rattle.quote.specs.Promises.{PricedOf}
@@ -30,17 +33,26 @@ use Rattle.model.specs.declared.ModelAnswer.the-variants as ModelAnswer
 use Rattle.prices.specs.declared.GlftQuotes.{GlftQuotes}
 use Rattle.quote.specs.declared.ExactQuotes.{ExactQuotes}
 use Rattle.quote.specs.declared.ExactQuotes.the-variants as ExactQuotes
-use Rattle.model.specs.declared.Check.{Check}
-use Rattle.model.specs.declared.Check.the-variants as Check
 use Rattle.lots.specs.declared.Reckoning.{Reckoning}
 
--- ---- the reckoning: the model's k and base, and its value vector; 5 in the vector's place where a float of the model is not fine
-unfoldable pub reckonIf : Bool → Model → Float → VectorAnswer
-reckonIf false m tau = refusedVector outside
-reckonIf true m tau = valueVector (inputOf m tau)
+-- ---- the reckoning
+-- a value vector, or 5 in its place where a float of the model is not fine
+unfoldable pub reckonIf : Bool → VectorAnswer → VectorAnswer
+reckonIf false a = refusedVector outside
+reckonIf true a = a
+
+-- a number beside a vector; a report or a refusal stands alone, with 0.0 beside it
+unfoldable pub beside : Outcome → Float → Float
+beside (Outcome.Done s) x = x
+beside (Outcome.OverCap need b s) x = 0ᶠ
+beside (Outcome.Refused n) x = 0ᶠ
+
+-- the model's k and base beside its value vector
+unfoldable pub reckoned : Model → VectorAnswer → Reckoning
+reckoned m a = record { k = beside (a .outcome) (m .k); base = beside (a .outcome) (m .base); vector = a }
 
 unfoldable pub reckoning : GLFTConfig → ℤ → ℕ → Reckoning
-reckoning c vol t = let m = modelOf c vol in record { k = m .k; base = m .base; vector = reckonIf (modelOk m) m (tauOf (c .«terminal_time») t) }
+reckoning c vol t = let m = modelOf c vol in reckoned m (reckonIf (modelOk m) (valueVector (inputOf m (tauOf (c .«terminal_time») t))))
 
 -- ---- quotes at q lots from a vector
 unfoldable pub quotesFrom : ℤ → ℤ → Float → Float → ℤ → VectorAnswer → ExactQuotes
@@ -50,13 +62,15 @@ quotesFrom mid least k base q a = quotesByAnswer mid least (answerFrom a k base 
 unfoldable pub holdingOf : GLFTConfig → ℤ → ℤ
 holdingOf c q = q *ℤ (c .«lot_size»)
 
-unfoldable pub lotsIf : Bool → Bool → ExactQuotes → ExactQuotes
-lotsIf false m x = ExactQuotes.Refused configuration
-lotsIf true false x = ExactQuotes.Refused limits
-lotsIf true true x = x
+abbrev pub lotsChecks : GLFTConfig → ℤ → List (Bool × ℕ)
+lotsChecks c q = (above0 (c .«lot_size»), configuration) ∷ (amountOk (holdingOf c q), limits) ∷ []
+
+unfoldable pub lotsIf : Verdict → ExactQuotes → ExactQuotes
+lotsIf passes x = x
+lotsIf (refused n) x = ExactQuotes.Refused n
 
 unfoldable pub quotesOfLots : ℤ → GLFTConfig → Reckoning → ℤ → ExactQuotes
-quotesOfLots mid c r q = lotsIf (above0 (c .«lot_size»)) (amountOk (holdingOf c q)) (quotesFrom mid (c .«min_spread») (r .k) (r .base) q (r .vector))
+quotesOfLots mid c r q = lotsIf (firstFailing (lotsChecks c q)) (quotesFrom mid (c .«min_spread») (r .k) (r .base) q (r .vector))
 
 -- a reckoning whose vector's arrays are lent: k, base, the run's outcome, and the vector's length, weights and offsets
 abbrev pub lentReckoning : Float → Float → Outcome → ℕ → List Float → List Float → Reckoning
@@ -65,7 +79,7 @@ lentReckoning k base e n w o = record { k = k; base = base; vector = record { ou
 -- ==== statements
 -- where a call's model is made, the quotes from its value vector are those of `exact_quotes`
 abbrev pub FromVector : Type 0
-FromVector = (mid h : ℤ) (c : GLFTConfig) (vol : ℤ) (t : ℕ) (m : Model) (q : ℤ) → timeOk t ≡ true → newModel mid h c vol ≡ ModelAnswer.Model m q
+FromVector = (mid h : ℤ) (c : GLFTConfig) (vol : ℤ) (t : ℕ) (m : Model) (q : ℤ) → exactModel mid h c vol t ≡ ModelAnswer.Model m q
     → quotesFrom mid (c .«min_spread») (m .k) (m .base) q (valueVector (inputOf m (tauOf (c .«terminal_time») t))) ≡ exactQuotes mid h c vol t
 
 -- where a call's numbers pass, the quotes of so many lots, within the bound, from its reckoning are those of `exact_quotes` at their holding
@@ -80,7 +94,7 @@ pub data Ends (r : Reckoning) : ExactQuotes → Type 0 where
 
 abbrev pub LotsEnd : Type 0
 LotsEnd = (mid : ℤ) (c : GLFTConfig) (vol : ℤ) (t : ℕ) (q : ℤ) (x : ExactQuotes) → checkCall mid c vol t ≡ Check.Passes → Ends (reckoning c vol t) x
-    → quotesOfLots mid c (reckoning c vol t) q ≡ lotsIf true (amountOk (holdingOf c q)) x
+    → quotesOfLots mid c (reckoning c vol t) q ≡ lotsIf (firstFailing ((amountOk (holdingOf c q), limits) ∷ [])) x
 
 -- the steps that a reply carries
 unfoldable pub Carries : ExactQuotes → ℕ → Type 0
@@ -120,6 +134,4 @@ FromRefusals = (mid least : ℤ) (k base : Float) (q : ℤ) (a : VectorAnswer) (
 abbrev pub LotsRefusals : Type 0
 LotsRefusals = (mid : ℤ) (c : GLFTConfig) (r : Reckoning) (q : ℤ) (n : ℕ)
     → (quotesOfLots mid c r q ≡ ExactQuotes.Refused n)
-    ↔ (((n ≡ configuration) × (above0 (c .«lot_size») ≡ false))
-    ⊎ (((n ≡ limits) × (above0 (c .«lot_size») ≡ true) × (amountOk (holdingOf c q) ≡ false))
-    ⊎ ((above0 (c .«lot_size») ≡ true) × (amountOk (holdingOf c q) ≡ true) × (quotesFrom mid (c .«min_spread») (r .k) (r .base) q (r .vector) ≡ ExactQuotes.Refused n))))
+    ↔ (Refuses (lotsChecks c q) n ⊎ (Passes (lotsChecks c q) × (quotesFrom mid (c .«min_spread») (r .k) (r .base) q (r .vector) ≡ ExactQuotes.Refused n)))

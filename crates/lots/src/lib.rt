@@ -4,8 +4,9 @@ ghost use mathlib.Core.Path.{_≡_};
 ghost use lib.IntN.{_*ℤ_};
 ghost use lib.Dec.{T};
 ghost use Rattle.amounts.specs.Amounts.{amountOk, above0};
-ghost use Rattle.model.specs.Model.{modelOk};
-ghost use Rattle.lots.specs.Reckoning.{reckonIf, reckoning, quotesFrom, lentReckoning, quotesOfLots};
+ghost use Rattle.model.specs.Model.{modelOk, inputOf};
+ghost use Rattle.vector.specs.Values.{valueVector};
+ghost use Rattle.lots.specs.Reckoning.{reckonIf, beside, reckoning, quotesFrom, lentReckoning, quotesOfLots};
 use amounts::refusals::LIMITS;
 use model::GLFTConfig;
 use model::Model;
@@ -24,7 +25,7 @@ pub struct Reckoning {
 
 // The value vector of a model, or 5 in its place.
 fn vector_of(m: Model, tau: f64) -> VectorAnswer
-    ensures { λ r. ⌜ r ≡ reckonIf (modelOk m) m tau ⌝ }
+    ensures { λ r. ⌜ r ≡ reckonIf (modelOk m) (valueVector (inputOf m tau)) ⌝ }
 {
     if model::floats_fit(m) {
         return vector::value_vector(model::run_input(m, tau));
@@ -32,17 +33,30 @@ fn vector_of(m: Model, tau: f64) -> VectorAnswer
     vector::refused_vector(elementary::OUTSIDE)
 }
 
-// The reckoning of a configuration and a market. A model that 5 refuses leaves that in the vector's
-// place, as 11 and the cap report are there where the run ends in one.
+// A number beside a vector: 0.0 where a report or a refusal is in the vector's place.
+fn beside_vector(outcome: Outcome, x: f64) -> f64
+    ensures { λ r. ⌜ r ≡ beside outcome x ⌝ }
+{
+    match outcome {
+        Outcome::Done(_) => x,
+        Outcome::OverCap(_, _, _) => 0.0,
+        Outcome::Refused(_) => 0.0,
+    }
+}
+
+// The reckoning of a configuration and a market. The model's 5 stands in the vector's place, as do 5, 1,
+// 11 and the cap report of the run; k and base are 0.0 then.
 pub fn reckon(config: GLFTConfig, volatility: i64, current_time: u64) -> Reckoning
     ensures { λ r. ⌜ r ≡ reckoning config volatility «current_time» ⌝ }
 {
     let m = model::model_of(config, volatility);
     let tau = amounts::seconds_to_terminal(config.terminal_time, current_time);
+    let vector = vector_of(m, tau);
+    let outcome = vector.outcome;
     Reckoning {
-        k: m.k,
-        base: m.base,
-        vector: vector_of(m, tau),
+        k: beside_vector(outcome, m.k),
+        base: beside_vector(outcome, m.base),
+        vector,
     }
 }
 

@@ -1,3 +1,4 @@
+pub mod Joined
 pub mod Passed
 pub mod Turned
 pub mod Refusing

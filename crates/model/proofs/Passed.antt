@@ -4,6 +4,7 @@ use Prim.Native.Nat.{ℕ, _-_, _^_, _≤_}
 use native.Mathlib.Nat.{le-trans, sub-le}
 use native.Mathlib.Omega.{arith}
 use mathlib.Core.Bool.{Bool, true, false, _&&_, and-eq-true-iff}
+use mathlib.Core.List.{List, _∷_, _++_}
 use borrow.Author.Tests.{leb-true}
 use lib.IntN.{ℤ, pos, natAbs}
 use lib.Signed.{leZ, remZ}
@@ -13,45 +14,55 @@ use lib.Ieee.Fits.{round-fits}
 use lib.Ieee.Bits.{is-true}
 use lib.Ieee.Exact.{HasValue}
 use Rattle.elementary.specs.Float.{_⊘_, whole, 0ᶠ, finite, positive}
+use Rattle.elementary.specs.Checks.{Verdict, passes, refused, verdict, firstOf, firstFailing, checkOf, Refuses, Passes, none, each}
+use Rattle.elementary.proofs.Checks.{first-failing, none-failing, failing-joined}
 use Rattle.elementary.proofs.Signs.{nonneg}
 use Rattle.elementary.proofs.Exact.{whole-value, div-one-f}
 use Rattle.elementary.proofs.Order.{round-nonneg, div-nonneg, div-number, div-anti, finite-below}
+use Rattle.vector.specs.Refusals.{configuration}
 use Rattle.vector.specs.Run.{largestBound, boundOk}
 use Rattle.vector.specs.Values.{ratesOk}
 use Rattle.distances.specs.FloatEntry.{floatsOk}
+use Rattle.amounts.specs.Refusals.{limits}
 use Rattle.amounts.specs.Amounts.{amountOk, timeLimit, timeOk, above0, tauOf}
 use Rattle.model.specs.Configuration.{configLimits, configOk}
-use Rattle.model.specs.Model.{lots, holdingOk, modelIf, modelOk, modelLimits, marketOk, modelOf, modelWith, inputOf}
-use Rattle.model.specs.Refusing.{Checked, by-2, by-1, by-22, by-3, by-4, by-5}
+use Rattle.model.specs.Model.{lots, holdingOk, modelIf, modelOk, modelLimits, marketOk, modelOf, inputOf, driftless, holdingChecks, exactChecks, closedChecks, exactModel, closedModel, modelAfter}
 use Rattle.model.specs.declared.GLFTConfig.{GLFTConfig}
 use Rattle.model.specs.declared.Model.{Model}
 use Rattle.model.specs.declared.ModelAnswer.{ModelAnswer}
-use Rattle.model.specs.declared.ModelAnswer.the-variants.{Refused, Model as Made}
+use Rattle.model.specs.declared.ModelAnswer.the-variants.{Refused, Model as Given}
+use Rattle.model.proofs.Joined.{verdict-told}
 use mir.Facts.{and-yes}
 
--- ---- the tests for 2, 1, 22, 3, 4 and 5, in this order
-pub data Outcome (l v d m h f : Bool) (b : Model) (q : ℤ) : ModelAnswer → Type 0 where
-  stopped : {n : ℕ} → Checked l v d m h f n → Outcome l v d m h f b q (Refused n)
-  passed : l ≡ true → v ≡ true → d ≡ true → m ≡ true → h ≡ true → f ≡ true → Outcome l v d m h f b q (Made b q)
+-- ---- by the checks
+pub data Made (l : List (Bool × ℕ)) (b : Model) (q : ℤ) : ModelAnswer → Type 0 where
+  stopped : {n : ℕ} → Refuses l n → Made l b q (Refused n)
+  passed : Passes l → Made l b q (Given b q)
 
-pub outcome : (l v d m h f : Bool) (b : Model) (q : ℤ) → Outcome l v d m h f b q (modelIf l v d m h f b q)
+pub made : (l : List (Bool × ℕ)) (b : Model) (q : ℤ) → Made l b q (modelIf (firstFailing l) b q)
 unfolding modelIf
-outcome false v d m h f b q = stopped by-2
-outcome true false d m h f b q = stopped by-1
-outcome true true false m h f b q = stopped by-22
-outcome true true true false h f b q = stopped by-3
-outcome true true true true false f b q = stopped by-4
-outcome true true true true true false b q = stopped by-5
-outcome true true true true true true b q = passed refl refl refl refl refl refl
+made l b q = go (firstFailing l) refl
+  where
+    go : (v : Verdict) → firstFailing l ≡ v → Made l b q (modelIf v b q)
+    go passes e = passed (none-failing l .0 e)
+    go (refused n) e = stopped (first-failing l n .0 e)
 
-pub stops : {l v d m h f : Bool} {n : ℕ} (b : Model) (q : ℤ) → Checked l v d m h f n → modelIf l v d m h f b q ≡ Refused n
+pub stops : {l : List (Bool × ℕ)} {n : ℕ} (b : Model) (q : ℤ) → Refuses l n → modelIf (firstFailing l) b q ≡ Refused n
 unfolding modelIf
-stops b q by-2 = refl
-stops b q by-1 = refl
-stops b q by-22 = refl
-stops b q by-3 = refl
-stops b q by-4 = refl
-stops b q by-5 = refl
+stops {l} {n} b q k = rw (first-failing l n .1 k)
+
+pub goes-on : {l : List (Bool × ℕ)} (b : Model) (q : ℤ) → Passes l → modelIf (firstFailing l) b q ≡ Given b q
+unfolding modelIf
+goes-on {l} b q k = rw (none-failing l .1 k)
+
+-- the checks of an exact call and of a closed-form call, one by one
+pub exact-passed : (mid h : ℤ) (c : GLFTConfig) (vol : ℤ) (t : ℕ) → Passes (exactChecks mid h c vol t)
+    → ((timeOk t && modelLimits mid h c vol) ≡ true) × (configOk c ≡ true) × (marketOk mid vol ≡ true) × (holdingOk h c ≡ true) × (modelOk (modelOf c vol) ≡ true)
+exact-passed mid h c vol t (each l (each v (each m (each g (each f none))))) = (l, v, m, g, f)
+
+pub closed-passed : (mid h : ℤ) (c : GLFTConfig) (vol : ℤ) → Passes (closedChecks mid h c vol)
+    → (modelLimits mid h c vol ≡ true) × (configOk c ≡ true) × (driftless c ≡ true) × (marketOk mid vol ≡ true) × (holdingOk h c ≡ true) × (modelOk (modelOf c vol) ≡ true)
+closed-passed mid h c vol (each l (each v (each d (each m (each g (each f none)))))) = (l, v, d, m, g, f)
 
 -- ---- the bound is one of 1 to 200, and the lots are within it
 pub bound-passed : (c : GLFTConfig) → configOk c ≡ true → boundOk (c .«max_inventory_lots») ≡ true
@@ -156,13 +167,44 @@ spread-passed c h =
     let d = amountOk (c .drift) in
     and-yes p s (and-yes (p && s) d (and-yes (p && s && d) (timeOk (c .«terminal_time»)) h .0) .0) .1
 
-pub made-amounts : (d : Bool) (mid h : ℤ) (c : GLFTConfig) (vol : ℤ) (m : Model) (q : ℤ) → modelWith d mid h c vol ≡ Made m q → T (amountOk mid) × T (amountOk (c .«min_spread»))
-unfolding modelLimits modelIf
-made-amounts d mid h c vol m q = go (modelLimits mid h c vol) refl
+-- ---- the numbers of a call that pass: mid and min spread are within the limit
+pub limits-passed : (mid h : ℤ) (c : GLFTConfig) (vol : ℤ) → modelLimits mid h c vol ≡ true → T (amountOk mid) × T (amountOk (c .«min_spread»))
+unfolding modelLimits
+limits-passed mid h c vol k =
+    let u = and-yes (amountOk mid && amountOk h && amountOk vol) (configLimits c) (subst T (sym k) tt) in
+    (and-yes (amountOk mid) (amountOk h) (and-yes (amountOk mid && amountOk h) (amountOk vol) (u .0) .0) .0, spread-passed c (u .1))
+
+-- so too where a model is made, whose first check is l and that of those numbers
+pub made-amounts : (l : Bool) (mid h : ℤ) (c : GLFTConfig) (vol : ℤ) → (l ≡ true → modelLimits mid h c vol ≡ true) → (r : List (Bool × ℕ)) (b m : Model) (p q : ℤ)
+    → modelIf (firstFailing ((l, limits) ∷ r)) b p ≡ Given m q → T (amountOk mid) × T (amountOk (c .«min_spread»))
+unfolding modelIf firstFailing firstOf verdict
+made-amounts true mid h c vol f r b m p q e = limits-passed mid h c vol (f refl)
+made-amounts false mid h c vol f r b m p q e = let z : _≡_ {A = ℕ} 0 1 = cc in absurd (omega arith)
+
+pub exact-amounts : (mid h : ℤ) (c : GLFTConfig) (vol : ℤ) (t : ℕ) (m : Model) (q : ℤ) → exactModel mid h c vol t ≡ Given m q → T (amountOk mid) × T (amountOk (c .«min_spread»))
+unfolding exactModel
+exact-amounts mid h c vol t m q e =
+    made-amounts (timeOk t && modelLimits mid h c vol) mid h c vol (λ k. and-eq-true-iff (timeOk t) (modelLimits mid h c vol) .0 k .1) _ _ m _ q e
+
+pub closed-amounts : (mid h : ℤ) (c : GLFTConfig) (vol : ℤ) (m : Model) (q : ℤ) → closedModel mid h c vol ≡ Given m q → T (amountOk mid) × T (amountOk (c .«min_spread»))
+unfolding closedModel
+closed-amounts mid h c vol m q e = made-amounts (modelLimits mid h c vol) mid h c vol (λ k. k) _ _ m _ q e
+
+-- ---- after checks that say that the lot size is positive, the model is that of all the checks
+lot-first : (b : Bool) (l : List (Bool × ℕ)) (m : Model) (q : ℤ) → b ≡ true → modelIf (firstFailing ((b, configuration) ∷ l)) m q ≡ modelIf (firstFailing l) m q
+unfolding firstFailing firstOf verdict
+lot-first b l m q e = rw e
+
+-- the second check is that of the configuration
+pub second : {b d : Bool} {n m : ℕ} {l : List (Bool × ℕ)} → Passes ((b, n) ∷ (d, m) ∷ l) → d ≡ true
+second (each e (each f k)) = f
+
+pub after-checks : (l : List (Bool × ℕ)) (h : ℤ) (c : GLFTConfig) (vol : ℤ) → (Passes l → configOk c ≡ true)
+    → modelAfter (checkOf (firstFailing l)) h c vol ≡ modelIf (firstFailing (l ++ holdingChecks h c vol)) (modelOf c vol) (lots h c)
+unfolding modelAfter firstOf
+after-checks l h c vol f = rw (verdict-told (firstFailing l), failing-joined l (holdingChecks h c vol)) (go (firstFailing l) refl)
   where
-    go : (t : Bool) → modelLimits mid h c vol ≡ t
-        → modelIf t (configOk c) d (marketOk mid vol) (holdingOk h c) (modelOk (modelOf c vol)) (modelOf c vol) (lots h c) ≡ Made m q → T (amountOk mid) × T (amountOk (c .«min_spread»))
-    go false k e = let z : _≡_ {A = ℕ} 0 1 = cc in absurd (omega arith)
-    go true k e =
-        let u = and-yes (amountOk mid && amountOk h && amountOk vol) (configLimits c) (subst T (sym k) tt) in
-        (and-yes (amountOk mid) (amountOk h) (and-yes (amountOk mid && amountOk h) (amountOk vol) (u .0) .0) .0, spread-passed c (u .1))
+    go : (v : Verdict) → firstFailing l ≡ v
+        → modelIf (firstOf v (firstFailing ((above0 (c .«lot_size»), configuration) ∷ holdingChecks h c vol))) (modelOf c vol) (lots h c) ≡ modelIf (firstOf v (firstFailing (holdingChecks h c vol))) (modelOf c vol) (lots h c)
+    go passes e = lot-first (above0 (c .«lot_size»)) (holdingChecks h c vol) (modelOf c vol) (lots h c) (is-true (above0 (c .«lot_size»)) (lot-passed c (f (none-failing l .0 e))))
+    go (refused n) e = refl

@@ -1,8 +1,11 @@
 -- Document 01, module 4: the configuration with its limits. Definitions only.
-use mathlib.Core.Bool.{Bool, true, false, _&&_}
+use Prim.Native.Nat.{ℕ}
+use mathlib.Core.Bool.{Bool, _&&_}
+use mathlib.Core.List.{List, _∷_, []}
 use lib.IntN.{pos, negℤ}
 use lib.Signed.{leZ}
 use lib.Dec.{ltb}
+use Rattle.elementary.specs.Checks.{Verdict, passes, refused, firstFailing}
 use Rattle.vector.specs.Refusals.{configuration}
 use Rattle.vector.specs.Run.{boundOk}
 use Rattle.amounts.specs.Refusals.{limits}
@@ -23,13 +26,20 @@ configOk c =
     above0 (c .«risk_aversion») && above0 (c .«order_intensity_k») && above0 (c .«intensity_scale_a») && above0 (c .«lot_size»)
     && boundOk (c .«max_inventory_lots») && ltb 0 (c .«terminal_time») && leZ (pos 0) (c .«min_spread»)
 
-unfoldable pub configIf : Bool → Bool → GLFTConfig → ConfigAnswer
-configIf false v c = ConfigAnswer.Refused limits
-configIf true false c = ConfigAnswer.Refused configuration
-configIf true true c = ConfigAnswer.Config c
+-- ---- the checks, in order: each a test, and the number that refuses where it fails
+-- 2 and 1, of a call whose first test is f: are its numbers within their limits
+abbrev pub numberChecks : Bool → GLFTConfig → List (Bool × ℕ)
+numberChecks f c = (f, limits) ∷ (configOk c, configuration) ∷ []
+
+abbrev pub configChecks : GLFTConfig → List (Bool × ℕ)
+configChecks c = numberChecks (configLimits c) c
+
+unfoldable pub configIf : Verdict → GLFTConfig → ConfigAnswer
+configIf passes c = ConfigAnswer.Config c
+configIf (refused n) c = ConfigAnswer.Refused n
 
 unfoldable pub newConfig : GLFTConfig → ConfigAnswer
-newConfig c = configIf (configLimits c) (configOk c) c
+newConfig c = configIf (firstFailing (configChecks c)) c
 
 -- the same with the drift of the other sign
 abbrev pub turned : GLFTConfig → GLFTConfig

@@ -1,5 +1,5 @@
 pub mod Refusals
+pub mod Checks
 pub mod Configuration
 pub mod Model
-pub mod Inner
 pub mod Refusing

@@ -1,26 +1,27 @@
 -- Document 01, module 4, and change request 7: the model, one record of eight floats and the bound, and the holding in lots. Definitions only.
 use Prim.Native.Nat.{ℕ}
-use mathlib.Core.Bool.{Bool, true, false, _&&_}
+use mathlib.Core.Bool.{Bool, _&&_}
+use mathlib.Core.List.{List, _∷_, _++_, []}
 use lib.IntN.{ℤ, pos, natAbs}
 use lib.Signed.{quotZ, remZ}
 use lib.Dec.{eqb}
 use lib.Ieee.{Float, neg}
 use Rattle.elementary.specs.Float.{_⊕_, _⊗_, _⊘_, whole, 1ᶠ, 2ᶠ, finite, positive}
 use Rattle.elementary.specs.Elementary.{LN1P, EXP, outside, orNan}
+use Rattle.elementary.specs.Checks.{Verdict, passes, refused, firstOf, firstFailing, checkOf}
+use Rattle.elementary.specs.declared.Check.{Check}
 use Rattle.vector.specs.Refusals.{configuration}
 use Rattle.distances.specs.Refusals.{holding}
 use Rattle.vector.specs.declared.RunInput.{RunInput}
 use Rattle.distances.specs.Distances.{within}
-use Rattle.amounts.specs.Refusals.{limits}
 use Rattle.model.specs.Refusals.{market, drifting}
 use Rattle.amounts.specs.Amounts.{amountOk, above0, toFloat, timeOk}
-use Rattle.model.specs.Configuration.{configLimits, configOk}
+use Rattle.model.specs.Checks.{verdictOf}
+use Rattle.model.specs.Configuration.{configLimits, numberChecks}
 use Rattle.model.specs.declared.GLFTConfig.{GLFTConfig}
 use Rattle.model.specs.declared.Model.{Model}
 use Rattle.model.specs.declared.ModelAnswer.{ModelAnswer}
 use Rattle.model.specs.declared.ModelAnswer.the-variants as ModelAnswer
-use Rattle.model.specs.declared.Check.{Check}
-use Rattle.model.specs.declared.Check.the-variants as Check
 
 -- ---- the holding
 unfoldable pub lots : ℤ → GLFTConfig → ℤ
@@ -76,36 +77,57 @@ inputOf m tau = record { alpha = m .alpha; beta = m .beta; eta = m .eta; bound =
 unfoldable pub driftless : GLFTConfig → Bool
 driftless c = eqb (natAbs (c .drift)) 0
 
--- ---- refusals 2, 1, 22, 3, 4 and 5, in this order
-unfoldable pub modelIf : Bool → Bool → Bool → Bool → Bool → Bool → Model → ℤ → ModelAnswer
-modelIf false v d m h f b q = ModelAnswer.Refused limits
-modelIf true false d m h f b q = ModelAnswer.Refused configuration
-modelIf true true false m h f b q = ModelAnswer.Refused drifting
-modelIf true true true false h f b q = ModelAnswer.Refused market
-modelIf true true true true false f b q = ModelAnswer.Refused holding
-modelIf true true true true true false b q = ModelAnswer.Refused outside
-modelIf true true true true true true b q = ModelAnswer.Model b q
-
+-- every amount and time of a call within its limit, or 2
 unfoldable pub modelLimits : ℤ → ℤ → GLFTConfig → ℤ → Bool
 modelLimits mid h c vol = amountOk mid && amountOk h && amountOk vol && configLimits c
 
--- d: is the drift fine
-abbrev pub modelWith : Bool → ℤ → ℤ → GLFTConfig → ℤ → ModelAnswer
-modelWith d mid h c vol = modelIf (modelLimits mid h c vol) (configOk c) d (marketOk mid vol) (holdingOk h c) (modelOk (modelOf c vol)) (modelOf c vol) (lots h c)
+-- ---- the checks, in order: each a test, and the number that refuses where it fails
+-- before those of the holding, of a call whose first test is f: are its numbers within their limits
+abbrev pub marketChecks : Bool → ℤ → GLFTConfig → ℤ → List (Bool × ℕ)
+marketChecks f mid c vol = numberChecks f c ++ (marketOk mid vol, market) ∷ []
 
--- any drift will do, but for the closed form
+-- the closed form asks for no drift
+abbrev pub closedMarketChecks : Bool → ℤ → GLFTConfig → ℤ → List (Bool × ℕ)
+closedMarketChecks f mid c vol = numberChecks f c ++ (driftless c, drifting) ∷ (marketOk mid vol, market) ∷ []
+
+abbrev pub holdingChecks : ℤ → GLFTConfig → ℤ → List (Bool × ℕ)
+holdingChecks h c vol = (holdingOk h c, holding) ∷ (modelOk (modelOf c vol), outside) ∷ []
+
+-- a model's; those of an exact call, whose current time is one of the numbers that 2 looks at; those of the closed form, which has no current time
+abbrev pub modelChecks : ℤ → ℤ → GLFTConfig → ℤ → List (Bool × ℕ)
+modelChecks mid h c vol = marketChecks (modelLimits mid h c vol) mid c vol ++ holdingChecks h c vol
+
+abbrev pub exactChecks : ℤ → ℤ → GLFTConfig → ℤ → ℕ → List (Bool × ℕ)
+exactChecks mid h c vol t = marketChecks (timeOk t && modelLimits mid h c vol) mid c vol ++ holdingChecks h c vol
+
+abbrev pub closedChecks : ℤ → ℤ → GLFTConfig → ℤ → List (Bool × ℕ)
+closedChecks mid h c vol = closedMarketChecks (modelLimits mid h c vol) mid c vol ++ holdingChecks h c vol
+
+-- ---- the model and the lots, where the checks pass
+unfoldable pub modelIf : Verdict → Model → ℤ → ModelAnswer
+modelIf passes m q = ModelAnswer.Model m q
+modelIf (refused n) m q = ModelAnswer.Refused n
+
 unfoldable pub newModel : ℤ → ℤ → GLFTConfig → ℤ → ModelAnswer
-newModel mid h c vol = modelWith true mid h c vol
+newModel mid h c vol = modelIf (firstFailing (modelChecks mid h c vol)) (modelOf c vol) (lots h c)
 
-unfoldable pub driftlessModel : ℤ → ℤ → GLFTConfig → ℤ → ModelAnswer
-driftlessModel mid h c vol = modelWith (driftless c) mid h c vol
+unfoldable pub exactModel : ℤ → ℤ → GLFTConfig → ℤ → ℕ → ModelAnswer
+exactModel mid h c vol t = modelIf (firstFailing (exactChecks mid h c vol t)) (modelOf c vol) (lots h c)
 
--- ---- what 2, 1 or 3 refuses at holding 0, in this order
-unfoldable pub checkIf : Bool → Bool → Bool → Check
-checkIf false v m = Check.Refused limits
-checkIf true false m = Check.Refused configuration
-checkIf true true false = Check.Refused market
-checkIf true true true = Check.Passes
+unfoldable pub closedModel : ℤ → ℤ → GLFTConfig → ℤ → ModelAnswer
+closedModel mid h c vol = modelIf (firstFailing (closedChecks mid h c vol)) (modelOf c vol) (lots h c)
 
+-- after any checks: what they refuse; then 1, where the lot size is not positive, and the holding's checks
+unfoldable pub modelAfter : Check → ℤ → GLFTConfig → ℤ → ModelAnswer
+modelAfter k h c vol = modelIf (firstOf (verdictOf k) (firstFailing ((above0 (c .«lot_size»), configuration) ∷ holdingChecks h c vol))) (modelOf c vol) (lots h c)
+
+-- ---- what is refused before the holding's checks: by 2, 1 or 3, and in the closed form by 22
+unfoldable pub checkExact : ℤ → ℤ → GLFTConfig → ℤ → ℕ → Check
+checkExact mid h c vol t = checkOf (firstFailing (marketChecks (timeOk t && modelLimits mid h c vol) mid c vol))
+
+unfoldable pub checkClosedForm : ℤ → ℤ → GLFTConfig → ℤ → Check
+checkClosedForm mid h c vol = checkOf (firstFailing (closedMarketChecks (modelLimits mid h c vol) mid c vol))
+
+-- at holding 0
 unfoldable pub checkCall : ℤ → GLFTConfig → ℤ → ℕ → Check
-checkCall mid c vol t = checkIf (timeOk t && modelLimits mid (pos 0) c vol) (configOk c) (marketOk mid vol)
+checkCall mid c vol t = checkExact mid (pos 0) c vol t

@@ -1,19 +1,23 @@
 // The configuration of a desk with its checks, and the model that it gives: floats per second and per
 // lot, and the holding in lots. An amount is a count of billionths.
+mod checks;
 mod config;
 mod parameters;
 pub mod refusals;
 
-pub use parameters::driftless_model;
+pub use checks::check_call;
+pub use checks::check_closed_form;
+pub use checks::check_exact;
+pub use checks::first_refusal;
+pub use checks::one_check;
+pub use elementary::Check;
 pub use parameters::floats_fit;
 pub use parameters::limits_fit;
 pub use parameters::model_of;
 pub use parameters::run_input;
 ghost use mathlib.Core.Path.{_≡_};
 ghost use Rattle.model.specs.Configuration.{newConfig};
-ghost use Rattle.model.specs.Model.{newModel, checkCall};
-use amounts::is_positive;
-use amounts::refusals::LIMITS;
+ghost use Rattle.model.specs.Model.{newModel, exactModel, closedModel, modelAfter};
 
 // The configuration. The drift is an amount of price a year. Its fields are public, so every call
 // checks them again.
@@ -49,12 +53,6 @@ pub struct Model {
 // A model with the holding in lots.
 pub enum ModelAnswer {
     Model(Model, i64),
-    Refused(u8),
-}
-
-// Whether a call's numbers pass, or the number that refuses them.
-pub enum Check {
-    Passes,
     Refused(u8),
 }
 
@@ -97,13 +95,10 @@ impl GLFTConfig {
             min_spread,
             drift,
         };
-        if config::within_limits(c) {
-            if config::validate(c) {
-                return ConfigAnswer::Config(c);
-            }
-            return ConfigAnswer::Refused(vector::refusals::CONFIGURATION);
+        match checks::check_numbers(config::within_limits(c), c) {
+            Check::Passes => ConfigAnswer::Config(c),
+            Check::Refused(number) => ConfigAnswer::Refused(number),
         }
-        ConfigAnswer::Refused(LIMITS)
     }
 }
 
@@ -112,34 +107,44 @@ impl Model {
     pub fn new(mid_price: i64, inventory: i64, config: GLFTConfig, volatility: i64) -> ModelAnswer
         ensures { λ r. ⌜ r ≡ newModel «mid_price» inventory config volatility ⌝ }
     {
-        if parameters::limits_fit(mid_price, inventory, config, volatility) {
-            if config::validate(config) {
-                if is_positive(mid_price) & is_positive(volatility) {
-                    return parameters::from_amounts(inventory, config, volatility);
-                }
-                return ModelAnswer::Refused(refusals::MARKET);
-            }
-            return ModelAnswer::Refused(vector::refusals::CONFIGURATION);
-        }
-        ModelAnswer::Refused(LIMITS)
+        Model::exact(mid_price, inventory, config, volatility, 0)
     }
-}
 
-// Whether the numbers of a call pass, whatever the holding: refused by 2, then 1, then 3.
-pub fn check_call(mid_price: i64, config: GLFTConfig, volatility: i64, current_time: u64) -> Check
-    ensures { λ r. ⌜ r ≡ checkCall «mid_price» config volatility «current_time» ⌝ }
-{
-    if current_time > GLFTConfig::MAX_TIME {
-        return Check::Refused(LIMITS);
+    // The same for an exact call: its current time is one of the numbers that 2 looks at.
+    pub fn exact(
+        mid_price: i64,
+        inventory: i64,
+        config: GLFTConfig,
+        volatility: i64,
+        current_time: u64,
+    ) -> ModelAnswer
+        ensures { λ r. ⌜ r ≡ exactModel «mid_price» inventory config volatility «current_time» ⌝ }
+    {
+        let check = check_exact(mid_price, inventory, config, volatility, current_time);
+        Model::after(check, inventory, config, volatility)
     }
-    if parameters::limits_fit(mid_price, 0, config, volatility) {
-        if config::validate(config) {
-            if is_positive(mid_price) & is_positive(volatility) {
-                return Check::Passes;
-            }
-            return Check::Refused(refusals::MARKET);
+
+    // The same for the closed form, where there is no drift: refused by 2, then 1, 22, 3, 4 and 5.
+    pub fn closed_form(
+        mid_price: i64,
+        inventory: i64,
+        config: GLFTConfig,
+        volatility: i64,
+    ) -> ModelAnswer
+        ensures { λ r. ⌜ r ≡ closedModel «mid_price» inventory config volatility ⌝ }
+    {
+        let check = check_closed_form(mid_price, inventory, config, volatility);
+        Model::after(check, inventory, config, volatility)
+    }
+
+    // The model after a call's checks: refused as they are, by 1 where the lot size is not positive, then
+    // by 4 and 5.
+    pub fn after(check: Check, inventory: i64, config: GLFTConfig, volatility: i64) -> ModelAnswer
+        ensures { λ r. ⌜ r ≡ modelAfter check inventory config volatility ⌝ }
+    {
+        match check {
+            Check::Passes => parameters::of_holding(inventory, config, volatility),
+            Check::Refused(number) => ModelAnswer::Refused(number),
         }
-        return Check::Refused(vector::refusals::CONFIGURATION);
     }
-    Check::Refused(LIMITS)
 }

@@ -1,15 +1,14 @@
 // The model's floats, and the holding in lots.
 ghost use mathlib.Core.Path.{_≡_};
 ghost use lib.Dec.{T};
+ghost use Rattle.elementary.specs.declared.Check.the-variants as Check;
 ghost use Rattle.amounts.specs.Amounts.{above0};
-ghost use Rattle.model.specs.Model.{lots, holdingOk, modelFrom, modelOf, modelOk, modelLimits, driftlessModel, inputOf};
-ghost use Rattle.model.specs.Inner.{modelAfter};
+ghost use Rattle.model.specs.Model.{lots, holdingOk, modelFrom, modelOf, modelOk, modelLimits, inputOf, modelAfter};
 use crate::GLFTConfig;
 use crate::Model;
 use crate::ModelAnswer;
-use crate::refusals;
 use amounts::amount_fits;
-use amounts::refusals::LIMITS;
+use amounts::is_positive;
 use amounts::to_f64;
 use vector::RunInput;
 
@@ -103,39 +102,19 @@ pub fn floats_fit(m: Model) -> bool
         & elementary::is_finite(m.beta)
 }
 
-// The model of a configuration and a market that pass: refused by 4, then 5.
-pub(crate) fn from_amounts(inventory: i64, config: GLFTConfig, volatility: i64) -> ModelAnswer
-    requires { ⌜ T (above0 (config .«lot_size»)) ⌝ }
-    ensures { λ r. ⌜ r ≡ modelAfter inventory config volatility ⌝ }
+// The model after checks that pass: refused by 1 where the lot size is not positive, then by 4 and 5.
+pub(crate) fn of_holding(inventory: i64, config: GLFTConfig, volatility: i64) -> ModelAnswer
+    ensures { λ r. ⌜ r ≡ modelAfter Check.Passes inventory config volatility ⌝ }
 {
-    if holding_fits(inventory, config) {
-        let m = model_of(config, volatility);
-        if floats_fit(m) {
-            return ModelAnswer::Model(m, lots_of(inventory, config));
+    if is_positive(config.lot_size) {
+        if holding_fits(inventory, config) {
+            let m = model_of(config, volatility);
+            if floats_fit(m) {
+                return ModelAnswer::Model(m, lots_of(inventory, config));
+            }
+            return ModelAnswer::Refused(elementary::OUTSIDE);
         }
-        return ModelAnswer::Refused(elementary::OUTSIDE);
+        return ModelAnswer::Refused(distances::refusals::HOLDING);
     }
-    ModelAnswer::Refused(distances::refusals::HOLDING)
-}
-
-// The model, where there is no drift: refused by 2, then 1, 22, 3, 4 and 5.
-pub fn driftless_model(
-    mid_price: i64,
-    inventory: i64,
-    config: GLFTConfig,
-    volatility: i64,
-) -> ModelAnswer
-    ensures { λ r. ⌜ r ≡ driftlessModel «mid_price» inventory config volatility ⌝ }
-{
-    let no_drift = config.drift == 0;
-    if no_drift {
-        return Model::new(mid_price, inventory, config, volatility);
-    }
-    if limits_fit(mid_price, inventory, config, volatility) {
-        if crate::config::validate(config) {
-            return ModelAnswer::Refused(refusals::DRIFT);
-        }
-        return ModelAnswer::Refused(vector::refusals::CONFIGURATION);
-    }
-    ModelAnswer::Refused(LIMITS)
+    ModelAnswer::Refused(vector::refusals::CONFIGURATION)
 }

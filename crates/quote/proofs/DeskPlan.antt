@@ -20,20 +20,19 @@ use Rattle.distances.specs.declared.Answer.{Answer}
 use Rattle.distances.specs.declared.Answer.the-variants as Answer
 use Rattle.distances.proofs.Refusing.{never}
 use Rattle.distances.proofs.Count.{step-counts, count-is-first-plan}
-use Rattle.amounts.specs.Amounts.{timeOk, tauOf}
-use Rattle.model.specs.Configuration.{configOk}
-use Rattle.model.specs.Model.{lots, marketOk, holdingOk, modelOk, modelOf, modelFrom, modelBy, modelIf, modelLimits, newModel, inputOf}
+use Rattle.amounts.specs.Amounts.{tauOf}
+use Rattle.model.specs.Model.{lots, modelOf, modelFrom, modelBy, inputOf, exactChecks, exactModel}
 use Rattle.prices.specs.Prices.{buildQuotes}
-use Rattle.quote.specs.Horizon.{planFrom, deskPlanIf, deskPlan, DeskPlanIsFirst, DeskPlanRefusals}
+use Rattle.quote.specs.Horizon.{planFrom, deskPlan, DeskPlanIsFirst, DeskPlanRefusals}
 use Rattle.prices.specs.declared.QuotesAnswer.{QuotesAnswer}
 use Rattle.prices.specs.declared.QuotesAnswer.the-variants.{Quotes as quoted, Refused as refused}
-use Rattle.quote.specs.Quotes.{exactFrom, exactIf, exactAnswer, withSteps, exactBy, exactQuotes, stepsFrom, stepsIf, exactSteps}
+use Rattle.quote.specs.Quotes.{exactFrom, exactAnswer, withSteps, exactBy, exactQuotes, stepsFrom, exactSteps}
 use Rattle.model.specs.declared.GLFTConfig.{GLFTConfig}
 use Rattle.model.specs.declared.Model.{Model}
 use Rattle.model.specs.declared.ModelAnswer.{ModelAnswer}
 use Rattle.model.specs.declared.ModelAnswer.the-variants as ModelAnswer
 use Rattle.quote.specs.declared.ExactQuotes.the-variants as ExactQuotes
-use Rattle.model.proofs.Passed.{bound-passed, lots-passed, tau-passed, floats-passed}
+use Rattle.model.proofs.Passed.{exact-passed, bound-passed, lots-passed, tau-passed, floats-passed}
 use Rattle.quote.proofs.Refusing.{after-checks, late, right}
 
 -- ---- the report of an exact call is that of its answer
@@ -78,37 +77,15 @@ module _ (mid h : ℤ) (c : GLFTConfig) (vol : ℤ) (t : ℕ) where
   spending (ModelAnswer.Refused r) e = refl
   spending (ModelAnswer.Model m q) e = count-is-first-plan .none _ _ (inputOf m tau) q e .1
 
-  -- by the current time, which 2 looks at first
-  over-both : (u : Bool) (need : Float) (b : ℕ) → (deskPlanIf u mid h c vol t ≡ FirstPlan.OverCap need b) ↔ (exactBy mid (c .«min_spread») (exactIf u mid h c vol t) ≡ ExactQuotes.OverStepCap need b 0)
-  unfolding deskPlanIf exactIf exactBy tau
-  over-both false need b = (λ e. let z : _≡_ {A = ℕ} 0 1 = cc in absurd (omega arith), λ e. let z : _≡_ {A = ℕ} 0 1 = cc in absurd (omega arith))
-  over-both true need b = (
-    λ e. rw (over-to (newModel mid h c vol) need b e),
-    λ e. over-from (newModel mid h c vol) need b (report-of mid (c .«min_spread») (exactFrom (newModel mid h c vol) tau) need b e),
-  )
-
-  refused-by : (u : Bool) (n : ℕ) → deskPlanIf u mid h c vol t ≡ FirstPlan.Refused n → exactBy mid (c .«min_spread») (exactIf u mid h c vol t) ≡ ExactQuotes.Refused n
-  unfolding deskPlanIf exactIf exactBy tau
-  refused-by false n e = cc
-  refused-by true n e = rw (refusing (newModel mid h c vol) n e)
-
-  steps-by : (u : Bool) (s : ℕ) → deskPlanIf u mid h c vol t ≡ FirstPlan.Steps (suc s) → (m : Model) × (q : ℤ) × (newModel mid h c vol ≡ ModelAnswer.Model m q) × FirstGoes (inputOf m tau) (suc s)
-  unfolding deskPlanIf tau
-  steps-by false s e = let z : _≡_ {A = ℕ} 0 1 = cc in absurd (omega arith)
-  steps-by true s e = going-on (newModel mid h c vol) s e
-
-  none-by : (u : Bool) → deskPlanIf u mid h c vol t ≡ FirstPlan.Steps 0 → stepsIf u mid h c vol t ≡ 0
-  unfolding deskPlanIf stepsIf tau
-  none-by false e = refl
-  none-by true e = spending (newModel mid h c vol) e
-
 pub desk-plan-is-first : DeskPlanIsFirst
-unfolding deskPlan exactQuotes exactAnswer exactSteps tau
+unfolding deskPlan exactQuotes exactAnswer exactBy exactSteps tau
 desk-plan-is-first = record {
-  over = λ mid h c vol t. over-both mid h c vol t (timeOk t);
-  refused = λ mid h c vol t. refused-by mid h c vol t (timeOk t);
-  steps = λ mid h c vol t. steps-by mid h c vol t (timeOk t);
-  none = λ mid h c vol t. none-by mid h c vol t (timeOk t);
+  over = λ mid h c vol t need b.
+      let a = exactModel mid h c vol t in
+      (λ e. rw (over-to mid h c vol t a need b e), λ e. over-from mid h c vol t a need b (report-of mid (c .«min_spread») (exactFrom a (tau mid h c vol t)) need b e));
+  refused = λ mid h c vol t n e. rw (refusing mid h c vol t (exactModel mid h c vol t) n e);
+  steps = λ mid h c vol t. going-on mid h c vol t (exactModel mid h c vol t);
+  none = λ mid h c vol t. spending mid h c vol t (exactModel mid h c vol t);
 }
 
 -- ---- its refusals
@@ -147,24 +124,15 @@ module _ (k base : Float) (x : RunInput) (q : ℤ) (f : floatsOk k base x ≡ tr
     λ e. rw (e .0) (step-counts k base x q (FirstPlan.Refused numerical) .1 (counted f b w (failing (e .1 .0) _ _ refl refl (e .1 .1)))),
   )
 
-plan-is : (mid h : ℤ) (c : GLFTConfig) (vol : ℤ) (t : ℕ)
-    → deskPlan mid h c vol t
-    ≡ planFrom (modelIf (timeOk t && modelLimits mid h c vol) (configOk c) true (marketOk mid vol) (holdingOk h c) (modelOk (modelOf c vol)) (modelOf c vol) (lots h c)) (tauOf (c .«terminal_time») t)
-unfolding deskPlan deskPlanIf newModel planFrom modelIf
-plan-is mid h c vol t = go (timeOk t)
-  where
-    go : (u : Bool) → deskPlanIf u mid h c vol t
-        ≡ planFrom (modelIf (u && modelLimits mid h c vol) (configOk c) true (marketOk mid vol) (holdingOk h c) (modelOk (modelOf c vol)) (modelOf c vol) (lots h c)) (tauOf (c .«terminal_time») t)
-    go true = refl
-    go false = refl
-
 same-plan : (r n : ℕ) → FirstPlan.Refused r ≡ FirstPlan.Refused n → r ≡ n
 same-plan r n e = cc
 
 pub desk-plan-refusals : DeskPlanRefusals
-unfolding planFrom modelOf modelFrom modelBy
+unfolding deskPlan exactModel planFrom modelOf modelFrom modelBy
 desk-plan-refusals mid h c vol t n =
     let tau = tauOf (c .«terminal_time») t in
     let m = modelOf c vol in
-    rw (plan-is mid h c vol t) (Iff·trans (after-checks FirstPlan.Refused (λ x. planFrom x tau) (λ r. refl) same-plan (timeOk t && modelLimits mid h c vol) (configOk c) true (marketOk mid vol) (holdingOk h c) (modelOk m) m (lots h c) n)
-    (right (late (λ p. count-fails (m .k) (m .base) (inputOf m tau) (lots h c) (floats-passed m tau (p .5) (tau-passed mid h c vol t (p .0))) (bound-passed c (p .1)) (lots-passed h c (p .4)) n))))
+    Iff·trans (after-checks FirstPlan.Refused (λ x. planFrom x tau) (λ r. refl) same-plan (exactChecks mid h c vol t) m (lots h c) n)
+    (right (late (λ k.
+    let p = exact-passed mid h c vol t k in
+    count-fails (m .k) (m .base) (inputOf m tau) (lots h c) (floats-passed m tau (p .4) (tau-passed mid h c vol t (p .0))) (bound-passed c (p .1)) (lots-passed h c (p .3)) n)))

@@ -14,9 +14,9 @@ use Rattle.distances.specs.declared.Answer.{Answer}
 use Rattle.distances.specs.declared.Answer.the-variants as Answer
 use Rattle.distances.proofs.Finite.{sides-fine, finite-distances}
 use Rattle.amounts.specs.Amounts.{timeOk, tauOf}
-use Rattle.model.specs.Model.{newModel, inputOf}
+use Rattle.model.specs.Model.{newModel, inputOf, exactModel}
 use Rattle.quote.specs.ClosedForm.{slope, bidForm, askForm, formIf, closedFormDistances}
-use Rattle.quote.specs.Quotes.{exactFrom, exactIf, exactAnswer, closedFrom}
+use Rattle.quote.specs.Quotes.{exactFrom, exactAnswer, closedFrom}
 use Rattle.model.specs.declared.GLFTConfig.{GLFTConfig}
 use Rattle.model.specs.declared.ModelAnswer.{ModelAnswer}
 use Rattle.model.specs.declared.ModelAnswer.the-variants as ModelAnswer
@@ -27,12 +27,8 @@ from-finite (ModelAnswer.Model m q) tau b a s e = finite-distances .entry (m .k)
 from-finite (ModelAnswer.Refused r) tau b a s e = let z : _≡_ {A = ℕ} 0 1 = cc in absurd (omega arith)
 
 pub answer-finite : (mid h : ℤ) (c : GLFTConfig) (vol : ℤ) (t : ℕ) (b a : Distance) (s : ℕ) → exactAnswer mid h c vol t ≡ Answer.Distances b a s → Finite b a
-unfolding exactAnswer exactIf
-answer-finite mid h c vol t b a s = go (timeOk t)
-  where
-    go : (x : Bool) → exactIf x mid h c vol t ≡ Answer.Distances b a s → Finite b a
-    go true e = from-finite (newModel mid h c vol) (tauOf (c .«terminal_time») t) b a s e
-    go false e = let z : _≡_ {A = ℕ} 0 1 = cc in absurd (omega arith)
+unfolding exactAnswer
+answer-finite mid h c vol t b a s e = from-finite (exactModel mid h c vol t) (tauOf (c .«terminal_time») t) b a s e
 
 pub closed-finite : (m : ModelAnswer) (b a : Distance) → closedFrom m ≡ Sides.Distances b a → Finite b a
 unfolding closedFrom closedFormDistances formIf

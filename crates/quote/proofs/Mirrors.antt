@@ -10,6 +10,7 @@ use lib.Signed.{ltZ, quotZ}
 use lib.Dec.{T, lit≤}
 use lib.Ieee.{Float, binary64, neg, ofInt, ofBits}
 use Rattle.elementary.specs.Float.{_⊕_, _⊖_, _⊗_, _⊘_, whole, 1ᶠ, 2ᶠ, finite, positive}
+use Rattle.elementary.specs.Checks.{Verdict, passes, refused, firstFailing}
 use Rattle.elementary.proofs.Signs.{mul-neg-left, div-neg-left, sub-neg}
 use Rattle.elementary.proofs.Zeros.{Zero, zero-equal, zero-neg}
 use Rattle.elementary.proofs.Exact.{one-whole, twice-and-one, twice-less-one}
@@ -23,11 +24,11 @@ use Rattle.distances.specs.declared.FloatAnswer.{FloatAnswer}
 use Rattle.distances.proofs.Drift.{drift-zero-entry}
 use Rattle.distances.proofs.FloatMirror.{float-mirror, sides-exchanged}
 use Rattle.distances.proofs.Counting.{steps-counted}
-use Rattle.amounts.specs.Amounts.{amountOk, timeOk, tauOf}
+use Rattle.amounts.specs.Amounts.{amountOk, tauOf}
 use Rattle.model.specs.Configuration.{configOk, turned}
-use Rattle.model.specs.Model.{lots, holdingOk, modelBy, modelFrom, modelOf, modelOk, driftless, modelIf, modelLimits, modelWith, newModel, driftlessModel, inputOf}
+use Rattle.model.specs.Model.{lots, holdingOk, modelBy, modelFrom, modelOf, modelIf, modelLimits, inputOf, exactChecks, exactModel, closedChecks, closedModel}
 use Rattle.quote.specs.ClosedForm.{slope, formBid, formAsk, bidForm, askForm, formIf, closedFormDistances}
-use Rattle.quote.specs.Quotes.{exactFrom, exactIf, exactAnswer, closedFrom, closedAnswer, stepsFrom, stepsIf, exactSteps}
+use Rattle.quote.specs.Quotes.{exactFrom, exactAnswer, closedFrom, closedAnswer, stepsFrom, exactSteps}
 use Rattle.quote.specs.Promises.{ExactMirror, ClosedMirror}
 use Rattle.model.specs.declared.GLFTConfig.{GLFTConfig}
 use Rattle.model.specs.declared.Model.{Model}
@@ -35,7 +36,7 @@ use Rattle.model.specs.declared.ModelAnswer.{ModelAnswer}
 use Rattle.model.specs.declared.ModelAnswer.the-variants as ModelAnswer
 use Rattle.amounts.proofs.Signed.{natAbs-neg, quot-neg, rem-neg, times-neg, whole-neg, ltZ-neg}
 use Rattle.model.proofs.Turned.{betaOf, beta-neg, beta-none, limits-turned, model-ok-turned, driftless-turned}
-use Rattle.model.proofs.Passed.{Outcome, stopped, passed, outcome, k-passed, few-lots}
+use Rattle.model.proofs.Passed.{Made, stopped, passed, made, exact-passed, closed-passed, k-passed, few-lots}
 
 -- ---- the model
 -- another model, and the lots with the other sign
@@ -43,20 +44,32 @@ opposed : Model → ModelAnswer → ModelAnswer
 opposed n (ModelAnswer.Model m q) = ModelAnswer.Model n (negℤ q)
 opposed n (ModelAnswer.Refused r) = ModelAnswer.Refused r
 
-if-opposed : (l v d m h f : Bool) (b n : Model) (q : ℤ) → modelIf l v d m h f n (negℤ q) ≡ opposed n (modelIf l v d m h f b q)
+if-opposed : (v : Verdict) (b n : Model) (q : ℤ) → modelIf v n (negℤ q) ≡ opposed n (modelIf v b q)
 unfolding opposed modelIf
-if-opposed false v d m h f b n q = refl
-if-opposed true false d m h f b n q = refl
-if-opposed true true false m h f b n q = refl
-if-opposed true true true false h f b n q = refl
-if-opposed true true true true false f b n q = refl
-if-opposed true true true true true false b n q = refl
-if-opposed true true true true true true b n q = refl
+if-opposed passes b n q = refl
+if-opposed (refused r) b n q = refl
 
-model-opposed : (d : Bool) (mid h : ℤ) (c : GLFTConfig) (vol : ℤ) → modelWith d mid (negℤ h) (turned c) vol ≡ opposed (modelOf (turned c) vol) (modelWith d mid h c vol)
-unfolding modelLimits amountOk configOk holdingOk lots
-model-opposed d mid h c vol =
-    rw (natAbs-neg h, limits-turned c, rem-neg h (c .«lot_size»), quot-neg h (c .«lot_size»), natAbs-neg (quotZ h (c .«lot_size»)), model-ok-turned c vol) (if-opposed _ _ _ _ _ _ _ _ _)
+module _ (mid h : ℤ) (c : GLFTConfig) (vol : ℤ) where
+  -- each check answers alike
+  limits-opposed : modelLimits mid (negℤ h) (turned c) vol ≡ modelLimits mid h c vol
+  unfolding modelLimits amountOk
+  limits-opposed = rw (natAbs-neg h, limits-turned c)
+
+  holding-opposed : holdingOk (negℤ h) (turned c) ≡ holdingOk h c
+  unfolding holdingOk lots
+  holding-opposed = rw (rem-neg h (c .«lot_size»), quot-neg h (c .«lot_size»), natAbs-neg (quotZ h (c .«lot_size»)))
+
+  lots-opposed : lots (negℤ h) (turned c) ≡ negℤ (lots h c)
+  unfolding lots
+  lots-opposed = quot-neg h (c .«lot_size»)
+
+  exact-opposed : (t : ℕ) → exactModel mid (negℤ h) (turned c) vol t ≡ opposed (modelOf (turned c) vol) (exactModel mid h c vol t)
+  unfolding exactModel configOk
+  exact-opposed t = rw (limits-opposed, holding-opposed, lots-opposed, model-ok-turned c vol) (if-opposed (firstFailing (exactChecks mid h c vol t)) (modelOf c vol) (modelOf (turned c) vol) (lots h c))
+
+  closed-opposed : closedModel mid (negℤ h) (turned c) vol ≡ opposed (modelOf (turned c) vol) (closedModel mid h c vol)
+  unfolding closedModel configOk
+  closed-opposed = rw (limits-opposed, driftless-turned c, holding-opposed, lots-opposed, model-ok-turned c vol) (if-opposed (firstFailing (closedChecks mid h c vol)) (modelOf c vol) (modelOf (turned c) vol) (lots h c))
 
 -- ---- exact calls
 -- the float entry at the opposite drift and holding. Without a drift beta is a zero, and its opposite gives the same entry.
@@ -88,12 +101,13 @@ module _ (k base : Float) (q : ℤ) where
   opposite h alpha eta bound tau (pos (suc n)) = rw (beta-neg k (pos (suc n)) (zero-lt-suc n)) (by-mirror (drifting alpha eta bound tau (pos (suc n))))
   opposite h alpha eta bound tau (negsuc n) = rw (beta-neg k (negsuc n) (zero-lt-suc n)) (by-mirror (drifting alpha eta bound tau (negsuc n)))
 
-from-opposed : {l v d m h : Bool} (c : GLFTConfig) (vol : ℤ) {q : ℤ} (tau : Float) {a : ModelAnswer} → Outcome l v d m h (modelOk (modelOf c vol)) (modelOf c vol) q a
-    → (exactFrom (opposed (modelOf (turned c) vol) a) tau ≡ exchanged (exactFrom a tau)) × (stepsFrom (opposed (modelOf (turned c) vol) a) tau ≡ stepsFrom a tau)
+from-opposed : (mid h : ℤ) (c : GLFTConfig) (vol : ℤ) (t : ℕ) {a : ModelAnswer} → Made (exactChecks mid h c vol t) (modelOf c vol) (lots h c) a
+    → let tau = tauOf (c .«terminal_time») t in
+    (exactFrom (opposed (modelOf (turned c) vol) a) tau ≡ exchanged (exactFrom a tau)) × (stepsFrom (opposed (modelOf (turned c) vol) a) tau ≡ stepsFrom a tau)
 unfolding opposed exactFrom stepsFrom exchanged modelOf modelFrom modelBy Opposite
-from-opposed c vol tau (stopped k) = (refl, refl)
-from-opposed c vol {q} tau (passed l v d m h f) =
-    let m = modelOf c vol in opposite (m .k) (m .base) q (k-passed m f) (m .alpha) (m .eta) (m .«q_max») tau (c .drift)
+from-opposed mid h c vol t (stopped k) = (refl, refl)
+from-opposed mid h c vol t (passed k) =
+    let m = modelOf c vol in opposite (m .k) (m .base) (lots h c) (k-passed m (exact-passed mid h c vol t k .4)) (m .alpha) (m .eta) (m .«q_max») (tauOf (c .«terminal_time») t) (c .drift)
 
 from-counted : (a : ModelAnswer) (tau : Float) → Counted (exactFrom a tau) (stepsFrom a tau) × (stepsFrom a tau ≤ cap)
 unfolding exactFrom stepsFrom Counted
@@ -102,29 +116,17 @@ from-counted (ModelAnswer.Refused r) tau = (tt, omega arith)
 
 module _ (mid h : ℤ) (c : GLFTConfig) (vol : ℤ) (t : ℕ) where
   answer-exchanged : exactAnswer mid (negℤ h) (turned c) vol t ≡ exchanged (exactAnswer mid h c vol t)
-  unfolding exactAnswer exactIf exchanged newModel
-  answer-exchanged = go (timeOk t)
-    where
-      go : (b : Bool) → exactIf b mid (negℤ h) (turned c) vol t ≡ exchanged (exactIf b mid h c vol t)
-      go true = rw (model-opposed true mid h c vol) (from-opposed c vol (tauOf (c .«terminal_time») t) (outcome _ _ _ _ _ _ _ _) .0)
-      go false = refl
+  unfolding exactAnswer exactModel
+  answer-exchanged = ap (λ (a : ModelAnswer). exactFrom a (tauOf (c .«terminal_time») t)) (exact-opposed mid h c vol t) ∙ from-opposed mid h c vol t (made _ _ _) .0
 
   steps-same : exactSteps mid (negℤ h) (turned c) vol t ≡ exactSteps mid h c vol t
-  unfolding exactSteps stepsIf newModel
-  steps-same = go (timeOk t)
-    where
-      go : (b : Bool) → stepsIf b mid (negℤ h) (turned c) vol t ≡ stepsIf b mid h c vol t
-      go true = rw (model-opposed true mid h c vol) (from-opposed c vol (tauOf (c .«terminal_time») t) (outcome _ _ _ _ _ _ _ _) .1)
-      go false = refl
+  unfolding exactSteps exactModel
+  steps-same = ap (λ (a : ModelAnswer). stepsFrom a (tauOf (c .«terminal_time») t)) (exact-opposed mid h c vol t) ∙ from-opposed mid h c vol t (made _ _ _) .1
 
   -- an exact answer carries the steps of the defined run
   pub exact-counted : Counted (exactAnswer mid h c vol t) (exactSteps mid h c vol t) × (exactSteps mid h c vol t ≤ cap)
-  unfolding exactAnswer exactIf exactSteps stepsIf Counted
-  exact-counted = go (timeOk t)
-    where
-      go : (b : Bool) → Counted (exactIf b mid h c vol t) (stepsIf b mid h c vol t) × (stepsIf b mid h c vol t ≤ cap)
-      go true = from-counted (newModel mid h c vol) (tauOf (c .«terminal_time») t)
-      go false = (tt, omega arith)
+  unfolding exactAnswer exactSteps
+  exact-counted = from-counted (exactModel mid h c vol t) (tauOf (c .«terminal_time») t)
 
 pub exact-mirror : ExactMirror
 exact-mirror mid h c vol t = (answer-exchanged mid h c vol t, steps-same mid h c vol t, exact-counted mid h c vol t .1)
@@ -181,12 +183,13 @@ form-turned c vol q = go (positive (slope (modelOf c vol)))
     go true = refl
     go false = refl
 
-closed-opposed : {l d m f : Bool} (h : ℤ) (c : GLFTConfig) (vol : ℤ) {a : ModelAnswer} → Outcome l (configOk c) d m (holdingOk h c) f (modelOf c vol) (lots h c) a
+closed-exchanged : (mid h : ℤ) (c : GLFTConfig) (vol : ℤ) {a : ModelAnswer} → Made (closedChecks mid h c vol) (modelOf c vol) (lots h c) a
     → closedFrom (opposed (modelOf (turned c) vol) a) ≡ exchangedSides (closedFrom a)
 unfolding opposed closedFrom exchangedSides
-closed-opposed h c vol (stopped k) = refl
-closed-opposed h c vol (passed l v d m g f) = form-turned c vol (negℤ (lots h c)) ∙ form-exchanged (modelOf c vol) (lots h c) (few-lots h c v g)
+closed-exchanged mid h c vol (stopped k) = refl
+closed-exchanged mid h c vol (passed k) =
+    let p = closed-passed mid h c vol k in form-turned c vol (negℤ (lots h c)) ∙ form-exchanged (modelOf c vol) (lots h c) (few-lots h c (p .1) (p .4))
 
 pub closed-mirror : ClosedMirror
-unfolding closedAnswer driftlessModel
-closed-mirror mid h c vol = rw (driftless-turned c, model-opposed (driftless c) mid h c vol) (closed-opposed h c vol (outcome _ _ _ _ _ _ _ _))
+unfolding closedAnswer closedModel
+closed-mirror mid h c vol = ap closedFrom (closed-opposed mid h c vol) ∙ closed-exchanged mid h c vol (made _ _ _)

@@ -17,13 +17,12 @@ use Rattle.distances.specs.declared.Sides.the-variants as Sides
 use Rattle.distances.specs.declared.Answer.{Answer}
 use Rattle.distances.specs.declared.Answer.the-variants as Answer
 use Rattle.distances.proofs.Presence.{float-presence, sides-are}
-use Rattle.amounts.specs.Amounts.{timeOk, tauOf}
-use Rattle.model.specs.Configuration.{configOk}
-use Rattle.model.specs.Model.{lots, holdingOk, modelOf, modelFrom, modelBy, newModel, driftlessModel, inputOf}
+use Rattle.amounts.specs.Amounts.{tauOf}
+use Rattle.model.specs.Model.{lots, modelOf, modelFrom, modelBy, inputOf, exactChecks, exactModel, closedChecks, closedModel}
 use Rattle.quote.specs.ClosedForm.{slope, formBid, formAsk, bidForm, askForm, formIf, closedFormDistances}
 use Rattle.prices.specs.Prices.{widened, side, widening, bidPrice, askPrice, buildQuotes}
 use Rattle.prices.specs.declared.QuotesAnswer.the-variants.{Quotes as quoted}
-use Rattle.quote.specs.Quotes.{exactFrom, exactIf, exactAnswer, exactBy, exactQuotes, optimalQuotes, closedFrom, closedAnswer, closedBy, closedFormQuotes}
+use Rattle.quote.specs.Quotes.{exactFrom, exactAnswer, exactBy, exactQuotes, optimalQuotes, closedFrom, closedAnswer, closedBy, closedFormQuotes}
 use Rattle.quote.specs.Presence.{Presence, ExactPresence, OptimalPresence, ClosedPresence}
 use Rattle.model.specs.declared.GLFTConfig.{GLFTConfig}
 use Rattle.model.specs.declared.Model.{Model}
@@ -33,7 +32,7 @@ use Rattle.prices.specs.declared.GlftQuotes.{GlftQuotes}
 use Rattle.quote.specs.declared.ExactQuotes.the-variants as Exact
 use Rattle.quote.specs.declared.ClosedFormQuotes.the-variants as Closed
 use Rattle.amounts.proofs.Signed.{natAbs-neg, ltZ-neg}
-use Rattle.model.proofs.Passed.{Outcome, stopped, passed, outcome, lots-passed}
+use Rattle.model.proofs.Passed.{stopped, passed, lots-passed, Made, made, closed-passed}
 use Rattle.prices.proofs.Facing.{built-is}
 use Rattle.quote.proofs.Pairs.{with-steps-is, wrapped-is, of-quotes-is}
 
@@ -69,19 +68,15 @@ module _ (mid least h : ℤ) (c : GLFTConfig) (q : GlftQuotes) where
   closed-built (Sides.Refused r) w e = let z : _≡_ {A = ℕ} 0 1 = cc in absurd (omega arith)
 
 -- ---- exact quotes
-from-withheld : {l d m f : Bool} (h : ℤ) (c : GLFTConfig) (vol : ℤ) (tau : Float) {x : ModelAnswer} (b a : Distance) (s : ℕ) → Outcome l (configOk c) d m (holdingOk h c) f (modelOf c vol) (lots h c) x
-    → exactFrom x tau ≡ Answer.Distances b a s → Withheld (c .«max_inventory_lots») (lots h c) b a
+from-withheld : (mid h : ℤ) (c : GLFTConfig) (vol : ℤ) (t : ℕ) {x : ModelAnswer} (b a : Distance) (s : ℕ) → Made (exactChecks mid h c vol t) (modelOf c vol) (lots h c) x
+    → exactFrom x (tauOf (c .«terminal_time») t) ≡ Answer.Distances b a s → Withheld (c .«max_inventory_lots») (lots h c) b a
 unfolding exactFrom modelOf modelFrom modelBy
-from-withheld h c vol tau b a s (stopped k) e = let z : _≡_ {A = ℕ} 0 1 = cc in absurd (omega arith)
-from-withheld h c vol tau b a s (passed l v d m g f) e = let m = modelOf c vol in float-presence (m .k) (m .base) (inputOf m tau) (lots h c) b a s e
+from-withheld mid h c vol t b a s (stopped k) e = let z : _≡_ {A = ℕ} 0 1 = cc in absurd (omega arith)
+from-withheld mid h c vol t b a s (passed k) e = let m = modelOf c vol in float-presence (m .k) (m .base) (inputOf m (tauOf (c .«terminal_time») t)) (lots h c) b a s e
 
 answer-withheld : (mid h : ℤ) (c : GLFTConfig) (vol : ℤ) (t : ℕ) (b a : Distance) (s : ℕ) → exactAnswer mid h c vol t ≡ Answer.Distances b a s → Withheld (c .«max_inventory_lots») (lots h c) b a
-unfolding exactAnswer exactIf newModel
-answer-withheld mid h c vol t b a s = go (timeOk t)
-  where
-    go : (x : Bool) → exactIf x mid h c vol t ≡ Answer.Distances b a s → Withheld (c .«max_inventory_lots») (lots h c) b a
-    go true e = from-withheld h c vol (tauOf (c .«terminal_time») t) b a s (outcome _ _ _ _ _ _ _ _) e
-    go false e = let z : _≡_ {A = ℕ} 0 1 = cc in absurd (omega arith)
+unfolding exactAnswer exactModel
+answer-withheld mid h c vol t b a s e = from-withheld mid h c vol t b a s (made _ _ _) e
 
 pub exact-presence : ExactPresence
 unfolding exactQuotes
@@ -123,12 +118,13 @@ form-withheld m q h b a = go (positive (slope m))
         rw (← u .0, ← u .1) (Iff·trans (form-bid-absent _ (m .base) (slope m) (whole q)) (top q (m .«q_max») h), Iff·trans (form-ask-absent _ (m .base) (slope m) (whole q)) (bottom q (m .«q_max») h))
     go false e = let z : _≡_ {A = ℕ} 0 1 = cc in absurd (omega arith)
 
-closed-withheld : {l d m f : Bool} (h : ℤ) (c : GLFTConfig) (vol : ℤ) {x : ModelAnswer} → Outcome l (configOk c) d m (holdingOk h c) f (modelOf c vol) (lots h c) x
+closed-withheld : (mid h : ℤ) (c : GLFTConfig) (vol : ℤ) {x : ModelAnswer} → Made (closedChecks mid h c vol) (modelOf c vol) (lots h c) x
     → (b a : Distance) → closedFrom x ≡ Sides.Distances b a → Withheld (c .«max_inventory_lots») (lots h c) b a
 unfolding closedFrom modelOf modelFrom modelBy
-closed-withheld h c vol (stopped k) b a e = let z : _≡_ {A = ℕ} 0 1 = cc in absurd (omega arith)
-closed-withheld h c vol (passed l v d m g f) b a e = form-withheld (modelOf c vol) (lots h c) (leb-true (natAbs (lots h c)) (c .«max_inventory_lots») (lots-passed h c g)) b a e
+closed-withheld mid h c vol (stopped k) b a e = let z : _≡_ {A = ℕ} 0 1 = cc in absurd (omega arith)
+closed-withheld mid h c vol (passed k) b a e =
+    form-withheld (modelOf c vol) (lots h c) (leb-true (natAbs (lots h c)) (c .«max_inventory_lots») (lots-passed h c (closed-passed mid h c vol k .4))) b a e
 
 pub closed-presence : ClosedPresence
-unfolding closedFormQuotes closedAnswer driftlessModel
-closed-presence mid h c vol q e = closed-built mid (c .«min_spread») h c q (closedAnswer mid h c vol) (closed-withheld h c vol (outcome _ _ _ _ _ _ _ _)) e
+unfolding closedFormQuotes closedAnswer closedModel
+closed-presence mid h c vol q e = closed-built mid (c .«min_spread») h c q (closedAnswer mid h c vol) (closed-withheld mid h c vol (made _ _ _)) e

@@ -4,9 +4,11 @@ use mathlib.Core.Logic.{_⊎_, inl, inr, _↔_, Iff·trans}
 use Prim.Native.Nat.{ℕ}
 use native.Mathlib.Omega.{arith}
 use mathlib.Core.Bool.{Bool, true, false, _&&_}
+use mathlib.Core.List.{List}
 use lib.IntN.{ℤ}
 use lib.Ieee.{Float}
 use Rattle.elementary.specs.Float.{positive}
+use Rattle.elementary.specs.Checks.{firstFailing, Refuses, Passes}
 use Rattle.vector.specs.Refusals.{numerical}
 use Rattle.vector.specs.Run.{boundOk}
 use Rattle.vector.specs.declared.RunInput.{RunInput}
@@ -20,17 +22,14 @@ use Rattle.distances.specs.declared.Answer.{Answer}
 use Rattle.distances.specs.declared.Answer.the-variants as Answer
 use Rattle.distances.proofs.Refusing.{never, float-refusals}
 use Rattle.quote.specs.Refusals.{capped}
-use Rattle.amounts.specs.Amounts.{timeOk, tauOf}
-use Rattle.model.specs.Configuration.{configOk}
-use Rattle.model.specs.Model.{lots, marketOk, holdingOk, modelOk, modelOf, modelFrom, modelBy, modelIf, modelLimits, newModel, driftless, driftlessModel, inputOf}
+use Rattle.amounts.specs.Amounts.{tauOf}
+use Rattle.model.specs.Model.{lots, modelOf, modelFrom, modelBy, modelIf, inputOf, exactChecks, exactModel, closedChecks, closedModel}
 use Rattle.quote.specs.ClosedForm.{slope, bidForm, askForm, formIf, closedFormDistances}
 use Rattle.prices.specs.declared.QuotesAnswer.{QuotesAnswer}
 use Rattle.prices.specs.declared.QuotesAnswer.the-variants.{Quotes as quoted, Refused as refused}
-use Rattle.quote.specs.Quotes.{withSteps, exactBy, exactFrom, exactIf, exactAnswer, exactQuotes, wrapped, optimalQuotes, ofQuotes, closedBy, closedFrom, closedAnswer, closedFormQuotes}
-use Rattle.model.specs.Refusing.{Checked, Passed}
+use Rattle.quote.specs.Quotes.{withSteps, exactBy, exactFrom, exactAnswer, exactQuotes, wrapped, optimalQuotes, ofQuotes, closedBy, closedFrom, closedAnswer, closedFormQuotes}
 use Rattle.prices.specs.Refusing.{Priced}
 use Rattle.quote.specs.Promises.{PricedOf, FormFails, by-slope, by-bid, by-ask, ExactRefusals, OptimalRefusals, ClosedRefusals}
-use Rattle.model.specs.declared.GLFTConfig.{GLFTConfig}
 use Rattle.model.specs.declared.Model.{Model}
 use Rattle.model.specs.declared.ModelAnswer.{ModelAnswer}
 use Rattle.model.specs.declared.ModelAnswer.the-variants as ModelAnswer
@@ -38,27 +37,21 @@ use Rattle.quote.specs.declared.ExactQuotes.{ExactQuotes}
 use Rattle.quote.specs.declared.ExactQuotes.the-variants as Exact
 use Rattle.quote.specs.declared.OptimalQuotes.the-variants as Optimal
 use Rattle.quote.specs.declared.ClosedFormQuotes.the-variants as Closed
-use Rattle.model.proofs.Passed.{Outcome, stopped, passed, outcome, stops, bound-passed, lots-passed, tau-passed, floats-passed}
+use Rattle.model.proofs.Passed.{Made, stopped, passed, made, stops, goes-on, exact-passed, bound-passed, lots-passed, tau-passed, floats-passed}
 use Rattle.distances.specs.Promises.{Finite}
 use Rattle.prices.proofs.Refusing.{prices-refused}
 use Rattle.quote.proofs.Finite.{answer-finite, closed-finite}
 
 -- ---- by the numbers' checks, or after them: g reckons from a model, and answers a refusal by its number
 module _ {R : Type 0} (refusal : ℕ → R) (g : ModelAnswer → R) (kept : (r : ℕ) → g (ModelAnswer.Refused r) ≡ refusal r) (alike : (r n : ℕ) → refusal r ≡ refusal n → r ≡ n) where
-  stopped-at : {l v d m h f : Bool} {b : Model} {q : ℤ} {x : ModelAnswer} (n : ℕ) → Outcome l v d m h f b q x → g x ≡ refusal n
-      → Checked l v d m h f n ⊎ (Passed l v d m h f × (g (ModelAnswer.Model b q) ≡ refusal n))
-  stopped-at {l} {v} {d} {m} {h} {f} n (stopped {n = r} k) e = inl (subst (λ (i : ℕ). Checked l v d m h f i) (alike r n (sym (kept r) ∙ e)) k)
-  stopped-at n (passed l v d m h f) e = inr ((l, v, d, m, h, f), e)
+  stopped-at : {l : List (Bool × ℕ)} {b : Model} {q : ℤ} {x : ModelAnswer} (n : ℕ) → Made l b q x → g x ≡ refusal n → Refuses l n ⊎ (Passes l × (g (ModelAnswer.Model b q) ≡ refusal n))
+  stopped-at {l} n (stopped {n = r} k) e = inl (subst (λ (i : ℕ). Refuses l i) (alike r n (sym (kept r) ∙ e)) k)
+  stopped-at n (passed k) e = inr (k, e)
 
-  goes-on : (l v d m h f : Bool) (b : Model) (q : ℤ) → Passed l v d m h f → modelIf l v d m h f b q ≡ ModelAnswer.Model b q
-  unfolding modelIf
-  goes-on l v d m h f b q (el, ev, ed, em, eh, ef) = rw (el, ev, ed, em, eh, ef)
-
-  pub after-checks : (l v d m h f : Bool) (b : Model) (q : ℤ) (n : ℕ)
-      → (g (modelIf l v d m h f b q) ≡ refusal n) ↔ (Checked l v d m h f n ⊎ (Passed l v d m h f × (g (ModelAnswer.Model b q) ≡ refusal n)))
-  after-checks l v d m h f b q n = (
-    stopped-at n (outcome l v d m h f b q),
-    λ x. elim x [ inl k ↦ ap g (stops b q k) ∙ kept n | inr k ↦ ap g (goes-on l v d m h f b q (k .0)) ∙ k .1 ],
+  pub after-checks : (l : List (Bool × ℕ)) (b : Model) (q : ℤ) (n : ℕ) → (g (modelIf (firstFailing l) b q) ≡ refusal n) ↔ (Refuses l n ⊎ (Passes l × (g (ModelAnswer.Model b q) ≡ refusal n)))
+  after-checks l b q n = (
+    stopped-at n (made l b q),
+    λ x. elim x [ inl k ↦ ap g (stops b q k) ∙ kept n | inr k ↦ ap g (goes-on b q (k .0)) ∙ k .1 ],
   )
 
 -- both ways, put together
@@ -87,17 +80,6 @@ float-fails k base x q n f b h =
     go (at-1 e i) = never (sym b ∙ i)
     go (at-4 e i j) = never (sym h ∙ j)
     go (at-11 e i j y) = (refl, y)
-
-answer-is : (mid h : ℤ) (c : GLFTConfig) (vol : ℤ) (t : ℕ)
-    → exactAnswer mid h c vol t
-    ≡ exactFrom (modelIf (timeOk t && modelLimits mid h c vol) (configOk c) true (marketOk mid vol) (holdingOk h c) (modelOk (modelOf c vol)) (modelOf c vol) (lots h c)) (tauOf (c .«terminal_time») t)
-unfolding exactAnswer exactIf newModel exactFrom modelIf
-answer-is mid h c vol t = go (timeOk t)
-  where
-    go : (b : Bool) → exactIf b mid h c vol t
-        ≡ exactFrom (modelIf (b && modelLimits mid h c vol) (configOk c) true (marketOk mid vol) (holdingOk h c) (modelOk (modelOf c vol)) (modelOf c vol) (lots h c)) (tauOf (c .«terminal_time») t)
-    go true = refl
-    go false = refl
 
 with-steps-refused : (s : ℕ) (j : QuotesAnswer) (n : ℕ) → withSteps s j ≡ Exact.Refused n → j ≡ refused n
 unfolding withSteps
@@ -128,13 +110,15 @@ same-answer : (r n : ℕ) → Answer.Refused r ≡ Answer.Refused n → r ≡ n
 same-answer r n e = cc
 
 pub exact-refusals : ExactRefusals
-unfolding exactQuotes exactFrom modelOf modelFrom modelBy
+unfolding exactQuotes exactAnswer exactModel exactFrom modelOf modelFrom modelBy
 exact-refusals mid h c vol t n =
     let tau = tauOf (c .«terminal_time») t in
     let m = modelOf c vol in
     joined (exact-by mid (c .«min_spread») (exactAnswer mid h c vol t) n (answer-finite mid h c vol t))
-    (rw (answer-is mid h c vol t) (Iff·trans (after-checks Answer.Refused (λ x. exactFrom x tau) (λ r. refl) same-answer (timeOk t && modelLimits mid h c vol) (configOk c) true (marketOk mid vol) (holdingOk h c) (modelOk m) m (lots h c) n)
-    (right (late (λ p. float-fails (m .k) (m .base) (inputOf m tau) (lots h c) n (floats-passed m tau (p .5) (tau-passed mid h c vol t (p .0))) (bound-passed c (p .1)) (lots-passed h c (p .4)))))))
+    (Iff·trans (after-checks Answer.Refused (λ x. exactFrom x tau) (λ r. refl) same-answer (exactChecks mid h c vol t) m (lots h c) n)
+    (right (late (λ k.
+    let p = exact-passed mid h c vol t k in
+    float-fails (m .k) (m .base) (inputOf m tau) (lots h c) n (floats-passed m tau (p .4) (tau-passed mid h c vol t (p .0))) (bound-passed c (p .1)) (lots-passed h c (p .3))))))
 
 -- ---- the wrapper's
 pub optimal-refusals : OptimalRefusals
@@ -199,9 +183,9 @@ same-sides : (r n : ℕ) → Sides.Refused r ≡ Sides.Refused n → r ≡ n
 same-sides r n e = cc
 
 pub closed-refusals : ClosedRefusals
-unfolding closedFormQuotes closedAnswer closedFrom driftlessModel
+unfolding closedFormQuotes closedAnswer closedFrom closedModel
 closed-refusals mid h c vol n =
     let m = modelOf c vol in
-    joined (closed-by mid (c .«min_spread») (closedAnswer mid h c vol) n (closed-finite (driftlessModel mid h c vol)))
-    (Iff·trans (after-checks Sides.Refused closedFrom (λ r. refl) same-sides (modelLimits mid h c vol) (configOk c) (driftless c) (marketOk mid vol) (holdingOk h c) (modelOk m) m (lots h c) n)
-    (right (late (λ p. form-fails m (lots h c) n))))
+    joined (closed-by mid (c .«min_spread») (closedAnswer mid h c vol) n (closed-finite (closedModel mid h c vol)))
+    (Iff·trans (after-checks Sides.Refused closedFrom (λ r. refl) same-sides (closedChecks mid h c vol) m (lots h c) n)
+    (right (late (λ k. form-fails m (lots h c) n))))

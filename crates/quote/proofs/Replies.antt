@@ -9,6 +9,7 @@ use lib.IntN.{ℤ, pos, negsuc}
 use lib.Dec.{T}
 use lib.Ieee.{Float, nan, inf, fin, lt, isNan}
 use Rattle.elementary.specs.Float.{whole}
+use Rattle.elementary.specs.Checks.{Refuses, here, later}
 use Rattle.vector.specs.Run.{cap}
 use Rattle.vector.specs.declared.RunInput.{RunInput}
 use Rattle.distances.specs.FloatEntry.{floatEntry}
@@ -16,13 +17,12 @@ use Rattle.distances.specs.Promises.{Counted}
 use Rattle.distances.specs.declared.Distance.{Distance}
 use Rattle.distances.specs.declared.Answer.{Answer}
 use Rattle.distances.specs.declared.Answer.the-variants as Answer
-use Rattle.distances.proofs.Refusing.{never, float-reports}
+use Rattle.distances.proofs.Refusing.{float-reports}
 use Rattle.prices.specs.Refusals.{crossed}
-use Rattle.amounts.specs.Amounts.{amountLimit, amountOk, above0, timeOk, tauOf}
-use Rattle.model.specs.Model.{newModel, inputOf}
+use Rattle.amounts.specs.Amounts.{amountLimit, amountOk, above0, tauOf}
+use Rattle.model.specs.Model.{inputOf, exactChecks, exactModel}
 use Rattle.prices.specs.Prices.{each, inOrder, judgeIf, judge, quotesBy, buildQuotes, rounded, roundedIf, side, widened}
-use Rattle.quote.specs.Quotes.{withSteps, exactFrom, exactIf, exactAnswer, exactBy, exactQuotes, exactSteps}
-use Rattle.model.specs.Refusing.{Checked, by-2, by-1, by-22, by-3, by-4, by-5}
+use Rattle.quote.specs.Quotes.{withSteps, exactFrom, exactAnswer, exactBy, exactQuotes, exactSteps}
 use Rattle.prices.specs.Refusing.{Priced, by-13, by-14}
 use Rattle.quote.specs.Replies.{PriceKept, ReplyKept, RepliesKept}
 use Rattle.model.specs.declared.GLFTConfig.{GLFTConfig}
@@ -96,13 +96,12 @@ from-reported (ModelAnswer.Model m q) tau = float-reported (m .k) (m .base) (inp
 from-reported (ModelAnswer.Refused r) tau = tt
 
 -- ---- a refusal's number
-checked-small : {l v d m h f : Bool} {n : ℕ} → d ≡ true → Checked l v d m h f n → n ≤ crossed
-checked-small e by-2 = omega arith
-checked-small e by-1 = omega arith
-checked-small e by-22 = never (sym e)
-checked-small e by-3 = omega arith
-checked-small e by-4 = omega arith
-checked-small e by-5 = omega arith
+checked-small : (mid h : ℤ) (c : GLFTConfig) (vol : ℤ) (t : ℕ) {n : ℕ} → Refuses (exactChecks mid h c vol t) n → n ≤ crossed
+checked-small mid h c vol t (here e) = omega arith
+checked-small mid h c vol t (later _ (here e)) = omega arith
+checked-small mid h c vol t (later _ (later _ (here e))) = omega arith
+checked-small mid h c vol t (later _ (later _ (later _ (here e)))) = omega arith
+checked-small mid h c vol t (later _ (later _ (later _ (later _ (here e))))) = omega arith
 
 priced-small : {mid least : ℤ} {b a : Distance} {n : ℕ} → Priced mid least b a n → n ≤ crossed
 priced-small (by-13 h) = omega arith
@@ -110,15 +109,11 @@ priced-small (by-14 h k) = omega arith
 
 module _ (mid h : ℤ) (c : GLFTConfig) (vol : ℤ) (t : ℕ) where
   answer-reported : Reported (exactAnswer mid h c vol t)
-  unfolding Reported exactAnswer exactIf
-  answer-reported = go (timeOk t)
-    where
-      go : (b : Bool) → Reported (exactIf b mid h c vol t)
-      go true = from-reported (newModel mid h c vol) (tauOf (c .«terminal_time») t)
-      go false = tt
+  unfolding Reported exactAnswer
+  answer-reported = from-reported (exactModel mid h c vol t) (tauOf (c .«terminal_time») t)
 
   refusal-small : (n : ℕ) → exactQuotes mid h c vol t ≡ Exact.Refused n → n ≤ crossed
-  refusal-small n e = elim (exact-refusals mid h c vol t n .0 e) [ inl k ↦ checked-small refl k | inr x ↦ elim x [ inl k ↦ omega (arith, k .0) | inr k ↦ priced-small (k .4) ] ]
+  refusal-small n e = elim (exact-refusals mid h c vol t n .0 e) [ inl k ↦ checked-small mid h c vol t k | inr x ↦ elim x [ inl k ↦ omega (arith, k .0) | inr k ↦ priced-small (k .4) ] ]
 
   answer-kept : (a : Answer) → exactAnswer mid h c vol t ≡ a → ReplyKept (exactBy mid (c .«min_spread») a)
   unfolding ReplyKept exactQuotes exactBy buildQuotes quotesBy Counted Reported

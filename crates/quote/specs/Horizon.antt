@@ -2,23 +2,20 @@
 use mathlib.Core.Path.{_≡_}
 use mathlib.Core.Logic.{_⊎_, _↔_}
 use Prim.Native.Nat.{ℕ, suc}
-use mathlib.Core.Bool.{Bool, true, false, _&&_}
+use mathlib.Core.Bool.{true, false, _&&_}
 use lib.IntN.{ℤ}
 use lib.Ieee.{Float, lt}
 use Rattle.elementary.specs.Float.{0ᶠ, positive}
+use Rattle.elementary.specs.Checks.{Refuses, Passes}
 use Rattle.vector.specs.Refusals.{numerical}
 use Rattle.vector.specs.Run.{diagonalFinite, fixed}
 use Rattle.vector.specs.Count.{firstSize, FirstGoes}
 use Rattle.vector.specs.declared.FirstPlan.{FirstPlan}
 use Rattle.vector.specs.declared.FirstPlan.the-variants as FirstPlan
 use Rattle.distances.specs.Count.{stepCount}
-use Rattle.amounts.specs.Refusals.{limits}
-use Rattle.amounts.specs.Amounts.{timeOk, tauOf}
-use Rattle.model.specs.Configuration.{configOk}
-use Rattle.model.specs.Model.{marketOk, holdingOk, modelOk, modelOf, modelLimits, newModel, inputOf}
+use Rattle.amounts.specs.Amounts.{tauOf}
+use Rattle.model.specs.Model.{modelOf, inputOf, exactChecks, exactModel}
 use Rattle.quote.specs.Quotes.{exactQuotes, exactSteps}
-use Rattle.model.specs.Refusing.{Passed}
-use Rattle.quote.specs.Promises.{ExactChecked}
 use Rattle.model.specs.declared.GLFTConfig.{GLFTConfig}
 use Rattle.model.specs.declared.Model.{Model}
 use Rattle.model.specs.declared.ModelAnswer.{ModelAnswer}
@@ -30,13 +27,8 @@ unfoldable pub planFrom : ModelAnswer → Float → FirstPlan
 planFrom (ModelAnswer.Refused r) tau = FirstPlan.Refused r
 planFrom (ModelAnswer.Model m q) tau = stepCount (m .k) (m .base) (inputOf m tau) q
 
--- the current time is one of the numbers that 2 looks at
-unfoldable pub deskPlanIf : Bool → ℤ → ℤ → GLFTConfig → ℤ → ℕ → FirstPlan
-deskPlanIf false mid h c vol t = FirstPlan.Refused limits
-deskPlanIf true mid h c vol t = planFrom (newModel mid h c vol) (tauOf (c .«terminal_time») t)
-
 unfoldable pub deskPlan : ℤ → ℤ → GLFTConfig → ℤ → ℕ → FirstPlan
-deskPlan mid h c vol t = deskPlanIf (timeOk t) mid h c vol t
+deskPlan mid h c vol t = planFrom (exactModel mid h c vol t) (tauOf (c .«terminal_time») t)
 
 -- ---- it is the first plan of the run that the exact quotes come from
 pub record DeskPlanIsFirst : Type 0 where
@@ -47,7 +39,7 @@ pub record DeskPlanIsFirst : Type 0 where
   pub refused : (mid h : ℤ) (c : GLFTConfig) (vol : ℤ) (t n : ℕ) → deskPlan mid h c vol t ≡ FirstPlan.Refused n → exactQuotes mid h c vol t ≡ ExactQuotes.Refused n
   -- some steps: the model's run begins with a plan of so many; none: no step is spent
   pub steps : (mid h : ℤ) (c : GLFTConfig) (vol : ℤ) (t s : ℕ) → deskPlan mid h c vol t ≡ FirstPlan.Steps (suc s)
-      → (m : Model) × (q : ℤ) × (newModel mid h c vol ≡ ModelAnswer.Model m q) × FirstGoes (inputOf m (tauOf (c .«terminal_time») t)) (suc s)
+      → (m : Model) × (q : ℤ) × (exactModel mid h c vol t ≡ ModelAnswer.Model m q) × FirstGoes (inputOf m (tauOf (c .«terminal_time») t)) (suc s)
   pub none : (mid h : ℤ) (c : GLFTConfig) (vol : ℤ) (t : ℕ) → deskPlan mid h c vol t ≡ FirstPlan.Steps 0 → exactSteps mid h c vol t ≡ 0
 
 -- ---- its refusals: what the numbers' checks refuse, and 11 where they pass, time is left, and an entry of the diagonal is not finite or tau × norm not finite and positive
@@ -55,9 +47,9 @@ abbrev pub DeskPlanFails : ℤ → ℤ → GLFTConfig → ℤ → ℕ → Type 0
 DeskPlanFails mid h c vol t =
     let m = modelOf c vol in
     let tau = tauOf (c .«terminal_time») t in
-    Passed (timeOk t && modelLimits mid h c vol) (configOk c) true (marketOk mid vol) (holdingOk h c) (modelOk m)
+    Passes (exactChecks mid h c vol t)
     × ((lt 0ᶠ tau ≡ true) × ((diagonalFinite (fixed (inputOf m tau)) && positive (firstSize (inputOf m tau))) ≡ false))
 
 abbrev pub DeskPlanRefusals : Type 0
 DeskPlanRefusals = (mid h : ℤ) (c : GLFTConfig) (vol : ℤ) (t n : ℕ)
-    → (deskPlan mid h c vol t ≡ FirstPlan.Refused n) ↔ (ExactChecked mid h c vol t n ⊎ ((n ≡ numerical) × DeskPlanFails mid h c vol t))
+    → (deskPlan mid h c vol t ≡ FirstPlan.Refused n) ↔ (Refuses (exactChecks mid h c vol t) n ⊎ ((n ≡ numerical) × DeskPlanFails mid h c vol t))

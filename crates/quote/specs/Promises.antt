@@ -1,11 +1,12 @@
 -- The buyer's first and third demands for the entries of this layer, as named statements. Each is proved once, in proofs/. Definitions only.
 use mathlib.Core.Path.{_≡_}
 use Prim.Native.Nat.{ℕ, _≤_}
-use mathlib.Core.Bool.{true, false, _&&_}
+use mathlib.Core.Bool.{true, false}
 use mathlib.Core.Logic.{_⊎_, _↔_}
 use lib.IntN.{ℤ, negℤ}
 use lib.Ieee.{Float}
 use Rattle.elementary.specs.Float.{positive}
+use Rattle.elementary.specs.Checks.{Refuses, Passes}
 use Rattle.vector.specs.Refusals.{numerical}
 use Rattle.vector.specs.Run.{cap}
 use Rattle.distances.specs.Distances.{fine}
@@ -16,9 +17,9 @@ use Rattle.distances.specs.declared.Sides.the-variants as Sides
 use Rattle.distances.specs.declared.Answer.{Answer}
 use Rattle.distances.specs.declared.Answer.the-variants as Answer
 use Rattle.quote.specs.Refusals.{capped}
-use Rattle.amounts.specs.Amounts.{timeOk, tauOf}
-use Rattle.model.specs.Configuration.{configOk, turned}
-use Rattle.model.specs.Model.{lots, modelLimits, driftless, marketOk, holdingOk, modelOk, modelOf, inputOf}
+use Rattle.amounts.specs.Amounts.{tauOf}
+use Rattle.model.specs.Configuration.{turned}
+use Rattle.model.specs.Model.{lots, modelOf, inputOf, exactChecks, closedChecks}
 use Rattle.quote.specs.ClosedForm.{slope, bidForm, askForm}
 use Rattle.quote.specs.Quotes.{exactAnswer, optimalAnswer, closedAnswer, exactSteps, exactBy, exactQuotes, wrapped, optimalQuotes, closedFormQuotes}
 use Rattle.model.specs.declared.GLFTConfig.{GLFTConfig}
@@ -27,7 +28,6 @@ use Rattle.prices.specs.declared.GlftQuotes.{GlftQuotes}
 use Rattle.quote.specs.declared.ExactQuotes.the-variants as Exact
 use Rattle.quote.specs.declared.OptimalQuotes.the-variants as Optimal
 use Rattle.quote.specs.declared.ClosedFormQuotes.the-variants as Closed
-use Rattle.model.specs.Refusing.{Checked, Passed}
 use Rattle.prices.specs.Refusing.{Priced}
 use Rattle.prices.specs.Facing.{Pair}
 
@@ -68,19 +68,11 @@ ClosedPairs = (mid h : ℤ) (c : GLFTConfig) (vol : ℤ) (q q′ : GlftQuotes)
     → closedFormQuotes mid h c vol ≡ Closed.Quotes q → closedFormQuotes mid (negℤ h) (turned c) vol ≡ Closed.Quotes q′ → Pair mid q q′
 
 -- ==== Demand 1: each refusal is the reply in just the situation that document 01 names
-
-abbrev pub ExactChecked : ℤ → ℤ → GLFTConfig → ℤ → ℕ → ℕ → Type 0
-ExactChecked mid h c vol t n = Checked (timeOk t && modelLimits mid h c vol) (configOk c) true (marketOk mid vol) (holdingOk h c) (modelOk (modelOf c vol)) n
-
-abbrev pub ClosedChecked : ℤ → ℤ → GLFTConfig → ℤ → ℕ → Type 0
-ClosedChecked mid h c vol n = Checked (modelLimits mid h c vol) (configOk c) (driftless c) (marketOk mid vol) (holdingOk h c) (modelOk (modelOf c vol)) n
-
--- 11: they all pass, and the float entry fails from the model's floats: its run does, or a read of its vector
+-- 11: the checks all pass, and the float entry fails from the model's floats: its run does, or a read of its vector
 abbrev pub ExactFails : ℤ → ℤ → GLFTConfig → ℤ → ℕ → Type 0
 ExactFails mid h c vol t =
     let m = modelOf c vol in
-    Passed (timeOk t && modelLimits mid h c vol) (configOk c) true (marketOk mid vol) (holdingOk h c) (modelOk m)
-    × EntryFails (m .k) (m .base) (inputOf m (tauOf (c .«terminal_time») t)) (lots h c)
+    Passes (exactChecks mid h c vol t) × EntryFails (m .k) (m .base) (inputOf m (tauOf (c .«terminal_time») t)) (lots h c)
 
 -- and of the closed form: the slope is not finite and positive, an elementary refusal under it included; or it is, and a present distance is not finite
 pub data FormFails (m : Model) (q : ℤ) : Type 0 where
@@ -90,7 +82,7 @@ pub data FormFails (m : Model) (q : ℤ) : Type 0 where
 
 abbrev pub ClosedFails : ℤ → ℤ → GLFTConfig → ℤ → Type 0
 ClosedFails mid h c vol =
-    let m = modelOf c vol in Passed (modelLimits mid h c vol) (configOk c) (driftless c) (marketOk mid vol) (holdingOk h c) (modelOk m) × FormFails m (lots h c)
+    Passes (closedChecks mid h c vol) × FormFails (modelOf c vol) (lots h c)
 
 -- an answer has distances, and their prices are refused
 abbrev pub PricedOf : ℤ → ℤ → Answer → ℕ → Type 0
@@ -104,7 +96,7 @@ ClosedPriced mid h c vol n = (b : Distance) × (a : Distance) × (closedAnswer m
 
 -- exact_quotes refuses by n just where the checks do, by 11 where the float entry fails after them, or where the prices do
 abbrev pub ExactRefused : ℤ → ℤ → GLFTConfig → ℤ → ℕ → ℕ → Type 0
-ExactRefused mid h c vol t n = ExactChecked mid h c vol t n ⊎ (((n ≡ numerical) × ExactFails mid h c vol t) ⊎ ExactPriced mid h c vol t n)
+ExactRefused mid h c vol t n = Refuses (exactChecks mid h c vol t) n ⊎ (((n ≡ numerical) × ExactFails mid h c vol t) ⊎ ExactPriced mid h c vol t n)
 
 abbrev pub ExactRefusals : Type 0
 ExactRefusals = (mid h : ℤ) (c : GLFTConfig) (vol : ℤ) (t n : ℕ) → (exactQuotes mid h c vol t ≡ Exact.Refused n) ↔ ExactRefused mid h c vol t n
@@ -118,4 +110,4 @@ OptimalRefusals = (mid h : ℤ) (c : GLFTConfig) (vol : ℤ) (t n : ℕ)
 -- the closed form never reports the cap: its answer has no such case
 abbrev pub ClosedRefusals : Type 0
 ClosedRefusals = (mid h : ℤ) (c : GLFTConfig) (vol : ℤ) (n : ℕ)
-    → (closedFormQuotes mid h c vol ≡ Closed.Refused n) ↔ (ClosedChecked mid h c vol n ⊎ (((n ≡ numerical) × ClosedFails mid h c vol) ⊎ ClosedPriced mid h c vol n))
+    → (closedFormQuotes mid h c vol ≡ Closed.Refused n) ↔ (Refuses (closedChecks mid h c vol) n ⊎ (((n ≡ numerical) × ClosedFails mid h c vol) ⊎ ClosedPriced mid h c vol n))

@@ -10,8 +10,8 @@ use Rattle.distances.specs.declared.Answer.{Answer}
 use Rattle.distances.specs.declared.Answer.the-variants as Answer
 use Rattle.amounts.specs.Refusals.{limits}
 use Rattle.quote.specs.Refusals.{capped}
-use Rattle.amounts.specs.Amounts.{amountOk, timeOk, tauOf}
-use Rattle.model.specs.Model.{newModel, driftlessModel, inputOf}
+use Rattle.amounts.specs.Amounts.{amountOk, tauOf}
+use Rattle.model.specs.Model.{inputOf, exactModel, closedModel}
 use Rattle.quote.specs.ClosedForm.{closedFormDistances}
 use Rattle.model.specs.declared.GLFTConfig.{GLFTConfig}
 use Rattle.model.specs.declared.Model.{Model}
@@ -32,13 +32,8 @@ unfoldable pub exactFrom : ModelAnswer → Float → Answer
 exactFrom (ModelAnswer.Refused r) tau = Answer.Refused r
 exactFrom (ModelAnswer.Model m q) tau = floatEntry (m .k) (m .base) (inputOf m tau) q .answer
 
--- the current time is one of the numbers that 2 looks at
-unfoldable pub exactIf : Bool → ℤ → ℤ → GLFTConfig → ℤ → ℕ → Answer
-exactIf false mid h c vol t = Answer.Refused limits
-exactIf true mid h c vol t = exactFrom (newModel mid h c vol) (tauOf (c .«terminal_time») t)
-
 unfoldable pub exactAnswer : ℤ → ℤ → GLFTConfig → ℤ → ℕ → Answer
-exactAnswer mid h c vol t = exactIf (timeOk t) mid h c vol t
+exactAnswer mid h c vol t = exactFrom (exactModel mid h c vol t) (tauOf (c .«terminal_time») t)
 
 -- the wrapper's: 12 for a report
 unfoldable pub withoutReport : Answer → Answer
@@ -54,7 +49,7 @@ closedFrom (ModelAnswer.Refused r) = Sides.Refused r
 closedFrom (ModelAnswer.Model m q) = closedFormDistances m q
 
 unfoldable pub closedAnswer : ℤ → ℤ → GLFTConfig → ℤ → Sides
-closedAnswer mid h c vol = closedFrom (driftlessModel mid h c vol)
+closedAnswer mid h c vol = closedFrom (closedModel mid h c vol)
 
 -- ---- the entries
 unfoldable pub withSteps : ℕ → QuotesAnswer → ExactQuotes
@@ -94,12 +89,8 @@ unfoldable pub stepsFrom : ModelAnswer → Float → ℕ
 stepsFrom (ModelAnswer.Refused r) tau = 0
 stepsFrom (ModelAnswer.Model m q) tau = floatSteps (m .k) (m .base) (inputOf m tau) q
 
-unfoldable pub stepsIf : Bool → ℤ → ℤ → GLFTConfig → ℤ → ℕ → ℕ
-stepsIf false mid h c vol t = 0
-stepsIf true mid h c vol t = stepsFrom (newModel mid h c vol) (tauOf (c .«terminal_time») t)
-
 unfoldable pub exactSteps : ℤ → ℤ → GLFTConfig → ℤ → ℕ → ℕ
-exactSteps mid h c vol t = stepsIf (timeOk t) mid h c vol t
+exactSteps mid h c vol t = stepsFrom (exactModel mid h c vol t) (tauOf (c .«terminal_time») t)
 
 -- ---- the exact quotes of any answer before prices: are mid and min spread within the limit, or 2
 unfoldable pub fromIf : Bool → ExactQuotes → ExactQuotes

@@ -1,7 +1,6 @@
 // Whether a horizon is too long: the steps of the first plan, before anything runs.
 ghost use mathlib.Core.Path.{_≡_};
 ghost use Rattle.quote.specs.Horizon.{deskPlan};
-use amounts::refusals::LIMITS;
 use amounts::seconds_to_terminal;
 use model::GLFTConfig;
 use model::Model;
@@ -19,11 +18,8 @@ pub fn first_plan(
 ) -> FirstPlan
     ensures { λ r. ⌜ r ≡ deskPlan «mid_price» inventory config volatility «current_time» ⌝ }
 {
-    if current_time > GLFTConfig::MAX_TIME {
-        return FirstPlan::Refused(LIMITS);
-    }
     let terminal = config.terminal_time;
-    match Model::new(mid_price, inventory, config, volatility) {
+    match Model::exact(mid_price, inventory, config, volatility, current_time) {
         ModelAnswer::Model(m, q) => {
             let tau = seconds_to_terminal(terminal, current_time);
             distances::step_count(m.k, m.base, model::run_input(m, tau), q)

@@ -7,8 +7,8 @@ pub mod refusals;
 pub use amounts::BILLION;
 pub use amounts::Billionths;
 pub use amounts::to_billionths;
+pub use elementary::Check;
 pub use horizon::first_plan;
-pub use model::Check;
 pub use model::ConfigAnswer;
 pub use model::GLFTConfig;
 pub use model::Model;
@@ -54,12 +54,9 @@ impl GLFTStrategy {
     ) -> ExactQuotes
         ensures { λ r. ⌜ r ≡ exactQuotes «mid_price» inventory config volatility «current_time» ⌝ }
     {
-        if current_time > GLFTConfig::MAX_TIME {
-            return ExactQuotes::Refused(amounts::refusals::LIMITS);
-        }
         let terminal = config.terminal_time;
         let least = config.min_spread;
-        match Model::new(mid_price, inventory, config, volatility) {
+        match Model::exact(mid_price, inventory, config, volatility, current_time) {
             ModelAnswer::Model(m, q) => {
                 let tau = amounts::seconds_to_terminal(terminal, current_time);
                 quotes::exact_of(mid_price, least, m, q, tau)
@@ -97,7 +94,7 @@ impl GLFTStrategy {
         ensures { λ r. ⌜ r ≡ closedFormQuotes «mid_price» inventory config volatility ⌝ }
     {
         let least = config.min_spread;
-        match model::driftless_model(mid_price, inventory, config, volatility) {
+        match Model::closed_form(mid_price, inventory, config, volatility) {
             ModelAnswer::Model(m, q) => quotes::closed_of(
                 mid_price,
                 least,

@@ -8,10 +8,9 @@ use mathlib.Core.Bool.{Bool, true, false, _&&_, cond, and-comm, true≢false}
 use mathlib.Core.List.{List}
 use borrow.Author.Tests.{lt-ltb, le-ltb, ltb-true, ltb-false}
 use lib.IntN.{pos}
-use lib.Dec.{T, ltb, leb}
-use lib.ListN.{length, List·getD-eq-default}
-use lib.Ieee.{Float, nan, inf, binary64, lt, fits}
-use lib.Ieee.Fits.{nan-fits}
+use lib.Dec.{T, ltb}
+use lib.ListN.{length}
+use lib.Ieee.{Float, inf, binary64, lt, fits}
 use Rattle.elementary.specs.Float.{_⊕_, _⊖_, _⊗_, _⊘_, whole, 0ᶠ, 1ᶠ, finite}
 use Rattle.elementary.specs.Elementary.{EXP, orNan}
 use Rattle.series.specs.Vectors.{tab, at, fill, before, after, every, fold, larger, smaller, Mirror}
@@ -30,7 +29,7 @@ unfolding fullFactors
 at-full false n l r i k = refl
 at-full true n l r i k = at-near (n - 1) l r i (omega arith)
 
-pub full-mirror : (h : Bool) (n : ℕ) (l r : List Float) → h ≡ true → Centred h n l r → Mirror (fullSize h n) (fullFactors h n l r) (fullFactors h n r l)
+full-mirror : (h : Bool) (n : ℕ) (l r : List Float) → h ≡ true → Centred h n l r → Mirror (fullSize h n) (fullFactors h n l r) (fullFactors h n r l)
 unfolding fullSize fullFactors Centred
 full-mirror false n l r e c = absurd (true≢false (sym e))
 full-mirror true n l r e c = mirrored-turned (n - 1) l r (c refl)
@@ -40,7 +39,7 @@ pub own : (h : Bool) (n : ℕ) (l : List Float) → h ≡ true → Opposite (ful
 unfolding Mirror Centred
 own h n l e = full-mirror h n l l e (λ _. refl)
 
-pub length-full : (h : Bool) (n : ℕ) (l r : List Float) → length l ≡ n → length (fullFactors h n l r) ≡ fullSize h n
+length-full : (h : Bool) (n : ℕ) (l r : List Float) → length l ≡ n → length (fullFactors h n l r) ≡ fullSize h n
 unfolding fullSize fullFactors filledOut
 length-full false n l r e = e
 length-full true n l r e = length-tab (rows (n - 1)) _
@@ -54,13 +53,6 @@ fit-full true n l f = fit-tab (rows (n - 1)) _ (λ i. go i (ltb i (suc (n - 1)))
     go : (i : ℕ) (t : Bool) → T (fits binary64 (cond t (at l i) (at l (rows (n - 1) - 1 - i))))
     go i true = f i
     go i false = f (rows (n - 1) - 1 - i)
-
-pub fit-back : (h : Bool) (n : ℕ) (l : List Float) → length l ≡ n → Fit (full h n l) → Fit l
-fit-back h n l e f i = go (ltb i n) refl
-  where
-    go : (t : Bool) → ltb i n ≡ t → T (fits binary64 (at l i))
-    go true k = subst (λ (x : Float). T (fits binary64 x)) (at-full h n l l i (ltb-true i n k)) (f i)
-    go false k = subst (λ (x : Float). T (fits binary64 x)) (sym (List·getD-eq-default l nan (rw e (ltb-false i n k)))) (nan-fits binary64)
 
 -- the rows up to the centre
 last-row : (n : ℕ) → 1 ≤ n → n ≡ suc (n - 1)
@@ -81,7 +73,7 @@ full-tab true n f g F G some m ef eg =
     ∙ mirrored-tab (n - 1) f g F G (m refl) (λ i k. ef i (omega arith)) (λ i k. eg i (omega arith))
 
 -- ---- tests and extremes over all rows
-pub every-full : (h : Bool) (n : ℕ) (p : ℕ → Bool) → 1 ≤ n → (h ≡ true → Opposite (fullSize h n) p p) → every n p ≡ every (fullSize h n) p
+every-full : (h : Bool) (n : ℕ) (p : ℕ → Bool) → 1 ≤ n → (h ≡ true → Opposite (fullSize h n) p p) → every n p ≡ every (fullSize h n) p
 unfolding fullSize
 every-full false n p some m = refl
 every-full true n p some m = ap (λ (k : ℕ). every k p) (last-row n some) ∙ every-half (n - 1) p (m refl)
@@ -122,16 +114,16 @@ module _ (h : Bool) (n : ℕ) (some : 1 ≤ n) where
 
 -- ---- a row of the operator, and a term of the series
 module _ (h : Bool) (n : ℕ) (x : List Float) where
-  pub before-full : (k : ℕ) → k < n → before x k ≡ before (full h n x) k
+  before-full : (k : ℕ) → k < n → before x k ≡ before (full h n x) k
   unfolding before
   before-full zero l = refl
   before-full (suc k) l = sym (at-full h n x x k (omega arith))
 
-  pub after-full : (k : ℕ) → k + 1 < n → at x (k + 1) ≡ after (fullSize h n) (full h n x) k
+  after-full : (k : ℕ) → k + 1 < n → at x (k + 1) ≡ after (fullSize h n) (full h n x) k
   after-full k l = sym (at-full h n x x (k + 1) l) ∙ after-within (full h n x) (fullSize h n) k (lt-of-lt-of-le l (size-full h n (omega arith)))
 
 -- past the last row
-pub after-last-full : (h : Bool) (n : ℕ) (x : List Float) (k : ℕ) → 2 ≤ n → k + 1 ≡ n → past h (before x k) 0ᶠ ≡ after (fullSize h n) (full h n x) k
+after-last-full : (h : Bool) (n : ℕ) (x : List Float) (k : ℕ) → 2 ≤ n → k + 1 ≡ n → past h (before x k) 0ᶠ ≡ after (fullSize h n) (full h n x) k
 unfolding fullSize fullFactors
 after-last-full false n x k two e = after-last x n k (omega arith)
 after-last-full true n x k two e =
@@ -144,7 +136,7 @@ module _ (h : Bool) (n : ℕ) (d left right : List Float) (eta : Float) (two : 2
   whole-operator = fullOperator h n d left right
 
   -- row k from the entries beside it, as the code reads them
-  pub row-full : (x : List Float) (k : ℕ) (v lower upper : Float) → k < n → lower ≡ before x k → upper ≡ after (fullSize h n) (full h n x) k
+  row-full : (x : List Float) (k : ℕ) (v lower upper : Float) → k < n → lower ≡ before x k → upper ≡ after (fullSize h n) (full h n x) k
       → v ≡ eta ⊗ (at left k ⊗ lower ⊕ at right k ⊗ upper) ⊖ at d k ⊗ at x k → v ≡ rowAt whole-operator eta (full h n x) k
   row-full x k v lower upper l el eu e =
       row-is whole-operator eta (full h n x) k v lower upper (el ∙ before-full h n x k l) eu
@@ -170,7 +162,7 @@ module _ (h : Bool) (n : ℕ) (d left right : List Float) (eta : Float) (two : 2
   unfolding converged
   converged-full s t c e = e ∙ every-with h n (omega arith) small s t
 
-  pub made-full : (j : ℕ) (t s t′ s′ : List Float) (k : Bool) → t′ ≡ tab n (λ i. rowAt whole-operator eta (full h n t) i ⊗ (1ᶠ ⊘ whole (pos j)))
+  made-full : (j : ℕ) (t s t′ s′ : List Float) (k : Bool) → t′ ≡ tab n (λ i. rowAt whole-operator eta (full h n t) i ⊗ (1ᶠ ⊘ whole (pos j)))
       → s′ ≡ tab n (λ i. at s i ⊕ rowAt whole-operator eta (full h n t) i ⊗ (1ᶠ ⊘ whole (pos j))) → k ≡ converged n s′ t′
       → Made whole-operator eta j (full h n t) (full h n s) (full h n t′) (full h n s′) k
   made-full j t s t′ s′ k et es e =

@@ -14,7 +14,7 @@ use Rattle.series.specs.Late.{late, lateTerm, lateSeries, AskedOnce}
 use Rattle.series.proofs.Lists.{at-tab, every-ext, every-both}
 use Rattle.series.proofs.Terms.{finite-term, at-end}
 
-pub late-end : (k : ℕ) (p : Operator) (eta : Float) (j : ℕ) (x : Reply (List Float)) → lateSeries k p eta j (summed x) ≡ x
+late-end : (k : ℕ) (p : Operator) (eta : Float) (j : ℕ) (x : Reply (List Float)) → lateSeries k p eta j (summed x) ≡ x
 unfolding lateSeries
 late-end zero p eta j x = refl
 late-end (suc k) p eta j x = refl

@@ -132,11 +132,6 @@ fill-tab n x = go 0 n
     go i zero = refl
     go i (suc m) = ap (λ (l : List Float). x ∷ l) (go (suc i) m)
 
--- i of n places stored over
-pub filled-fill : (n i : ℕ) (x y : Float) → filled (λ k. x) (fill n y) i ≡ fill i x ++ fill (n - i) y
-unfolding filled
-filled-fill n i x y = rw (drop-fill n i y, fill-tab i x)
-
 -- ---- the larger by a test
 pub larger-taken : (x y : Float) → lt x y ≡ true → y ≡ larger x y
 unfolding larger
@@ -149,12 +144,6 @@ larger-left x y h = rw h
 -- ---- what a list of stores holds
 pub at-stored : (l : List Float) (n : ℕ) (f : ℕ → Float) (k : ℕ) → l ≡ tab n f → k < n → at l k ≡ f k
 at-stored l n f k e h = ap (λ (m : List Float). at m k) e ∙ at-tab n f k h
-
--- the first entry stored ahead of a loop
-pub filled-one : (f : ℕ → Float) (l : List Float) (v : Float) → 0 < length l → v ≡ f 0 → set l 0 v ≡ filled f (set l 0 v) 1
-unfolding filled from
-filled-one f [] v h e = absurd (omega arith)
-filled-one f (x ∷ l) v h e = ap (λ (y : Float). y ∷ l) e
 
 -- the last entry stored after a loop
 pub stored-last : (f : ℕ → Float) (l out : List Float) (i j n : ℕ) (v : Float) → i + 1 ≡ n → j ≡ i → length l ≡ n → out ≡ filled f l i → v ≡ f j → set out j v ≡ tab n f

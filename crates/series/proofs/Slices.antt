@@ -20,7 +20,7 @@ use Rattle.series.proofs.Loops.{every-suc}
 use Rattle.series.proofs.Terms.{once}
 
 -- ---- lengths
-pub both-true : (a b : Bool) → (a && b) ≡ true → (a ≡ true) × (b ≡ true)
+both-true : (a b : Bool) → (a && b) ≡ true → (a ≡ true) × (b ≡ true)
 both-true true b e = (refl, e)
 both-true false b e = absurd (false≢true e)
 

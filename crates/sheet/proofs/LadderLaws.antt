@@ -14,8 +14,8 @@ use Rattle.model.specs.Configuration.{turned}
 use Rattle.model.specs.Model.{checkCall}
 use Rattle.lots.specs.Reckoning.{reckoning, holdingOf}
 use Rattle.model.specs.declared.GLFTConfig.{GLFTConfig}
-use Rattle.model.specs.declared.Check.{Check}
-use Rattle.model.specs.declared.Check.the-variants as Check
+use Rattle.elementary.specs.declared.Check.{Check}
+use Rattle.elementary.specs.declared.Check.the-variants as Check
 use Rattle.lots.proofs.Lots.{lots-are-single}
 use Rattle.lots.proofs.OneRun.{check-turned, lots-mirror, one-run, check-refusals}
 use Rattle.sheet.specs.Refusals.{smallLadderBuffer}

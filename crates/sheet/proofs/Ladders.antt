@@ -1,5 +1,6 @@
 -- The ladders of a sheet: each fits its buffer, and reading goes on. Assumes nothing.
 use mathlib.Core.Path.{_≡_, refl}
+use mathlib.Core.Logic.{inl, inr}
 use Prim.Native.Nat.{ℕ, _<_, _≤_}
 use native.Mathlib.Nat.{le-trans}
 use native.Mathlib.Omega.{arith}
@@ -9,11 +10,10 @@ use borrow.Author.Tests.{leb-true, le-leb}
 use lib.IntN.{ℤ}
 use lib.ListN.{length}
 use lib.Dec.{leb, lit<}
-use Rattle.amounts.specs.Refusals.{limits}
-use Rattle.model.specs.Model.{checkIf, checkCall}
+use Rattle.model.specs.Model.{checkCall}
 use Rattle.model.specs.declared.GLFTConfig.{GLFTConfig}
-use Rattle.model.specs.declared.Check.{Check}
-use Rattle.model.specs.declared.Check.the-variants as Check
+use Rattle.elementary.specs.declared.Check.{Check}
+use Rattle.elementary.specs.declared.Check.the-variants as Check
 use Rattle.sheet.specs.Refusals.{smallLadderBuffer}
 use Rattle.sheet.specs.Record.{configOf}
 use Rattle.sheet.specs.Lines.{refusalLine}
@@ -22,21 +22,14 @@ use Rattle.sheet.specs.Ladder.{ladder, ladderRoom, ladderIf, ladderFor, 
 use Rattle.sheet.specs.Promises.{LaddersFit, LaddersMove}
 use Rattle.sheet.specs.declared.record.Record.{Record}
 use Rattle.sheet.specs.declared.line.LineAnswer.the-variants as LineAnswer
+use Rattle.lots.proofs.OneRun.{check-refusals}
 use Rattle.sheet.proofs.Widths.{refusal-most}
 use Rattle.sheet.proofs.Rungs.{ladder-most}
 use Rattle.sheet.proofs.Due.{step-due, step-kept, told}
 
 -- ---- a record's text fits the buffer
-check-number : (l v m : Bool) (n : ℕ) → checkIf l v m ≡ Check.Refused n → n < 256
-unfolding checkIf
-check-number false v m n e = let z : n ≡ limits = cc in omega arith
-check-number true false m n e = let z : n ≡ 1 = cc in omega arith
-check-number true true false n e = let z : n ≡ 3 = cc in omega arith
-check-number true true true n e = let z : _≡_ {A = ℕ} 0 1 = cc in absurd (omega arith)
-
 number-most : (mid : ℤ) (c : GLFTConfig) (vol : ℤ) (t n : ℕ) → checkCall mid c vol t ≡ Check.Refused n → n < 256
-unfolding checkCall
-number-most mid c vol t n e = check-number _ _ _ n e
+number-most mid c vol t n e = elim (check-refusals mid c vol t n .0 e .0) [ inl k ↦ omega arith | inr k ↦ elim k [ inl i ↦ omega arith | inr i ↦ omega arith ] ]
 
 text-most : (x : Check) (need room : ℕ) (t : List ℕ) → ((n : ℕ) → x ≡ Check.Refused n → n < 256) → (x ≡ Check.Passes → length t ≤ need) → leastRoom ≤ room
     → (m : Bool) → (m ≡ true → need ≤ room) → length (ladderText (ladderIf x m t)) ≤ room

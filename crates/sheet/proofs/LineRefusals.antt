@@ -9,11 +9,12 @@ use borrow.Author.Tests.{leb-true, leb-false}
 use lib.IntN.{ℤ}
 use lib.ListN.{length, getD, drop}
 use lib.Dec.{leb}
+use Rattle.elementary.specs.Checks.{Refuses, here, later}
 use Rattle.amounts.specs.Refusals.{limits}
 use Rattle.amounts.specs.Amounts.{timeOk}
-use Rattle.model.specs.Model.{modelLimits}
+use Rattle.model.specs.Model.{modelLimits, exactChecks}
+use Rattle.model.specs.declared.GLFTConfig.{GLFTConfig}
 use Rattle.quote.specs.Quotes.{exactQuotes}
-use Rattle.model.specs.Refusing.{Checked, by-2, by-1, by-22, by-3, by-4, by-5}
 use Rattle.prices.specs.Refusing.{Priced, by-13, by-14}
 use Rattle.quote.specs.Promises.{ExactRefused}
 use Rattle.quote.specs.declared.ExactQuotes.{ExactQuotes}
@@ -48,13 +49,12 @@ refused-line (ExactQuotes.Refused n) k e = ap ExactQuotes.Refused (same-number n
 abbrev Apart : ℕ → Type 0
 Apart k = (k ≡ limits → ⊥) × (k ≡ cutShort → ⊥) × (k ≡ malformed → ⊥) × (k ≡ longSheet → ⊥)
 
-checked-apart : {l v d m h f : Bool} {k : ℕ} → l ≡ true → Checked l v d m h f k → Apart k
-checked-apart e by-2 = let z : _≡_ {A = ℕ} 0 1 = cc in absurd (omega arith)
-checked-apart e by-1 = omega arith
-checked-apart e by-22 = omega arith
-checked-apart e by-3 = omega arith
-checked-apart e by-4 = omega arith
-checked-apart e by-5 = omega arith
+checked-apart : (mid h : ℤ) (c : GLFTConfig) (vol : ℤ) (t : ℕ) {k : ℕ} → (timeOk t && modelLimits mid h c vol) ≡ true → Refuses (exactChecks mid h c vol t) k → Apart k
+checked-apart mid h c vol t e (here i) = let y : true ≡ false = sym e ∙ i in let z : _≡_ {A = ℕ} 0 1 = cc in absurd (omega arith)
+checked-apart mid h c vol t e (later _ (here i)) = omega arith
+checked-apart mid h c vol t e (later _ (later _ (here i))) = omega arith
+checked-apart mid h c vol t e (later _ (later _ (later _ (here i)))) = omega arith
+checked-apart mid h c vol t e (later _ (later _ (later _ (later _ (here i))))) = omega arith
 
 priced-apart : {mid least : ℤ} {b : _} {a : _} {k : ℕ} → Priced mid least b a k → Apart k
 priced-apart (by-13 h) = omega arith
@@ -72,7 +72,7 @@ quotes-apart r k h e =
   where
     go : (timeOk (r .«current_time») && modelLimits (r .«mid_price») (r .inventory) (configOf r) (r .volatility)) ≡ true
         → ExactRefused (r .«mid_price») (r .inventory) (configOf r) (r .volatility) (r .«current_time») k → Apart k
-    go l (inl x) = checked-apart l x
+    go l (inl x) = checked-apart (r .«mid_price») (r .inventory) (configOf r) (r .volatility) (r .«current_time») l x
     go l (inr (inl x)) = omega (arith, x .0)
     go l (inr (inr x)) = priced-apart (x .4)
 

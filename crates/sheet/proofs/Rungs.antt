@@ -15,7 +15,7 @@ use Rattle.model.specs.Model.{checkCall}
 use Rattle.lots.specs.Reckoning.{reckoning, holdingOf, quotesOfLots}
 use Rattle.quote.specs.Replies.{ReplyKept}
 use Rattle.model.specs.declared.GLFTConfig.{GLFTConfig}
-use Rattle.model.specs.declared.Check.the-variants as Check
+use Rattle.elementary.specs.declared.Check.the-variants as Check
 use Rattle.lots.specs.declared.Reckoning.{Reckoning}
 use Rattle.model.proofs.Passed.{bound-passed}
 use Rattle.quote.proofs.Replies.{replies-kept}

@@ -7,8 +7,8 @@ use lib.IntN.{ℤ, pos}
 use lib.Dec.{leb}
 use Rattle.amounts.specs.Amounts.{timeOk}
 use Rattle.quote.specs.Quotes.{exactBy}
-use Rattle.quote.specs.Drift.{modelLimitsBefore, exactAnswerBefore, deskPlanBefore, checkCallBefore}
-use Rattle.lots.specs.Drift.{reckoningBefore}
+use Rattle.quote.specs.Drift.{driftlessLimits as modelLimitsBefore, driftlessAnswer as exactAnswerBefore, driftlessPlan as deskPlanBefore, driftlessCheck as checkCallBefore}
+use Rattle.lots.specs.Drift.{driftlessReckoning as reckoningBefore}
 use Rattle.model.specs.declared.GLFTConfig.{GLFTConfig}
 use Rattle.sheet.specs.Record.{configOf, mostBound, recordOk}
 use Rattle.sheet.specs.Lines.{answerLine}

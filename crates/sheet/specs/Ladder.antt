@@ -15,8 +15,8 @@ use Rattle.lots.specs.Reckoning.{reckoning, holdingOf, quotesOfLots, Carries, O
 use Rattle.model.specs.declared.GLFTConfig.{GLFTConfig}
 use Rattle.prices.specs.declared.GlftQuotes.{GlftQuotes}
 use Rattle.quote.specs.declared.ExactQuotes.the-variants as Exact
-use Rattle.model.specs.declared.Check.{Check}
-use Rattle.model.specs.declared.Check.the-variants as Check
+use Rattle.elementary.specs.declared.Check.{Check}
+use Rattle.elementary.specs.declared.Check.the-variants as Check
 use Rattle.lots.specs.declared.Reckoning.{Reckoning}
 use Rattle.sheet.specs.Refusals.{smallLadderBuffer}
 use Rattle.sheet.specs.Record.{configOf, readAs}

@@ -4,7 +4,7 @@ ghost use mathlib.Core.Path.{_≡_};
 ghost use Prim.Native.Nat.{_≤_};
 ghost use lib.ListN.{length};
 ghost use Rattle.model.specs.Model.{checkCall};
-ghost use Rattle.model.specs.declared.Check.the-variants as Check;
+ghost use Rattle.elementary.specs.declared.Check.the-variants as Check;
 ghost use Rattle.sheet.specs.Lines.{over};
 ghost use Rattle.sheet.specs.Sheet.{leastRoom, hasRoom, answered, left};
 ghost use Rattle.sheet.specs.Ladder.{rungs, lotAt, ladder, ladderRoom, laddered, ladderedIn, recordLadder, ladderAt};

@@ -4,6 +4,7 @@ use mir.Syntax.{w64}
 use mir.Val.{toZ, ofZ}
 use mir.Facts.{toZ-ofZ}
 use borrow.Author.Needs.{needs}
+use Rattle.elementary.specs.Checks.{verdict, firstOf, firstFailing}
 use Rattle.distances.specs.Reading.{answerFrom}
 use Rattle.amounts.specs.Amounts.{amountOk, above0}
 use Rattle.lots.specs.Reckoning.{quotesFrom, holdingOf, lotsIf, quotesOfLots}
@@ -39,7 +40,7 @@ quotes-by-requires : tie.Need-quotes-by-requires
 quotes-by-requires c κs = search needs
 
 returns : tie.Need-returns
-unfolding quotesOfLots lotsIf quotesFrom quotesByAnswer answerFrom
+unfolding quotesOfLots firstFailing firstOf verdict lotsIf quotesFrom quotesByAnswer answerFrom
 returns c =
     let f = c .before .before .before .before in
     let p = f .before .before .before in
@@ -47,11 +48,11 @@ returns c =
     rw (lot-is p, f .before .before .if1 .taken, fits-is f, c .before .before .before .if2 .taken, c .quotes-by .ensures, c .before .before .answer-in .ensures, toZ-ofZ (s .fits .mid-price), kept (s .args .config .«min_spread») (p .before .struct-told .given .1 .1 .1 .1 .1 .1 .0 .1), toZ-ofZ (s .fits .q))
 
 returns-2 : tie.Need-returns-2
-unfolding quotesOfLots lotsIf
+unfolding quotesOfLots firstFailing firstOf verdict lotsIf
 returns-2 c = rw (lot-is (c .before .before .before .before), c .before .before .before .if1 .taken, fits-is (c .before), c .if2 .left)
 
 returns-3 : tie.Need-returns-3
-unfolding quotesOfLots lotsIf
+unfolding quotesOfLots firstFailing firstOf verdict lotsIf
 returns-3 c = rw (lot-is (c .before), c .if1 .left)
 
 pub quotes-in-spec : {M : Type 1} → statement M

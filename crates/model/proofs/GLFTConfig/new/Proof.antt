@@ -1,10 +1,12 @@
-use mathlib.Core.Path.{_≡_, sym, ap}
+use mathlib.Core.Path.{_≡_, sym, ap, _∙_}
 use lib.IntN.{ℤ}
 use mir.Syntax.{w64}
 use mir.Val.{toZ, ofZ}
 use mir.Facts.{toZ-ofZ}
 use borrow.Author.Needs.{needs}
-use Rattle.model.specs.Configuration.{configLimits, configOk, configIf, newConfig}
+use Rattle.elementary.specs.Checks.{firstFailing, checkOf}
+use Rattle.elementary.proofs.Checks.{check-passes, check-refused}
+use Rattle.model.specs.Configuration.{configChecks, configIf, newConfig}
 use Rattle.model.specs.declared.GLFTConfig.{GLFTConfig}
 use Rattle.model.specs.declared.ConfigAnswer.the-variants as ConfigAnswer
 use Rattle.model.proofs.GLFTConfig.new.Statement.{statement}
@@ -31,35 +33,42 @@ same c =
     let r = c .fits in
     rw (toZ-ofZ (r .risk-aversion), toZ-ofZ (r .order-intensity-k), toZ-ofZ (r .intensity-scale-a), toZ-ofZ (r .lot-size), toZ-ofZ (r .min-spread), toZ-ofZ (r .drift))
 
-limits-are : (c : tie.After-within-limits) → configLimits (given (λ z. z) (c .before)) ≡ c .within-limits .result
-limits-are c = rw (c .within-limits .ensures) (ap configLimits (sym (same (c .before))))
-
-valid-is : (c : tie.After-validate) → configOk (given (λ z. z) (c .before .before .before)) ≡ c .validate .result
-valid-is c = rw (c .validate .ensures) (ap configOk (sym (same (c .before .before .before))))
+checked : (c : tie.After-check-numbers) → c .check-numbers .result ≡ checkOf (firstFailing (configChecks (given (λ z. z) (c .before .before))))
+checked c = rw (c .check-numbers .ensures, c .before .within-limits .ensures) (ap (λ (x : GLFTConfig). checkOf (firstFailing (configChecks x))) (same (c .before .before)))
 
 within-limits-requires : tie.Need-within-limits-requires
 within-limits-requires c κs = search needs
 
-validate-requires : tie.Need-validate-requires
-validate-requires c κs = search needs
+check-numbers-requires : tie.Need-check-numbers-requires
+check-numbers-requires c κs = search needs
+
+enum-told : tie.Need-enum-told
+enum-told c = search needs
+
+enum-known-number : tie.Need-enum-known-number
+enum-known-number c = search needs
 
 returns : tie.Need-returns
 unfolding newConfig configIf
 returns c =
-    let v = c .before in
-    let w = v .before .before in
-    rw (limits-are w, v .before .if1 .taken, valid-is v, c .if2 .taken) (ap ConfigAnswer.Config (same (w .before)))
+    let k = c .before .before in
+    let s = k .before .before in
+    rw (check-passes (firstFailing (configChecks (given (λ z. z) s))) (sym (c .enum-told .given .1) ∙ checked k)) (ap ConfigAnswer.Config (same s))
 
 returns-2 : tie.Need-returns-2
 unfolding newConfig configIf
 returns-2 c =
-    let v = c .before in
-    rw (limits-are (v .before .before), v .before .if1 .taken, valid-is v, c .if2 .left)
-
-returns-3 : tie.Need-returns-3
-unfolding newConfig configIf
-returns-3 c = rw (limits-are (c .before), c .if1 .left)
+    let m = c .before in
+    let k = m .before .before in
+    rw (check-refused (firstFailing (configChecks (given (λ z. z) (k .before .before)))) _ (sym (m .number .given .1) ∙ checked k))
 
 pub new-spec : {M : Type 1} → statement M
 new-spec =
-    tie.close (tie.spec within-limits-requires validate-requires returns returns-2 returns-3)
+    tie.close
+    (tie.spec
+    within-limits-requires
+    check-numbers-requires
+    enum-told
+    enum-known-number
+    returns
+    returns-2)

@@ -1,32 +1,21 @@
 -- The checks of `exact_quotes`, and the count of the model's floats. Assumes nothing.
 use mathlib.Core.Path.{_≡_}
-use mathlib.Core.Bool.{true}
 use mir.Facts.{toZ-ofZ}
 use borrow.Author.Needs.{needs}
-use borrow.Author.Tests.{le-leb, lt-leb}
-use Rattle.amounts.specs.Amounts.{timeLimit, timeOk}
-use Rattle.model.specs.Model.{newModel}
-use Rattle.quote.specs.Horizon.{planFrom, deskPlanIf, deskPlan}
+use Rattle.model.specs.Model.{exactModel}
+use Rattle.quote.specs.Horizon.{planFrom, deskPlan}
 use Rattle.amounts.proofs.Limits.{kept}
 use Rattle.quote.proofs.horizon.first_plan.Statement.{statement}
 use Rattle.quote.proofs.horizon.first_plan.Tie as tie
 
 -- the answer that the code matches on is the definition's
-model-is : (c : tie.After-new) → let a = c .before .before .args in newModel (a .mid-price) (a .inventory) (a .config) (a .volatility) ≡ c .new .result
+model-is : (c : tie.After-exact) → let a = c .before .args in exactModel (a .mid-price) (a .inventory) (a .config) (a .volatility) (a .current-time) ≡ c .exact .result
 model-is c =
-    let r = c .before .before .fits in
-    rw (c .new .ensures, toZ-ofZ (r .mid-price), toZ-ofZ (r .inventory), toZ-ofZ (r .volatility))
+    let r = c .before .fits in
+    rw (c .exact .ensures, toZ-ofZ (r .mid-price), toZ-ofZ (r .inventory), toZ-ofZ (r .volatility))
 
-time-is : (c : tie.Else1) → timeOk (c .before .args .current-time) ≡ true
-unfolding timeOk
-time-is c = le-leb (c .before .args .current-time) timeLimit (c .if1 .left)
-
-returns : tie.Need-returns
-unfolding deskPlan deskPlanIf timeOk
-returns c = rw (lt-leb (c .before .args .current-time) timeLimit (c .if1 .taken))
-
-new-requires : tie.Need-new-requires
-new-requires c κs = search needs
+exact-requires : tie.Need-exact-requires
+exact-requires c κs = search needs
 
 enum-known-m : tie.Need-enum-known-m
 enum-known-m c = search needs
@@ -43,32 +32,31 @@ step-count-requires c κs = search needs
 enum-known-number : tie.Need-enum-known-number
 enum-known-number c = search needs
 
-returns-2 : tie.Need-returns-2
-unfolding deskPlan deskPlanIf planFrom
-returns-2 c =
+returns : tie.Need-returns
+unfolding deskPlan planFrom
+returns c =
     let i = c .before in
     let t = i .before in
     let m = t .before .before in
     let n = m .before .before in
-    rw (c .step-count .ensures, i .run-input .ensures, time-is (n .before), model-is n, m .m .given .1, t .seconds-to-terminal .ensures, kept (m .m .given .0 .1 .0) (t .before .known-told .given .1 .0 .1))
+    rw (c .step-count .ensures, i .run-input .ensures, model-is n, m .m .given .1, t .seconds-to-terminal .ensures, kept (m .m .given .0 .1 .0) (t .before .known-told .given .1 .0 .1))
 
-returns-3 : tie.Need-returns-3
-unfolding deskPlan deskPlanIf planFrom
-returns-3 c =
+returns-2 : tie.Need-returns-2
+unfolding deskPlan planFrom
+returns-2 c =
     let m = c .before in
     let n = m .before .before in
-    rw (time-is (n .before), model-is n, m .number .given .1)
+    rw (model-is n, m .number .given .1)
 
 pub first-plan-spec : {M : Type 1} → statement M
 first-plan-spec =
     tie.close
     (tie.spec
-    returns
-    new-requires
+    exact-requires
     enum-known-m
     seconds-to-terminal-requires
     run-input-requires
     step-count-requires
     enum-known-number
-    returns-2
-    returns-3)
+    returns
+    returns-2)

@@ -2,7 +2,7 @@ use mathlib.Core.Path.{_≡_, _∙_}
 use mir.Facts.{toZ-ofZ}
 use borrow.Author.Needs.{needs}
 use Rattle.model.specs.Model.{checkCall}
-use Rattle.model.specs.declared.Check.the-variants as Check
+use Rattle.elementary.specs.declared.Check.the-variants as Check
 use Rattle.sheet.proofs.Rungs.{bound-checked, ladder-refused, ladder-small, ladder-written}
 use Rattle.sheet.proofs.ladder.write_ladder.Statement.{statement}
 use Rattle.sheet.proofs.ladder.write_ladder.Tie as tie
