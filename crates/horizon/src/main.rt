@@ -3,7 +3,8 @@
 ghost use mathlib.Core.Path.{_≡_};
 ghost use Prim.Native.Nat.{_<_, _≤_};
 ghost use lib.ListN.{length};
-ghost use Rattle.sheet.specs.Sheet.{leastRoom, hasRoom, answered, left};
+ghost use Rattle.lines.specs.Lines.{leastRoom, hasRoom};
+ghost use Rattle.sheet.specs.Sheet.{answered, left};
 ghost use Rattle.sheet.specs.Horizon.{planAt};
 ghost use Rattle.sheet.specs.declared.line.LineAnswer.the-variants.{Written};
 use feed::Feed;

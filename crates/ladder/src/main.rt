@@ -3,8 +3,10 @@
 ghost use mathlib.Core.Path.{_≡_};
 ghost use Prim.Native.Nat.{_<_, _≤_};
 ghost use lib.ListN.{length};
-ghost use Rattle.sheet.specs.Sheet.{leastRoom, hasRoom, answered, left};
-ghost use Rattle.sheet.specs.Ladder.{ladderAt};
+ghost use Rattle.lines.specs.Lines.{hasRoom};
+ghost use Rattle.ladders.specs.Ladder.{mostLadder};
+ghost use Rattle.sheet.specs.Sheet.{answered, left};
+ghost use Rattle.sheet.specs.Ladders.{ladderAt};
 ghost use Rattle.sheet.specs.declared.line.LineAnswer.the-variants.{Written};
 use feed::Feed;
 use feed::first;
@@ -18,7 +20,7 @@ struct Text {
 
 // Puts what stands for the record at a place before the end of a sheet into a buffer that has the room.
 fn fill(s: &[u8], at: usize, out: &mut [u8]) -> Text
-    requires { ⌜ (leastRoom ≤ length (now out)) × (at < length (now s)) ⌝ }
+    requires { ⌜ (mostLadder ≤ length (now out)) × (at < length (now s)) ⌝ }
     ensures { λ r. ⌜ answered (hasRoom (now (out .entry))) (ladderAt (length (now (out .entry))) (now (s .entry)) at) ≡ Written (r .count) (r .next) ⌝ }
     ensures { λ _. ⌜ now (out .exit) ≡ left (hasRoom (now (out .entry))) (ladderAt (length (now (out .entry))) (now (s .entry)) at) (now (out .entry)) ⌝ }
 {

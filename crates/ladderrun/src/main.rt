@@ -18,9 +18,9 @@ use harness::put_number;
 use harness::put_refusal;
 use harness::read_block;
 use harness::word_at;
+use ladders::LadderAnswer;
 use quote::refusals::LIMITS;
-use sheet::LadderAnswer;
-use sheet::refusals::CUT_SHORT;
+use record::refusals::CUT_SHORT;
 
 // The bytes of a record.
 const RECORD: usize = 104;
@@ -36,7 +36,7 @@ const BEFORE: u8 = 0xA5;
 
 // The most bytes of an answer: a letter, a space, a count of five digits and the line's end; a ladder;
 // and a letter with the line's end.
-const ANSWER: usize = sheet::MOST_LADDER + 10;
+const ANSWER: usize = ladders::MOST_LADDER + 10;
 
 // The line of a refusal.
 fn put_refused(out: &mut [u8], start: usize, number: u8) -> usize {
@@ -107,7 +107,7 @@ fn length_at(s: &[u8], at: usize) -> usize
 fn put_call(out: &mut [u8], start: usize, s: &[u8], at: usize, buffer: &mut [u8]) -> usize {
     let mid = amount_at(s, at, 0);
     let volatility = amount_at(s, at, 16);
-    let a = sheet::write_ladder(
+    let a = ladders::write_ladder(
         mid,
         config_at(s, at),
         volatility,

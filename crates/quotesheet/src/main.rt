@@ -4,7 +4,7 @@ ghost use mathlib.Core.Path.{_≡_};
 ghost use Prim.Native.Nat.{_≤_};
 ghost use lib.ListN.{length};
 ghost use Rattle.sheet.specs.Fill.{filled, leftIn};
-ghost use Rattle.sheet.specs.Sheet.{leastRoom};
+ghost use Rattle.lines.specs.Lines.{leastRoom};
 ghost use Rattle.sheet.specs.declared.fill.FillAnswer.the-variants.{Filled};
 use feed::Feed;
 use feed::first;

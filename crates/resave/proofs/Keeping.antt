@@ -9,18 +9,18 @@ use borrow.Rule.Slice.PartMut.{midOf, putMid}
 use lib.ListN.{length, take, drop, drop-of-length-le}
 use lib.Seq.{take-at, take-append-add}
 use lib.Dec.{lit<}
-use Rattle.sheet.specs.Refusals.{cutShort}
-use Rattle.sheet.specs.Record.{readRecord}
-use Rattle.sheet.specs.Lines.{over}
+use Rattle.record.specs.Refusals.{cutShort}
+use Rattle.record.specs.Record.{readRecord}
+use Rattle.buffers.specs.Over.{over}
 use Rattle.sheet.specs.Sheet.{mostBytes}
-use Rattle.sheet.specs.Save.{recordBytes, recordRoom}
-use Rattle.sheet.specs.Promises.{Bytes}
-use Rattle.sheet.specs.Refusing.{allTop, Stopped, by-6, at-once}
-use Rattle.sheet.specs.declared.record.RecordAnswer.{RecordAnswer}
-use Rattle.sheet.specs.declared.record.RecordAnswer.the-variants as RecordAnswer
-use Rattle.sheet.proofs.Texts.{Wrote, wrote-none, wrote-length, wrote-part}
-use Rattle.sheet.proofs.Refusing.{record-refusals}
-use Rattle.sheet.proofs.Saved.{records-move, taken-moves, taken-bytes}
+use Rattle.record.specs.Save.{recordBytes, recordRoom}
+use Rattle.record.specs.Promises.{Bytes}
+use Rattle.record.specs.Refusing.{allTop, Stopped, by-6, at-once}
+use Rattle.record.specs.declared.record.RecordAnswer.{RecordAnswer}
+use Rattle.record.specs.declared.record.RecordAnswer.the-variants as RecordAnswer
+use Rattle.buffers.proofs.Texts.{Wrote, wrote-none, wrote-length, wrote-part}
+use Rattle.record.proofs.Refusing.{record-refusals}
+use Rattle.record.proofs.Saved.{records-move, taken-moves, taken-bytes}
 use Rattle.resave.specs.Resave.{piece, onward, keptFrom, keptIf, kept, Taken, here, further, KeptUpTo}
 
 -- ---- from the end on nothing is kept

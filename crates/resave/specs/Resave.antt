@@ -5,13 +5,13 @@ use mathlib.Core.Bool.{Bool, true, false}
 use mathlib.Core.List.{List, [], _++_}
 use lib.ListN.{length, take}
 use lib.Dec.{leb}
-use Rattle.sheet.specs.Record.{readRecord}
+use Rattle.record.specs.Record.{readRecord}
 use Rattle.sheet.specs.Sheet.{mostBytes}
-use Rattle.sheet.specs.Save.{recordBytes}
-use Rattle.sheet.specs.Promises.{Bytes}
-use Rattle.sheet.specs.declared.record.Record.{Record}
-use Rattle.sheet.specs.declared.record.RecordAnswer.{RecordAnswer}
-use Rattle.sheet.specs.declared.record.RecordAnswer.the-variants as RecordAnswer
+use Rattle.record.specs.Save.{recordBytes}
+use Rattle.record.specs.Promises.{Bytes}
+use Rattle.record.specs.declared.record.Record.{Record}
+use Rattle.record.specs.declared.record.RecordAnswer.{RecordAnswer}
+use Rattle.record.specs.declared.record.RecordAnswer.the-variants as RecordAnswer
 
 -- ---- what is kept of what the reader answers, and the place where it goes on, in a sheet of n bytes
 -- a record that is refused by 2 is left out

@@ -4,10 +4,10 @@
 ghost use mathlib.Core.Path.{_≡_};
 ghost use Prim.Native.Nat.{_+_, _≤_};
 ghost use lib.ListN.{length, take};
-ghost use Rattle.sheet.specs.Record.{readRecord};
-ghost use Rattle.sheet.specs.Lines.{over};
+ghost use Rattle.record.specs.Record.{readRecord};
+ghost use Rattle.buffers.specs.Over.{over};
 ghost use Rattle.sheet.specs.Sheet.{mostBytes};
-ghost use Rattle.sheet.specs.Save.{recordRoom};
+ghost use Rattle.record.specs.Save.{recordRoom};
 ghost use Rattle.resave.specs.Resave.{piece, onward, kept};
 use feed::Feed;
 use feed::first;

@@ -18,8 +18,8 @@ use harness::put_refusal;
 use harness::read_block;
 use harness::word_at;
 use quote::refusals::LIMITS;
-use sheet::Record;
-use sheet::SaveAnswer;
+use record::Record;
+use record::SaveAnswer;
 
 // The bytes of a record.
 const RECORD: usize = 96;
@@ -107,7 +107,7 @@ fn length_at(s: &[u8], at: usize) -> usize
 
 // What saving a record answers, and the buffer after it.
 fn put_call(out: &mut [u8], start: usize, r: Record, buffer: &mut [u8]) -> usize {
-    let a = sheet::save_record(r, buffer);
+    let a = record::save_record(r, buffer);
     let at = put_answer(out, start, a);
     put_bytes(out, at, buffer)
 }

@@ -9,12 +9,13 @@ use lib.ListN.{length}
 use lib.Dec.{leb}
 use borrow.Author.Tests.{le-leb, lt-leb}
 use borrow.Rule.Slice.PartMut.{midOf, putMid, mid-len, put-same}
-use Rattle.sheet.specs.Lines.{over}
-use Rattle.sheet.specs.Sheet.{leastRoom, Step, line, end, lineAt, hasRoom, answered, left}
+use Rattle.buffers.specs.Over.{over}
+use Rattle.lines.specs.Lines.{leastRoom, hasRoom}
+use Rattle.sheet.specs.Sheet.{Step, line, end, lineAt, answered, left, refuse}
 use Rattle.sheet.specs.Fill.{Fill, upTo, after, fillBy, fill, filledIf, leftIf, filled, leftIn}
 use Rattle.sheet.specs.declared.line.LineAnswer.the-variants as LineAnswer
 use Rattle.sheet.specs.declared.fill.FillAnswer.the-variants as FillAnswer
-use Rattle.sheet.proofs.Texts.{Wrote, wrote-none, wrote-length, wrote-part}
+use Rattle.buffers.proofs.Texts.{Wrote, wrote-none, wrote-length, wrote-part}
 use Rattle.sheet.proofs.Steps.{line-end}
 use Rattle.sheet.proofs.Whole.{before-end, lines-fit, lines-move}
 
@@ -37,6 +38,7 @@ enough (suc j) (suc k) s at room h g = go (leb leastRoom room) (lineAt s at) ref
         → fillBy (suc j) b x s at room ≡ fillBy (suc k) b x s at room
     go false x e f = refl
     go true end e f = refl
+    go true (refuse n) e f = refl
     go true (line t next) e f = ap (after t) (f next (room - length t) (lines-move s at t next e .0))
 
 -- ---- a fill by its first step
@@ -87,6 +89,7 @@ unfolding answered left
 line-in false x k next part back e o = let z : _≡_ {A = ℕ} 0 1 = cc in absurd (omega arith)
 line-in true (line t m) k next part back e o = let z : m ≡ next = cc in (t, ap (line t) z, cc, o)
 line-in true end k next part back e o = let z : _≡_ {A = ℕ} 0 1 = cc in absurd (omega arith)
+line-in true (refuse n) k next part back e o = let z : _≡_ {A = ℕ} 0 1 = cc in absurd (omega arith)
 
 module _ (s : List ℕ) (at : ℕ) (l out : List ℕ) (n next : ℕ) (f : Filling s at l out n next) where
   pub filling-length : length out ≡ length l

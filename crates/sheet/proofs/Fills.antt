@@ -9,8 +9,9 @@ use lib.ListN.{length, take, drop, length-append}
 use lib.Seq.{take-at}
 use lib.Dec.{ltb, leb}
 use borrow.Author.Tests.{le-leb, leb-true, ltb-true, ltb-false}
-use Rattle.sheet.specs.Lines.{over}
-use Rattle.sheet.specs.Sheet.{leastRoom, Step, line, end, lineAt, hasRoom}
+use Rattle.buffers.specs.Over.{over}
+use Rattle.lines.specs.Lines.{leastRoom, hasRoom}
+use Rattle.sheet.specs.Sheet.{Step, line, end, lineAt, refuse}
 use Rattle.sheet.specs.Fill.{Fill, upTo, after, fillBy, fill, filledIf, leftIf, filled, leftIn}
 use Rattle.sheet.specs.Promises.{Followed, stepped, ended, FillsFit, FillsMove, FillsEnd, Fills, finished, onward, FillsMakeTheWhole, FillsFinish}
 use Rattle.sheet.specs.declared.fill.FillAnswer.the-variants as FillAnswer
@@ -45,6 +46,7 @@ leads-by (suc k) s at room = go (leb leastRoom room) (leb-true leastRoom room) (
         → ((next rest : ℕ) → Leads s next rest (fillBy k (leb leastRoom rest) (lineAt s next) s next rest)) → Leads s at room (fillBy (suc k) b x s at room)
     go false r x e f = leads-none s at room
     go true r end e f = leads-none s at room
+    go true r (refuse n) e f = leads-none s at room
     go true r (line t next) e f = leads-after s at room t next e (omega (arith, r refl, lines-fit s at t next e)) _ (f next (room - length t))
 
 leads : (s : List ℕ) (at room : ℕ) → Leads s at room (fill s at room)

@@ -20,19 +20,21 @@ use Rattle.quote.specs.Promises.{ExactRefused}
 use Rattle.quote.specs.declared.ExactQuotes.{ExactQuotes}
 use Rattle.quote.specs.declared.ExactQuotes.the-variants as ExactQuotes
 use Rattle.quote.proofs.Refusing.{exact-refusals}
-use Rattle.sheet.specs.Refusals.{cutShort, malformed, longSheet}
-use Rattle.sheet.specs.Record.{Read, taken, refused, numbers, fields, recordOf, configOf, mostBound, recordOk, recordIf, recordFrom, readRecord}
-use Rattle.sheet.specs.Lines.{joined, quotesLine, capLine, refusalLine, answerLine}
-use Rattle.sheet.specs.Sheet.{mostBytes, recordLine, line, stepOf, lineAt}
-use Rattle.sheet.specs.Refusing.{Stopped, Beyond, LongLine, Readable, StoppedLine, SkippedLine, LineRefusals}
-use Rattle.sheet.specs.declared.record.Record.{Record}
-use Rattle.sheet.specs.declared.record.RecordAnswer.{RecordAnswer}
-use Rattle.sheet.specs.declared.record.RecordAnswer.the-variants as RecordAnswer
-use Rattle.sheet.proofs.Digits.{back, back-count}
+use Rattle.record.specs.Refusals.{cutShort, malformed}
+use Rattle.sheet.specs.Refusals.{longSheet}
+use Rattle.record.specs.Record.{Read, taken, refused, numbers, fields, recordOf, configOf, mostBound, recordOk, recordIf, recordFrom, readRecord}
+use Rattle.lines.specs.Lines.{joined, quotesLine, capLine, refusalLine, answerLine}
+use Rattle.sheet.specs.Sheet.{mostBytes, recordLine, line, stepOf, lineAt, lineText, stepBy}
+use Rattle.record.specs.Refusing.{Stopped, Beyond}
+use Rattle.sheet.specs.Refusing.{LongLine, Readable, StoppedLine, SkippedLine, LineRefusals}
+use Rattle.record.specs.declared.record.Record.{Record}
+use Rattle.record.specs.declared.record.RecordAnswer.{RecordAnswer}
+use Rattle.record.specs.declared.record.RecordAnswer.the-variants as RecordAnswer
+use Rattle.lines.proofs.Digits.{back, back-count}
 use Rattle.sheet.proofs.Steps.{line-long, line-read}
-use Rattle.sheet.proofs.Numbers.{stopped-number}
+use Rattle.record.proofs.Numbers.{stopped-number}
 use Rattle.sheet.proofs.Whole.{before-end}
-use Rattle.sheet.proofs.Refusing.{record-refusals, record-skips}
+use Rattle.record.proofs.Refusing.{record-refusals, record-skips}
 
 -- ---- a line names its number, and only a refusal's line is `R`
 same-number : (m n : ℕ) → refusalLine m ≡ refusalLine n → m ≡ n
@@ -94,8 +96,8 @@ kept n (taken v q) r next e = go (recordOk (recordOf v)) refl e
     go false h d = let z : _≡_ {A = ℕ} 0 1 = cc in absurd (omega arith)
 
 module _ (s : List ℕ) (at k next : ℕ) where
-  read-said : Readable s at → (a : RecordAnswer) → readRecord s at ≡ a → stepOf recordLine (length s) a ≡ line (refusalLine k) next → Said s at k next
-  unfolding stepOf readRecord
+  read-said : Readable s at → (a : RecordAnswer) → readRecord s at ≡ a → stepOf lineText (length s) a ≡ line (refusalLine k) next → Said s at k next
+  unfolding stepOf stepBy readRecord
   read-said h (RecordAnswer.Record r m) d e =
       let t : recordLine r ≡ refusalLine k = cc in
       quoted (quotes-apart r k (kept (length s) (numbers fields (drop at s)) r m d) t)
@@ -132,7 +134,7 @@ long-line s at next = (λ e. go (before-end s at _ next e) (said s at longSheet 
 stopped-line : (k : ℕ) → (k ≡ cutShort) ⊎ (k ≡ malformed) → StoppedLine k
 unfolding stepOf
 stopped-line k w s at next =
-    (λ e. go (said s at k next e), λ h. line-read s at (h .0 .0) (h .0 .1) ∙ ap (stepOf recordLine (length s)) (record-refusals s at k .1 (h .1)) ∙ ap (line (refusalLine k)) (sym (h .2)))
+    (λ e. go (said s at k next e), λ h. line-read s at (h .0 .0) (h .0 .1) ∙ ap (stepOf lineText (length s)) (record-refusals s at k .1 (h .1)) ∙ ap (line (refusalLine k)) (sym (h .2)))
   where
     go : Said s at k next → Readable s at × Stopped (drop at s) k × (next ≡ length s)
     go (long e m n) = absurd (⊎-elim (λ z. omega arith) (λ z. omega arith) w)
@@ -143,7 +145,7 @@ stopped-line k w s at next =
 skipped-line : SkippedLine
 unfolding stepOf
 skipped-line s at next =
-    (λ e. go (said s at limits next e), λ h. line-read s at (h .0 .0) (h .0 .1) ∙ ap (stepOf recordLine (length s)) (record-skips s at limits next .1 (refl, h .1)))
+    (λ e. go (said s at limits next e), λ h. line-read s at (h .0 .0) (h .0 .1) ∙ ap (stepOf lineText (length s)) (record-skips s at limits next .1 (refl, h .1)))
   where
     go : Said s at limits next → Readable s at × Beyond s at next
     go (long e m n) = absurd (omega arith)

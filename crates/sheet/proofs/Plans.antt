@@ -17,18 +17,17 @@ use Rattle.quote.specs.declared.ExactQuotes.the-variants as ExactQuotes
 use Rattle.quote.specs.Quotes.{exactQuotes}
 use Rattle.quote.proofs.Replies.{replies-kept}
 use Rattle.quote.proofs.DeskPlan.{desk-plan-is-first}
-use Rattle.sheet.specs.Record.{configOf, readAs, readRecord}
-use Rattle.sheet.specs.Lines.{answerLine}
-use Rattle.sheet.specs.Sheet.{mostBytes, leastRoom, recordLine, line, stepOf, stepAt, lineAt, answered, hasRoom}
-use Rattle.sheet.specs.Horizon.{planLine, planOf, recordPlan, planAt, HorizonLines}
-use Rattle.sheet.specs.Inner.{PlanKept}
-use Rattle.sheet.specs.declared.record.Record.{Record}
-use Rattle.sheet.specs.declared.record.RecordAnswer.{RecordAnswer}
-use Rattle.sheet.specs.declared.record.RecordAnswer.the-variants as RecordAnswer
+use Rattle.record.specs.Record.{configOf, readAs, readRecord}
+use Rattle.lines.specs.Lines.{answerLine, leastRoom, hasRoom, planLine, text}
+use Rattle.sheet.specs.Sheet.{mostBytes, recordLine, line, stepOf, stepAt, lineAt, answered, lineText, refuse, stepBy}
+use Rattle.sheet.specs.Horizon.{planOf, recordPlan, planAt, HorizonLines, planText}
+use Rattle.record.specs.declared.record.Record.{Record}
+use Rattle.record.specs.declared.record.RecordAnswer.{RecordAnswer}
+use Rattle.record.specs.declared.record.RecordAnswer.the-variants as RecordAnswer
 use Rattle.sheet.specs.declared.line.LineAnswer.the-variants as LineAnswer
-use Rattle.sheet.proofs.Widths.{counted-most, refusal-most, cap-most}
-use Rattle.sheet.proofs.Steps.{step-long, step-read, line-long, line-read}
-use Rattle.sheet.proofs.Flat.{as-it-is}
+use Rattle.lines.proofs.Widths.{counted-most, refusal-most, cap-most}
+use Rattle.sheet.proofs.Steps.{step-long, step-read, step-written, line-long, line-read}
+use Rattle.record.proofs.Flat.{as-it-is}
 use Rattle.sheet.proofs.Due.{step-due, step-before, step-kept, told}
 use Rattle.sheet.proofs.Refusing.{step-refusals}
 
@@ -55,22 +54,13 @@ module _ (r : Record) where
   unfolding recordPlan recordLine planLine answerLine
   refused-line n e = rw (e, refusing n e)
 
-  -- ---- what a plan keeps
-  kept-by : (p : FirstPlan) → planOf r ≡ p → PlanKept p
-  unfolding PlanKept ReplyKept
-  kept-by (FirstPlan.Steps n) e = tt
-  kept-by (FirstPlan.OverCap need b) e = reply-kept _ (reported need b e) .0
-  kept-by (FirstPlan.Refused n) e = tt
-
+  -- ---- a plan's line fits
   most-by : (p : FirstPlan) → planOf r ≡ p → length (planLine p) ≤ leastRoom
   unfolding planLine ReplyKept
   most-by (FirstPlan.Steps zero) e = counted-most 78 0 (omega arith)
   most-by (FirstPlan.Steps (suc s)) e = counted-most 78 (suc s) (omega (arith, desk-plan-is-first .steps _ _ _ _ _ s e .3 .within))
   most-by (FirstPlan.OverCap need b) e = cap-most need b (omega (arith, reply-kept _ (reported need b e) .1))
   most-by (FirstPlan.Refused n) e = refusal-most n (omega (arith, reply-kept _ (refusing n e)))
-
-pub plans-kept : (r : Record) → PlanKept (planOf r)
-plans-kept r = kept-by r (planOf r) refl
 
 plan-most : (r : Record) → length (recordPlan r) ≤ leastRoom
 unfolding recordPlan
@@ -81,19 +71,27 @@ module _ (s : List ℕ) (at : ℕ) where
   abbrev Fits : List ℕ → Type 0
   Fits t = length t ≤ leastRoom
 
-  plan-is : stepAt recordPlan s at (readAs false s at) ≡ planAt s at
+  plan-is : stepAt planText s at (readAs false s at) ≡ planAt s at
   unfolding planAt
-  plan-is = ap (stepAt recordPlan s at) (as-it-is s at)
+  plan-is = ap (stepAt planText s at) (as-it-is s at)
+
+  fits : (r : Record) (t : List ℕ) → planText r ≡ text t → Fits t
+  fits r t e = let z : recordPlan r ≡ t = cc in subst Fits z (plan-most r)
+
+  plan-written : (k : ℕ) → planAt s at ≡ refuse k → ⊥
+  unfolding planAt
+  plan-written k e = step-written planText (λ r. (recordPlan r, refl)) s at (readRecord s at) k e
 
   -- before the end there is one
   plan-there : at < length s → (t : List ℕ) × (next : ℕ) × (planAt s at ≡ line t next)
-  plan-there h = let d = step-due recordPlan false Fits plan-most refusal-most s at h in (d .0, d .1, sym plan-is ∙ d .2)
+  unfolding planAt
+  plan-there h = step-due planText s at (readRecord s at) plan-written h
 
   plan-kept : (t : List ℕ) (next : ℕ) → planAt s at ≡ line t next → Fits t × (at < next) × (next ≤ length s)
-  plan-kept t next e = step-kept recordPlan false Fits plan-most refusal-most s at t next (plan-is ∙ e)
+  plan-kept t next e = step-kept planText false Fits fits refusal-most s at t next (plan-is ∙ e)
 
   plan-before : (t : List ℕ) (next : ℕ) → planAt s at ≡ line t next → at < length s
-  plan-before t next e = step-before recordPlan false Fits plan-most refusal-most s at t next (plan-is ∙ e)
+  plan-before t next e = step-before planText false Fits fits refusal-most s at t next (plan-is ∙ e)
 
   -- the line that `next_line` writes there, or that of a plan with steps
   abbrev Alike : List ℕ → ℕ → Type 0
@@ -104,9 +102,9 @@ module _ (s : List ℕ) (at : ℕ) where
   alike-record r next (FirstPlan.OverCap need b) e d l = inl (rw (over-line r need b e) l)
   alike-record r next (FirstPlan.Refused n) e d l = inl (rw (refused-line r n e) l)
 
-  alike-read : (a : RecordAnswer) → readRecord s at ≡ a → lineAt s at ≡ stepOf recordLine (length s) a
-      → (t : List ℕ) (next : ℕ) → stepOf recordPlan (length s) a ≡ line t next → Alike t next
-  unfolding stepOf
+  alike-read : (a : RecordAnswer) → readRecord s at ≡ a → lineAt s at ≡ stepOf lineText (length s) a
+      → (t : List ℕ) (next : ℕ) → stepOf planText (length s) a ≡ line t next → Alike t next
+  unfolding stepOf stepBy
   alike-read (RecordAnswer.Record r m) d l t next e =
       let x : recordPlan r ≡ t = cc in
       let y : m ≡ next = cc in
@@ -122,8 +120,8 @@ module _ (s : List ℕ) (at : ℕ) where
       h = plan-before t next e
 
       go : (m : Bool) → (m ≡ true → length s ≤ mostBytes) → (m ≡ false → mostBytes < length s) → Alike t next
-      go true y n = alike-read (readRecord s at) refl (line-read s at h (y refl)) t next (sym (step-read recordPlan s at (readRecord s at) h (y refl)) ∙ e)
-      go false y n = inl (line-long s at h (n refl) ∙ sym (step-long recordPlan s at (readRecord s at) h (n refl)) ∙ e)
+      go true y n = alike-read (readRecord s at) refl (line-read s at h (y refl)) t next (sym (step-read planText s at (readRecord s at) h (y refl)) ∙ e)
+      go false y n = inl (line-long s at h (n refl) ∙ sym (step-long planText s at (readRecord s at) h (n refl)) ∙ e)
 
 pub horizon-lines : HorizonLines
 horizon-lines = record {
@@ -132,7 +130,7 @@ horizon-lines = record {
   alike = alike-at;
   fits = λ s at t next e. plan-kept s at t next e .0;
   moves = λ s at t next e. let k = plan-kept s at t next e in (k .1, k .2);
-  small = λ s at b k. step-refusals (planAt s at) b k;
+  small = λ s at b k. step-refusals (planAt s at) b k (plan-written s at);
 }
 
 -- ---- what `next_plan` answers: before the end, with the room, a line that fits and a place further on

@@ -1,88 +1,48 @@
 -- Each refusal of this layer is the reply in just the situation that the paper names. Assumes nothing.
-use mathlib.Core.Path.{_≡_, refl, ap}
+use mathlib.Core.Path.{_≡_, refl}
 use mathlib.Core.Logic.{_↔_}
-use Prim.Native.Nat.{ℕ, _-_, _<_}
+use Prim.Native.Nat.{ℕ, _<_}
 use native.Mathlib.Omega.{arith}
 use mathlib.Core.Bool.{Bool, true, false}
 use mathlib.Core.List.{List}
 use borrow.Author.Tests.{leb-false, lt-leb}
-use lib.ListN.{length, drop}
-use Rattle.amounts.specs.Refusals.{limits}
-use Rattle.sheet.specs.Refusals.{smallBuffer}
-use Rattle.sheet.specs.Record.{Read, taken, refused, numbers, fields, recordOf, recordOk, recordIf, recordFrom, readRecord}
-use Rattle.sheet.specs.Sheet.{leastRoom, Step, line, end, lineAt, hasRoom, answered}
-use Rattle.sheet.specs.Ladder.{ladderAt}
+use lib.ListN.{length}
+use Rattle.lines.specs.Refusals.{smallBuffer}
+use Rattle.lines.specs.Lines.{leastRoom, hasRoom}
+use Rattle.sheet.proofs.Steps.{line-written}
+use Rattle.sheet.specs.Sheet.{Step, line, end, lineAt, answered, refuse}
 use Rattle.sheet.specs.Fill.{Fill, upTo, fill, filledIf}
-use Rattle.sheet.specs.Refusing.{BufferRefusals, RecordRefusals, RecordSkips}
-use Rattle.sheet.specs.declared.record.Record.{Record}
-use Rattle.sheet.specs.declared.record.RecordAnswer.{RecordAnswer}
-use Rattle.sheet.specs.declared.record.RecordAnswer.the-variants as RecordAnswer
+use Rattle.sheet.specs.Refusing.{BufferRefusals}
 use Rattle.sheet.specs.declared.line.LineAnswer.the-variants as LineAnswer
 use Rattle.sheet.specs.declared.fill.FillAnswer.the-variants as FillAnswer
-use Rattle.sheet.proofs.Numbers.{numbers-stopped}
 
 -- ---- 8
-line-refused : (m : Bool) (x : Step) (k : ℕ) → answered m x ≡ LineAnswer.Refused k → (k ≡ smallBuffer) × (m ≡ false)
+line-refused : (m : Bool) (x : Step) (k : ℕ) → ((n : ℕ) → x ≡ refuse n → ⊥) → answered m x ≡ LineAnswer.Refused k → (k ≡ smallBuffer) × (m ≡ false)
 unfolding answered
-line-refused false x k e = (cc, refl)
-line-refused true (line t next) k e = let z : _≡_ {A = ℕ} 0 1 = cc in absurd (omega arith)
-line-refused true end k e = let z : _≡_ {A = ℕ} 0 1 = cc in absurd (omega arith)
+line-refused false x k g e = (cc, refl)
+line-refused true (line t next) k g e = let z : _≡_ {A = ℕ} 0 1 = cc in absurd (omega arith)
+line-refused true end k g e = let z : _≡_ {A = ℕ} 0 1 = cc in absurd (omega arith)
+line-refused true (refuse n) k g e = absurd (g n refl)
 
 fill-refused : (m : Bool) (f : Fill) (k : ℕ) → filledIf m f ≡ FillAnswer.Refused k → (k ≡ smallBuffer) × (m ≡ false)
 unfolding filledIf
 fill-refused false f k e = (cc, refl)
 fill-refused true (upTo t next) k e = let z : _≡_ {A = ℕ} 0 1 = cc in absurd (omega arith)
 
--- whatever stands at the place
-pub step-refusals : (x : Step) (b : List ℕ) (k : ℕ) → (answered (hasRoom b) x ≡ LineAnswer.Refused k) ↔ ((k ≡ smallBuffer) × (length b < leastRoom))
+-- whatever stands at the place, where no step is refused
+pub step-refusals : (x : Step) (b : List ℕ) (k : ℕ) → ((n : ℕ) → x ≡ refuse n → ⊥) → (answered (hasRoom b) x ≡ LineAnswer.Refused k) ↔ ((k ≡ smallBuffer) × (length b < leastRoom))
 unfolding answered
-step-refusals x b k = (
-  λ e. let h = line-refused (hasRoom b) x k e in (h .0, leb-false leastRoom (length b) (h .1)),
+step-refusals x b k g = (
+  λ e. let h = line-refused (hasRoom b) x k g e in (h .0, leb-false leastRoom (length b) (h .1)),
   λ h. rw (lt-leb leastRoom (length b) (h .1), h .0),
 )
 
 pub buffer-refusals : BufferRefusals
 unfolding filledIf
 buffer-refusals s at b k = (
-  step-refusals (lineAt s at) b k,
+  step-refusals (lineAt s at) b k (line-written s at),
   (
     λ e. let h = fill-refused (hasRoom b) (fill s at (length b)) k e in (h .0, leb-false leastRoom (length b) (h .1)),
     λ h. rw (lt-leb leastRoom (length b) (h .1), h .0),
   ),
-  step-refusals (ladderAt (length b) s at) b k,
 )
-
--- ---- 6, 7 and 2, of a record
-if-not-refused : (t : Bool) (r : Record) (next k : ℕ) → recordIf t r next ≡ RecordAnswer.Refused k → ⊥
-unfolding recordIf
-if-not-refused true r next k e = let z : _≡_ {A = ℕ} 0 1 = cc in omega arith
-if-not-refused false r next k e = let z : _≡_ {A = ℕ} 0 1 = cc in omega arith
-
-from-refused : (n : ℕ) (x : Read (List ℕ)) (k : ℕ) → recordFrom n x ≡ RecordAnswer.Refused k → x ≡ refused k
-unfolding recordFrom
-from-refused n (taken v r) k e = absurd (if-not-refused (recordOk (recordOf v)) (recordOf v) (n - length r) k e)
-from-refused n (refused j) k e = let z : j ≡ k = cc in ap refused z
-
-pub record-refusals : RecordRefusals
-unfolding readRecord recordFrom
-record-refusals s at k =
-    let x = numbers fields (drop at s) in
-    let p = numbers-stopped (drop at s) k in
-    (λ e. p .0 (from-refused (length s) x k e), λ h. ap (recordFrom (length s)) (p .1 h))
-
-if-skipped : (t : Bool) (r : Record) (m k next : ℕ) → recordIf t r m ≡ RecordAnswer.Skipped k next → (k ≡ limits) × (t ≡ false) × (next ≡ m)
-unfolding recordIf
-if-skipped true r m k next e = let z : _≡_ {A = ℕ} 0 1 = cc in absurd (omega arith)
-if-skipped false r m k next e = (cc, refl, cc)
-
-from-skipped : (n : ℕ) (x : Read (List ℕ)) (k next : ℕ) → recordFrom n x ≡ RecordAnswer.Skipped k next
-    → (k ≡ limits) × ((v : List ℕ) × (r : List ℕ) × (x ≡ taken v r) × (recordOk (recordOf v) ≡ false) × (next ≡ n - length r))
-unfolding recordFrom
-from-skipped n (taken v r) k next e =
-    let h = if-skipped (recordOk (recordOf v)) (recordOf v) (n - length r) k next e in
-    (h .0, (v, r, refl, h .1, h .2))
-from-skipped n (refused j) k next e = let z : _≡_ {A = ℕ} 0 1 = cc in absurd (omega arith)
-
-pub record-skips : RecordSkips
-unfolding readRecord recordFrom recordIf
-record-skips s at k next = (from-skipped (length s) (numbers fields (drop at s)) k next, λ h. rw (h .1 .2, h .1 .3, h .0, h .1 .4))

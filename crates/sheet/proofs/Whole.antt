@@ -1,88 +1,70 @@
 -- The promises of the sheet: numbers and holdings as stored, lines that fit and move, and the steps that make the whole. Assumes nothing.
-use mathlib.Core.Path.{_≡_, refl, sym, ap, _∙_, subst}
-use Prim.Native.Nat.{ℕ, zero, suc, _+_, _-_, _*_, _/_, _%_, _<_, _≤_}
+use mathlib.Core.Path.{_≡_, refl, ap, _∙_, subst}
+use Prim.Native.Nat.{ℕ, zero, suc, _+_, _-_, _<_, _≤_}
 use native.Mathlib.Nat.{le-refl}
 use native.Mathlib.Omega.{arith}
 use mathlib.Core.Bool.{Bool, true, false}
 use mathlib.Core.List.{List, [], _∷_, append-nil}
-use borrow.Author.Tests.{ltb-true, ltb-false, leb-true, leb-false, eq-eqb, ne-eqb, eqb-true, eqb-false}
-use lib.IntN.{ℤ, pos, negsuc}
+use borrow.Author.Tests.{ltb-true, ltb-false, leb-true, leb-false}
 use lib.ListN.{length, drop, length-drop, drop-of-length-le}
-use lib.Dec.{ltb, leb, eqb}
+use lib.Dec.{ltb, leb}
 use Rattle.quote.proofs.Replies.{replies-kept}
 use Rattle.amounts.specs.Refusals.{limits}
 use Rattle.sheet.specs.Refusals.{longSheet}
-use Rattle.sheet.specs.Record.{Read, taken, refused, _then_, group, groups, number, numbers, fields, stored, holdingBy, holding, recordOf, configOf, recordOk, recordIf, recordFrom, readRecord, readAs}
-use Rattle.sheet.specs.Lines.{refusalLine}
-use Rattle.sheet.specs.Sheet.{mostBytes, leastRoom, recordLine, line, stepOf, stepAt, lineAt, answered, first, headIf, headBy, headOf, lines, printedIf, printed}
-use Rattle.sheet.specs.Promises.{BillionRead, HoldingsStored, LinesFit, LinesMove, Followed, StepsMakeTheWhole}
+use Rattle.record.specs.Record.{Read, taken, refused, numbers, fields, recordOf, configOf, recordOk, recordIf, recordFrom, readRecord, readAs}
+use Rattle.lines.specs.Lines.{refusalLine, leastRoom, text}
+use Rattle.sheet.specs.Sheet.{mostBytes, recordLine, line, stepOf, stepAt, lineAt, answered, first, headIf, headBy, headOf, lines, printedIf, printed, lineText, stepBy}
+use Rattle.sheet.specs.Promises.{LinesFit, LinesMove, Followed, StepsMakeTheWhole}
 use Rattle.sheet.specs.Promises as Promises
-use Rattle.sheet.specs.declared.record.Record.{Record}
+use Rattle.record.specs.declared.record.Record.{Record}
 use Rattle.sheet.specs.declared.line.LineAnswer.the-variants as LineAnswer
-use Rattle.sheet.proofs.Widths.{answer-most, refusal-most}
-use Rattle.sheet.proofs.Steps.{line-end, line-long, line-read}
-use Rattle.sheet.proofs.Left.{next-moves, next-left}
-use Rattle.sheet.proofs.Flat.{as-it-is}
+use Rattle.lines.proofs.Widths.{reply-most, refusal-most}
+use Rattle.sheet.proofs.Steps.{line-end, line-long, line-read, line-written}
+use Rattle.record.proofs.Left.{next-moves, next-left}
+use Rattle.record.proofs.Flat.{as-it-is}
 use Rattle.sheet.proofs.Due.{step-due, step-before, step-kept, told}
-
--- ---- numbers and holdings
-pub billion-read : BillionRead
-unfolding number groups group _then_
-billion-read = refl
-
-back : (h : ℤ) → holding (stored h) ≡ h
-unfolding stored holding holdingBy
-back (pos n) = rw (eq-eqb (2 * n % 2) 0 (omega arith)) (ap pos (omega arith))
-back (negsuc n) = rw (ne-eqb ((2 * suc n - 1) % 2) 0 (λ e. omega arith)) (ap negsuc (omega arith))
-
-forth : (n : ℕ) → stored (holding n) ≡ n
-unfolding stored holding holdingBy
-forth n = go (eqb (n % 2) 0) (eqb-true (n % 2) 0) (eqb-false (n % 2) 0)
-  where
-    go : (t : Bool) → (t ≡ true → n % 2 ≡ 0) → (t ≡ false → n % 2 ≡ 0 → ⊥) → stored (holdingBy t (n / 2)) ≡ n
-    go true f g = let h = f refl in omega arith
-    go false f g = let h = g refl in omega arith
-
-pub holdings-stored : HoldingsStored
-holdings-stored = (back, forth)
 
 -- ---- the line at a place, by what is read there
 -- a record's line, or that of refusal 2
-text : Bool → Record → List ℕ
-text true r = recordLine r
-text false r = refusalLine limits
+lineIf : Bool → Record → List ℕ
+lineIf true r = recordLine r
+lineIf false r = refusalLine limits
 
-step-text : (t : Bool) (r : Record) (n next : ℕ) → stepOf recordLine n (recordIf t r next) ≡ line (text t r) next
-unfolding text stepOf recordIf
+step-text : (t : Bool) (r : Record) (n next : ℕ) → stepOf lineText n (recordIf t r next) ≡ line (lineIf t r) next
+unfolding lineIf stepOf stepBy recordIf
 step-text true r n next = refl
 step-text false r n next = refl
 
-head-text : (t : Bool) (r : Record) (l : List ℕ) → headIf t r l ≡ first (text t r) l
-unfolding text headIf
+head-text : (t : Bool) (r : Record) (l : List ℕ) → headIf t r l ≡ first (lineIf t r) l
+unfolding lineIf headIf
 head-text true r l = refl
 head-text false r l = refl
 
 -- ---- the line at a place: one is due before the end alone; it fits, and the next place is further on
-line-is : (s : List ℕ) (at : ℕ) → stepAt recordLine s at (readAs false s at) ≡ lineAt s at
+line-is : (s : List ℕ) (at : ℕ) → stepAt lineText s at (readAs false s at) ≡ lineAt s at
 unfolding lineAt
-line-is s at = ap (stepAt recordLine s at) (as-it-is s at)
+line-is s at = ap (stepAt lineText s at) (as-it-is s at)
 
 line-most : (r : Record) → length (recordLine r) ≤ leastRoom
 unfolding recordLine
-line-most r = answer-most _ (replies-kept (r .«mid_price») (r .inventory) (configOf r) (r .volatility) (r .«current_time»))
+line-most r = reply-most _ (replies-kept (r .«mid_price») (r .inventory) (configOf r) (r .volatility) (r .«current_time»))
 
 module _ (s : List ℕ) (at : ℕ) where
   abbrev Fits : List ℕ → Type 0
   Fits t = length t ≤ leastRoom
 
+  fits : (r : Record) (t : List ℕ) → lineText r ≡ text t → Fits t
+  fits r t e = let z : recordLine r ≡ t = cc in subst Fits z (line-most r)
+
   pub line-due : at < length s → (t : List ℕ) × (next : ℕ) × (lineAt s at ≡ line t next)
-  line-due h = let d = step-due recordLine false Fits line-most refusal-most s at h in (d .0, d .1, sym (line-is s at) ∙ d .2)
+  unfolding lineAt
+  line-due h = step-due lineText s at (readRecord s at) (line-written s at) h
 
   pub before-end : (t : List ℕ) (next : ℕ) → lineAt s at ≡ line t next → at < length s
-  before-end t next e = step-before recordLine false Fits line-most refusal-most s at t next (line-is s at ∙ e)
+  before-end t next e = step-before lineText false Fits fits refusal-most s at t next (line-is s at ∙ e)
 
   line-kept : (t : List ℕ) (next : ℕ) → lineAt s at ≡ line t next → Fits t × (at < next) × (next ≤ length s)
-  line-kept t next e = step-kept recordLine false Fits line-most refusal-most s at t next (line-is s at ∙ e)
+  line-kept t next e = step-kept lineText false Fits fits refusal-most s at t next (line-is s at ∙ e)
 
 pub lines-fit : LinesFit
 lines-fit s at t next e = line-kept s at t next e .0
@@ -107,9 +89,9 @@ head-is [] h = absurd (omega arith)
 head-is (b ∷ l) h = refl
 
 module _ (s : List ℕ) (short : length s ≤ mostBytes) where
-  line-of : (at : ℕ) (x : Read (List ℕ)) → at < length s → numbers fields (drop at s) ≡ x → lineAt s at ≡ stepOf recordLine (length s) (recordFrom (length s) x)
+  line-of : (at : ℕ) (x : Read (List ℕ)) → at < length s → numbers fields (drop at s) ≡ x → lineAt s at ≡ stepOf lineText (length s) (recordFrom (length s) x)
   unfolding readRecord
-  line-of at x h e = line-read s at h short ∙ ap (λ (y : Read (List ℕ)). stepOf recordLine (length s) (recordFrom (length s) y)) e
+  line-of at x h e = line-read s at h short ∙ ap (λ (y : Read (List ℕ)). stepOf lineText (length s) (recordFrom (length s) y)) e
 
   -- one record, and those after it
   follow-one : (k at : ℕ) (x : Read (List ℕ)) → at < length s → numbers fields (drop at s) ≡ x → ((next : ℕ) → at < next → Followed s next (lines k (headOf (drop next s))))

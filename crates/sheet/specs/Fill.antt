@@ -4,9 +4,10 @@ use mathlib.Core.Bool.{Bool, true, false}
 use mathlib.Core.List.{List, [], _++_}
 use lib.ListN.{length}
 use lib.Dec.{leb}
-use Rattle.sheet.specs.Refusals.{smallBuffer}
-use Rattle.sheet.specs.Lines.{over}
-use Rattle.sheet.specs.Sheet.{leastRoom, Step, line, end, lineAt, hasRoom}
+use Rattle.lines.specs.Refusals.{smallBuffer}
+use Rattle.buffers.specs.Over.{over}
+use Rattle.lines.specs.Lines.{leastRoom, hasRoom}
+use Rattle.sheet.specs.Sheet.{Step, line, end, refuse, lineAt}
 use Rattle.sheet.specs.declared.fill.FillAnswer.{FillAnswer}
 use Rattle.sheet.specs.declared.fill.FillAnswer.the-variants as FillAnswer
 
@@ -23,6 +24,7 @@ unfoldable pub fillBy : ℕ → Bool → Step → List ℕ → ℕ → ℕ → F
 fillBy zero m x s at room = upTo [] at
 fillBy (suc k) false x s at room = upTo [] at
 fillBy (suc k) true end s at room = upTo [] at
+fillBy (suc k) true (refuse n) s at room = upTo [] at
 fillBy (suc k) true (line t next) s at room = let rest = room - length t in after t (fillBy k (leb leastRoom rest) (lineAt s next) s next rest)
 
 -- each line takes the place a byte on at least, so as many turns as bytes are enough

@@ -2,25 +2,19 @@
 use mathlib.Core.Path.{_≡_}
 use mathlib.Core.Logic.{_⊎_, _↔_}
 use Prim.Native.Nat.{ℕ, _<_, _≤_}
-use mathlib.Core.List.{List, [], _∷_}
+use mathlib.Core.List.{List}
 use lib.ListN.{length}
 use lib.Ieee.{Float}
 use Rattle.vector.specs.declared.FirstPlan.{FirstPlan}
 use Rattle.vector.specs.declared.FirstPlan.the-variants as FirstPlan
 use Rattle.quote.specs.Horizon.{deskPlan}
-use Rattle.sheet.specs.Refusals.{smallBuffer}
-use Rattle.sheet.specs.Record.{configOf, readRecord}
-use Rattle.sheet.specs.Lines.{count, joined, capLine, refusalLine}
-use Rattle.sheet.specs.Sheet.{leastRoom, recordLine, Step, line, stepAt, lineAt, hasRoom, answered}
-use Rattle.sheet.specs.declared.record.Record.{Record}
-use Rattle.sheet.specs.declared.record.RecordAnswer.the-variants as RecordAnswer
+use Rattle.lines.specs.Refusals.{smallBuffer}
+use Rattle.record.specs.Record.{configOf, readRecord}
+use Rattle.lines.specs.Lines.{leastRoom, hasRoom, planLine, Text, text}
+use Rattle.sheet.specs.Sheet.{recordLine, Step, line, stepAt, lineAt, answered}
+use Rattle.record.specs.declared.record.Record.{Record}
+use Rattle.record.specs.declared.record.RecordAnswer.the-variants as RecordAnswer
 use Rattle.sheet.specs.declared.line.LineAnswer.the-variants as LineAnswer
-
--- `N` and the steps; or the line of a cap report or of a refusal
-unfoldable pub planLine : FirstPlan → List ℕ
-planLine (FirstPlan.Steps n) = joined (78 ∷ []) (count n ∷ [])
-planLine (FirstPlan.OverCap need b) = capLine need b
-planLine (FirstPlan.Refused n) = refusalLine n
 
 -- a record's plan, and its line
 abbrev pub planOf : Record → FirstPlan
@@ -30,8 +24,11 @@ unfoldable pub recordPlan : Record → List ℕ
 recordPlan r = planLine (planOf r)
 
 -- at a place
+abbrev pub planText : Record → Text
+planText r = text (recordPlan r)
+
 unfoldable pub planAt : List ℕ → ℕ → Step
-planAt s at = stepAt recordPlan s at (readRecord s at)
+planAt s at = stepAt planText s at (readRecord s at)
 
 -- ---- the lines of a sheet's plans
 pub record HorizonLines : Type 0 where

@@ -1,12 +1,8 @@
 pub mod Refusals
-pub mod Record
-pub mod Lines
 pub mod Sheet
 pub mod Fill
-pub mod Ladder
+pub mod Ladders
 pub mod Horizon
-pub mod Drift
-pub mod Save
 pub mod Promises
 pub mod Refusing
 pub mod Inner

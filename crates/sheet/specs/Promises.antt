@@ -1,41 +1,20 @@
 -- What holds of every sheet, as named statements. Each is proved once, in proofs/. Definitions only.
 use mathlib.Core.Path.{_≡_}
-use mathlib.Core.Logic.{_↔_}
-use mathlib.Core.Bool.{true}
-use Prim.Native.Nat.{ℕ, suc, _+_, _-_, _^_, _<_, _≤_}
-use mathlib.Core.List.{List, [], _∷_, _++_}
-use lib.IntN.{ℤ}
-use lib.ListN.{length, getD, take, drop}
-use Rattle.amounts.specs.Amounts.{billion}
-use Rattle.sheet.specs.Record.{taken, number, stored, holding, readRecord}
-use Rattle.sheet.specs.Lines.{over}
-use Rattle.sheet.specs.Sheet.{leastRoom, line, end, lineAt, printed}
-use Rattle.sheet.specs.Ladder.{ladderAt}
+use Prim.Native.Nat.{ℕ, _<_, _≤_}
+use mathlib.Core.List.{List, [], _++_}
+use lib.ListN.{length, take}
+use Rattle.lines.specs.Lines.{leastRoom}
+use Rattle.ladders.specs.Ladder.{mostLadder}
+use Rattle.sheet.specs.Sheet.{line, end, refuse, lineAt, printed}
+use Rattle.sheet.specs.Ladders.{ladderAt}
 use Rattle.sheet.specs.Fill.{filled, leftIn}
-use Rattle.sheet.specs.Save.{inGroups, saveOk, recordRoom, saved, savedIn}
-use Rattle.sheet.specs.declared.record.Record.{Record}
-use Rattle.sheet.specs.declared.record.RecordAnswer.the-variants as RecordAnswer
 use Rattle.sheet.specs.declared.fill.FillAnswer.the-variants as FillAnswer
-use Rattle.sheet.specs.declared.save.SaveAnswer.the-variants as SaveAnswer
-
--- ---- the paper's example: 1,000,000,000 is hex 80 94 EB DC 03
-abbrev pub BillionRead : Type 0
-BillionRead = number (0x80 ∷ 0x94 ∷ 0xEB ∷ 0xDC ∷ 0x03 ∷ []) ≡ taken billion []
-
--- ---- every holding is stored as one number, and every number stores one holding
-abbrev pub HoldingsStored : Type 0
-HoldingsStored = ((h : ℤ) → holding (stored h) ≡ h) × ((n : ℕ) → stored (holding n) ≡ n)
 
 -- ---- a line fits the least line buffer, whatever the sheet and the place
 abbrev pub LinesFit : Type 0
 LinesFit = (s : List ℕ) (at : ℕ) (t : List ℕ) (next : ℕ) → lineAt s at ≡ line t next → length t ≤ leastRoom
 
--- ---- reading goes on, and stays within the sheet: by records, those that 2 refuses among them, and by lines
-abbrev pub RecordsMove : Type 0
-RecordsMove = (s : List ℕ) (at next : ℕ)
-    → ((r : Record) → readRecord s at ≡ RecordAnswer.Record r next → (at < next) × (next ≤ length s))
-    × ((k : ℕ) → readRecord s at ≡ RecordAnswer.Skipped k next → (at < next) × (next ≤ length s))
-
+-- ---- reading goes on, and stays within the sheet
 abbrev pub LinesMove : Type 0
 LinesMove = (s : List ℕ) (at : ℕ) (t : List ℕ) (next : ℕ) → lineAt s at ≡ line t next → (at < next) × (next ≤ length s)
 
@@ -45,6 +24,10 @@ LaddersFit = (room : ℕ) (s : List ℕ) (at : ℕ) (t : List ℕ) (next : ℕ) 
 
 abbrev pub LaddersMove : Type 0
 LaddersMove = (room : ℕ) (s : List ℕ) (at : ℕ) (t : List ℕ) (next : ℕ) → ladderAt room s at ≡ line t next → (at < next) × (next ≤ length s)
+
+-- with a buffer of the most bytes none is refused: 21 is no reply
+abbrev pub LaddersWritten : Type 0
+LaddersWritten = (room : ℕ) (s : List ℕ) (at k : ℕ) → mostLadder ≤ room → ladderAt room s at ≡ refuse k → ⊥
 
 -- ---- the steps make the whole: lines taken one after the other from a place until the end, and their bytes
 pub data Followed (s : List ℕ) : ℕ → List ℕ → Type 0 where
@@ -75,28 +58,3 @@ FillsMakeTheWhole = (s t : List ℕ) → Fills s 0 t → t ≡ printed s
 -- and there are such fills, to the end, wherever a buffer has the room
 abbrev pub FillsFinish : Type 0
 FillsFinish = (s b : List ℕ) → leastRoom ≤ length b → Fills s 0 (printed s)
-
--- ==== change request 1: records saved
--- a list as a slice of bytes holds it
-abbrev pub Bytes : List ℕ → Type 0
-Bytes l = (i : ℕ) → getD l i 0 < 256
-
--- ---- so many groups hold just the numbers below that power of 128: none is written in more than it takes
-abbrev pub FewestGroups : Type 0
-FewestGroups = (k n : ℕ) → (length (inGroups n) ≤ suc k) ↔ (n < 128 ^ suc k)
-
--- ---- a saved record fits its buffer
-abbrev pub SavesFit : Type 0
-SavesFit = (r : Record) (b : List ℕ) (n : ℕ) → saved r b ≡ SaveAnswer.Saved n → n ≤ length b
-
--- ---- what the reader takes without 6, 7 or 2 comes out as the very bytes that went in
-abbrev pub SavedAsRead : Type 0
-SavedAsRead = (s : List ℕ) (at : ℕ) (r : Record) (next : ℕ) → Bytes s → readRecord s at ≡ RecordAnswer.Record r next
-    → (b : List ℕ) → recordRoom ≤ length b
-    → (saved r b ≡ SaveAnswer.Saved (next - at)) × (savedIn r b ≡ over (take (next - at) (drop at s)) b)
-
--- ---- a record within the limits is saved, and reads back to its own numbers, whatever stands before and after it; the next place is where it ended
-abbrev pub ReadAsSaved : Type 0
-ReadAsSaved = (r : Record) (b : List ℕ) → saveOk r ≡ true → recordRoom ≤ length b
-    → (n : ℕ) × (saved r b ≡ SaveAnswer.Saved n)
-    × ((u t : List ℕ) → readRecord (u ++ take n (savedIn r b) ++ t) (length u) ≡ RecordAnswer.Record r (length u + n))

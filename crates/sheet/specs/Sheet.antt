@@ -6,62 +6,70 @@ use lib.ListN.{length}
 use lib.Dec.{ltb, leb}
 use Rattle.amounts.specs.Refusals.{limits}
 use Rattle.quote.specs.Quotes.{exactQuotes}
-use Rattle.sheet.specs.Refusals.{smallBuffer, longSheet}
-use Rattle.sheet.specs.Record.{Read, taken, refused, numbers, fields, recordOf, configOf, recordOk, readRecord}
-use Rattle.sheet.specs.Lines.{answerLine, refusalLine, over}
-use Rattle.sheet.specs.declared.record.Record.{Record}
-use Rattle.sheet.specs.declared.record.RecordAnswer.{RecordAnswer}
-use Rattle.sheet.specs.declared.record.RecordAnswer.the-variants as RecordAnswer
+use Rattle.lines.specs.Refusals.{smallBuffer}
+use Rattle.sheet.specs.Refusals.{longSheet}
+use Rattle.record.specs.Record.{Read, taken, refused, numbers, fields, recordOf, configOf, recordOk, readRecord}
+use Rattle.lines.specs.Lines.{answerLine, refusalLine, Text, text, refusal}
+use Rattle.buffers.specs.Over.{over}
+use Rattle.record.specs.declared.record.Record.{Record}
+use Rattle.record.specs.declared.record.RecordAnswer.{RecordAnswer}
+use Rattle.record.specs.declared.record.RecordAnswer.the-variants as RecordAnswer
 use Rattle.sheet.specs.declared.line.LineAnswer.{LineAnswer}
 use Rattle.sheet.specs.declared.line.LineAnswer.the-variants as LineAnswer
 
--- the longest sheet, and the least line buffer
+-- the longest sheet
 abbrev pub mostBytes : ℕ
 mostBytes = 65_536
-
-abbrev pub leastRoom : ℕ
-leastRoom = 64
 
 -- a record's line
 unfoldable pub recordLine : Record → List ℕ
 recordLine r = answerLine (exactQuotes (r .«mid_price») (r .inventory) (configOf r) (r .volatility) (r .«current_time»))
 
--- ---- the line at a place, and the next place; or the end
+-- ---- a step: the text at a place, and the next place; the end; or the number that refuses it
 pub data Step : Type 0 where
   line : List ℕ → ℕ → Step
   end : Step
+  refuse : ℕ → Step
+
+-- a record's text, and the place after the record
+unfoldable pub stepBy : Text → ℕ → Step
+stepBy (text t) next = line t next
+stepBy (refusal n) next = refuse n
 
 -- of a sheet of n bytes, with f for the text of a record; after 6 or 7 nothing more is read
-unfoldable pub stepOf : (Record → List ℕ) → ℕ → RecordAnswer → Step
-stepOf f n (RecordAnswer.Record r next) = line (f r) next
+unfoldable pub stepOf : (Record → Text) → ℕ → RecordAnswer → Step
+stepOf f n (RecordAnswer.Record r next) = stepBy (f r) next
 stepOf f n (RecordAnswer.Skipped k next) = line (refusalLine k) next
 stepOf f n (RecordAnswer.Refused k) = line (refusalLine k) n
 
 -- is the place before the end, is the sheet no longer than the longest
-unfoldable pub stepIf : Bool → Bool → (Record → List ℕ) → ℕ → RecordAnswer → Step
+unfoldable pub stepIf : Bool → Bool → (Record → Text) → ℕ → RecordAnswer → Step
 stepIf false m f n a = end
 stepIf true false f n a = line (refusalLine longSheet) n
 stepIf true true f n a = stepOf f n a
 
-unfoldable pub stepAt : (Record → List ℕ) → List ℕ → ℕ → RecordAnswer → Step
+unfoldable pub stepAt : (Record → Text) → List ℕ → ℕ → RecordAnswer → Step
 stepAt f s at a = stepIf (ltb at (length s)) (leb (length s) mostBytes) f (length s) a
 
+-- the line at a place
+abbrev pub lineText : Record → Text
+lineText r = text (recordLine r)
+
 unfoldable pub lineAt : List ℕ → ℕ → Step
-lineAt s at = stepAt recordLine s at (readRecord s at)
+lineAt s at = stepAt lineText s at (readRecord s at)
 
 -- ---- what `next_line` answers, and what it leaves in the buffer: has that the room
 unfoldable pub answered : Bool → Step → LineAnswer
-answered false t = LineAnswer.Refused smallBuffer
+answered false x = LineAnswer.Refused smallBuffer
 answered true (line t next) = LineAnswer.Written (length t) next
 answered true end = LineAnswer.End
+answered true (refuse n) = LineAnswer.Refused n
 
 unfoldable pub left : Bool → Step → List ℕ → List ℕ
-left false t b = b
+left false x b = b
 left true (line t next) b = over t b
 left true end b = b
-
-abbrev pub hasRoom : List ℕ → Bool
-hasRoom b = leb leastRoom (length b)
+left true (refuse n) b = b
 
 -- ---- what is printed for a whole sheet
 -- what the head of some bytes prints: nothing, a line with the bytes left, or the last line

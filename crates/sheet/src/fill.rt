@@ -1,10 +1,10 @@
 // Puts whole lines into a lent buffer.
 ghost use mathlib.Core.Path.{_≡_};
 ghost use Rattle.sheet.specs.Fill.{filled, leftIn};
-use crate::line::LEAST_ROOM;
 use crate::line::LineAnswer;
 use crate::line::next_line;
-use crate::refusals::SMALL_BUFFER;
+use lines::LEAST_ROOM;
+use lines::refusals::SMALL_BUFFER;
 
 // The bytes that the lines take and the place of the next record, or a refusal by 8.
 pub enum FillAnswer {

@@ -1,41 +1,21 @@
 // Writes the line of a record's first plan, which tells whether its horizon is too long before anything
 // runs.
 ghost use mathlib.Core.Path.{_≡_};
-ghost use Prim.Native.Nat.{_≤_};
-ghost use lib.ListN.{length};
-ghost use Rattle.sheet.specs.Lines.{over};
-ghost use Rattle.sheet.specs.Sheet.{leastRoom, hasRoom, answered, left};
-ghost use Rattle.sheet.specs.Horizon.{planLine, recordPlan, planAt};
-ghost use Rattle.sheet.specs.Inner.{PlanKept};
+ghost use Rattle.lines.specs.Lines.{hasRoom, lineFor, wrote, textLeft};
+ghost use Rattle.sheet.specs.Sheet.{answered, left};
+ghost use Rattle.sheet.specs.Horizon.{recordPlan, planAt};
 use crate::line::LineAnswer;
-use crate::line::write_cap;
-use crate::line::write_counted;
-use crate::line::write_refusal;
-use crate::record::Record;
-use crate::record::config_of;
 use crate::text::Kind;
 use crate::text::next_text;
-use vector::FirstPlan;
-
-// The line of a plan, which takes at most 64 bytes.
-fn write_plan(line: &mut [u8], plan: FirstPlan) -> usize
-    requires { ⌜ PlanKept plan ⌝ }
-    requires { ⌜ leastRoom ≤ length (now line) ⌝ }
-    ensures { λ _. ⌜ now (line .exit) ≡ over (planLine plan) (now (line .entry)) ⌝ }
-    ensures { λ r. ⌜ r ≡ length (planLine plan) ⌝ }
-{
-    match plan {
-        FirstPlan::Steps(steps) => write_counted(line, b'N', steps as u64),
-        FirstPlan::OverCap(need, budget) => write_cap(line, need, budget),
-        FirstPlan::Refused(number) => write_refusal(line, number),
-    }
-}
+use lines::LineWritten;
+use lines::write_plan;
+use record::Record;
+use record::config_of;
 
 // The line of a record's plan.
-pub(crate) fn write_record_plan(line: &mut [u8], r: Record) -> usize
-    requires { ⌜ leastRoom ≤ length (now line) ⌝ }
-    ensures { λ _. ⌜ now (line .exit) ≡ over (recordPlan r) (now (line .entry)) ⌝ }
-    ensures { λ n. ⌜ n ≡ length (recordPlan r) ⌝ }
+pub(crate) fn write_record_plan(line: &mut [u8], r: Record) -> LineWritten
+    ensures { λ w. ⌜ w ≡ wrote (lineFor (recordPlan r) (now (line .entry))) ⌝ }
+    ensures { λ _. ⌜ now (line .exit) ≡ textLeft (lineFor (recordPlan r) (now (line .entry))) (now (line .entry)) ⌝ }
 {
     let plan = quote::first_plan(
         r.mid_price,

@@ -1,19 +1,4 @@
-// The numbers that refuse in this layer.
-
-// A record that ends inside itself.
-pub const CUT_SHORT: u8 = 6;
-
-// A number of more than 8 groups, or of several groups whose last is zero.
-pub const MALFORMED: u8 = 7;
-
-// A line buffer under 64 bytes.
-pub const SMALL_BUFFER: u8 = 8;
+// The number that refuses in this layer.
 
 // A sheet over 65,536 bytes.
 pub const LONG_SHEET: u8 = 9;
-
-// A record's buffer under 88 bytes.
-pub const SMALL_RECORD_BUFFER: u8 = 20;
-
-// A ladder's buffer under 64 * (2 * bound + 1) bytes.
-pub const SMALL_LADDER_BUFFER: u8 = 21;

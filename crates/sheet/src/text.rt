@@ -2,21 +2,22 @@
 ghost use mathlib.Core.Path.{_≡_};
 ghost use Prim.Native.Nat.{_≤_};
 ghost use lib.ListN.{length};
-ghost use Rattle.sheet.specs.Lines.{over};
-ghost use Rattle.sheet.specs.Sheet.{leastRoom, hasRoom, answered, left};
-ghost use Rattle.sheet.specs.Inner.{isFlat, recordText, textAt};
+ghost use Rattle.lines.specs.Lines.{leastRoom, hasRoom, wrote, textLeft};
+ghost use Rattle.sheet.specs.Sheet.{answered, left};
+ghost use Rattle.sheet.specs.Inner.{isFlat, recordText, textAt, steppedBy};
 use crate::ladder::write_record_ladder;
-use crate::line::LEAST_ROOM;
 use crate::line::LineAnswer;
 use crate::line::MOST_BYTES;
 use crate::line::write_record;
-use crate::line::write_refusal;
 use crate::plan::write_record_plan;
-use crate::record::Record;
-use crate::record::RecordAnswer;
-use crate::record::read;
 use crate::refusals::LONG_SHEET;
-use crate::refusals::SMALL_BUFFER;
+use lines::LEAST_ROOM;
+use lines::LineWritten;
+use lines::refusals::SMALL_BUFFER;
+use lines::write_refusal;
+use record::Record;
+use record::RecordAnswer;
+use record::read_as;
 
 // The kinds of text.
 pub(crate) enum Kind {
@@ -37,10 +38,10 @@ fn is_flat(kind: Kind) -> bool
 }
 
 // A record's text.
-fn write_text(out: &mut [u8], r: Record, kind: Kind) -> usize
+fn write_text(out: &mut [u8], r: Record, kind: Kind) -> LineWritten
     requires { ⌜ leastRoom ≤ length (now out) ⌝ }
-    ensures { λ _. ⌜ now (out .exit) ≡ over (recordText kind (length (now (out .entry))) r) (now (out .entry)) ⌝ }
-    ensures { λ n. ⌜ n ≡ length (recordText kind (length (now (out .entry))) r) ⌝ }
+    ensures { λ w. ⌜ w ≡ wrote (recordText kind (length (now (out .entry))) r) ⌝ }
+    ensures { λ _. ⌜ now (out .exit) ≡ textLeft (recordText kind (length (now (out .entry))) r) (now (out .entry)) ⌝ }
 {
     match kind {
         Kind::Line => write_record(out, r),
@@ -49,8 +50,18 @@ fn write_text(out: &mut [u8], r: Record, kind: Kind) -> usize
     }
 }
 
-// Writes what stands for the record at a place of a sheet, a text of some kind: refused by 8, which
-// leaves the buffer as it is.
+// A step's answer, by that of a writer.
+fn stepped(written: LineWritten, next: usize) -> LineAnswer
+    ensures { λ r. ⌜ r ≡ steppedBy written next ⌝ }
+{
+    match written {
+        LineWritten::Written(n) => LineAnswer::Written(n, next),
+        LineWritten::Refused(number) => LineAnswer::Refused(number),
+    }
+}
+
+// Writes what stands for the record at a place of a sheet, a text of some kind: refused by 8 and 21,
+// which leaves the buffer as it is.
 pub(crate) fn next_text(sheet: &[u8], at: usize, out: &mut [u8], kind: Kind) -> LineAnswer
     ensures { λ r. ⌜ r ≡ answered (hasRoom (now (out .entry))) (textAt kind (length (now (out .entry))) (now (sheet .entry)) at) ⌝ }
     ensures { λ _. ⌜ now (out .exit) ≡ left (hasRoom (now (out .entry))) (textAt kind (length (now (out .entry))) (now (sheet .entry)) at) (now (out .entry)) ⌝ }
@@ -62,17 +73,11 @@ pub(crate) fn next_text(sheet: &[u8], at: usize, out: &mut [u8], kind: Kind) -> 
         return LineAnswer::End;
     }
     if sheet.len() > MOST_BYTES {
-        return LineAnswer::Written(write_refusal(out, LONG_SHEET), sheet.len());
+        return stepped(write_refusal(out, LONG_SHEET), sheet.len());
     }
-    match read(sheet, at, is_flat(kind)) {
-        RecordAnswer::Record(r, next) => LineAnswer::Written(write_text(out, r, kind), next),
-        RecordAnswer::Skipped(number, next) => LineAnswer::Written(
-            write_refusal(out, number),
-            next,
-        ),
-        RecordAnswer::Refused(number) => LineAnswer::Written(
-            write_refusal(out, number),
-            sheet.len(),
-        ),
+    match read_as(sheet, at, is_flat(kind)) {
+        RecordAnswer::Record(r, next) => stepped(write_text(out, r, kind), next),
+        RecordAnswer::Skipped(number, next) => stepped(write_refusal(out, number), next),
+        RecordAnswer::Refused(number) => stepped(write_refusal(out, number), sheet.len()),
     }
 }

@@ -6,9 +6,9 @@ use lib.ListN.{length}
 use denote.Ref.{now}
 use borrow.Author.Needs.{needs}
 use borrow.Rule.Slice.PartMut.{putMid}
-use Rattle.sheet.specs.Save.{recordRoom}
-use Rattle.sheet.specs.Promises.{Bytes}
-use Rattle.sheet.proofs.Texts.{part-room}
+use Rattle.record.specs.Save.{recordRoom}
+use Rattle.record.specs.Promises.{Bytes}
+use Rattle.buffers.proofs.Texts.{part-room}
 use Rattle.resave.proofs.Keeping.{Keeping, keeping-none, keeping-room, keeping-less, keeping-more, keeping-all, kept-long}
 use Rattle.resave.proofs.keep.Statement.{statement}
 use Rattle.resave.proofs.keep.Tie as tie

@@ -5,14 +5,14 @@ use native.Mathlib.Omega.{arith}
 use lib.ListN.{length}
 use denote.Ref.{now}
 use borrow.Author.Needs.{needs}
-use Rattle.sheet.specs.Record.{readRecord}
-use Rattle.sheet.specs.Lines.{over}
-use Rattle.sheet.specs.Save.{recordBytes, saved, savedIn}
-use Rattle.sheet.specs.declared.record.Record.{Record}
-use Rattle.sheet.specs.declared.record.RecordAnswer.the-variants as RecordAnswer
-use Rattle.sheet.specs.declared.save.SaveAnswer.the-variants as SaveAnswer
-use Rattle.sheet.proofs.Saving.{saved-whole}
-use Rattle.sheet.proofs.Saved.{taken-saves}
+use Rattle.record.specs.Record.{readRecord}
+use Rattle.buffers.specs.Over.{over}
+use Rattle.record.specs.Save.{recordBytes, saved, savedIn}
+use Rattle.record.specs.declared.record.Record.{Record}
+use Rattle.record.specs.declared.record.RecordAnswer.the-variants as RecordAnswer
+use Rattle.record.specs.declared.save.SaveAnswer.the-variants as SaveAnswer
+use Rattle.record.proofs.Saving.{saved-whole}
+use Rattle.record.proofs.Saved.{taken-saves}
 use Rattle.resave.specs.Resave.{piece, onward}
 use Rattle.resave.proofs.keep_record.Statement.{statement}
 use Rattle.resave.proofs.keep_record.Tie as tie

@@ -1,7 +1,7 @@
 -- `sheet::fill::fill_lines` meets its contract. The loop's invariant: the bytes passed are the lines so far. The measure is what is left of the sheet, which each line makes less. Assumes nothing.
 use mathlib.Core.Path.{_≡_, refl, sym, _∙_, subst}
 use mathlib.Core.Logic.{⊎-elim}
-use Prim.Native.Nat.{_-_}
+use Prim.Native.Nat.{ℕ, _-_}
 use native.Mathlib.Omega.{arith}
 use mathlib.Core.Bool.{true}
 use mathlib.Core.List.{[], _∷_}
@@ -10,9 +10,10 @@ use denote.Enum.Declared.{tagOf}
 use types.Run.{OneOf}
 use borrow.Author.Needs.{needs}
 use borrow.Rule.Slice.PartMut.{same-len-mid}
-use Rattle.sheet.specs.Sheet.{Step, line, end, answered}
+use Rattle.sheet.specs.Sheet.{Step, line, end, refuse, answered}
 use Rattle.sheet.specs.declared.line.LineAnswer.{LineAnswer}
 use Rattle.sheet.proofs.line.LineAnswer.{the-type}
+use Rattle.sheet.proofs.Steps.{line-written}
 use Rattle.sheet.proofs.Filling.{Filling, filling-none, filling-length, line-added, filling-end, filling-full, part-room, no-fill}
 use Rattle.sheet.proofs.fill.fill_lines.Statement.{statement}
 use Rattle.sheet.proofs.fill.fill_lines.Tie as tie
@@ -24,10 +25,11 @@ abbrev μ-loop : tie.MeasureT-loop
 μ-loop sheet at out₀ n₀ next₀ out n next = length sheet - next
 
 -- the answer is no line, so the sheet is at its end
-none-left : (x : Step) (r : LineAnswer) → OneOf (1 ∷ 2 ∷ []) (tagOf the-type r) → r ≡ answered true x → x ≡ end
+none-left : (x : Step) (r : LineAnswer) → ((n : ℕ) → x ≡ refuse n → ⊥) → OneOf (1 ∷ 2 ∷ []) (tagOf the-type r) → r ≡ answered true x → x ≡ end
 unfolding answered
-none-left end r o e = refl
-none-left (line t next) r o e = ⊎-elim (λ z. absurd (omega arith)) (λ z. absurd (omega arith)) (subst (λ (y : LineAnswer). OneOf (1 ∷ 2 ∷ []) (tagOf the-type y)) e o)
+none-left end r g o e = refl
+none-left (refuse n) r g o e = absurd (g n refl)
+none-left (line t next) r g o e = ⊎-elim (λ z. absurd (omega arith)) (λ z. absurd (omega arith)) (subst (λ (y : LineAnswer). OneOf (1 ∷ 2 ∷ []) (tagOf the-type y)) e o)
 
 returns : tie.Need-returns Inv-loop μ-loop
 returns c = no-fill _ _ _ (c .if1 .taken)
@@ -66,7 +68,7 @@ returns-2 c =
     let i = l .before .loop .inv in
     let t = part-room _ _ _ _ _ _ i (omega (arith, l .loop-test)) in
     let e = rw t at (w .next-line .ensures) in
-    filling-end _ _ _ _ _ _ i _ (l .before .before .if1 .left) (none-left _ _ (c .match .keys2) (e .0)) (e .1)
+    filling-end _ _ _ _ _ _ i _ (l .before .before .if1 .left) (none-left _ _ (line-written _ _) (c .match .keys2) (e .0)) (e .1)
 
 add-n : tie.Need-add-n Inv-loop μ-loop
 add-n c =

@@ -2,8 +2,9 @@ use mathlib.Core.Path.{ap, _∙_}
 use lib.ListN.{length}
 use denote.Ref.{now}
 use borrow.Author.Needs.{needs}
-use Rattle.sheet.specs.Sheet.{Step, hasRoom, answered, left}
-use Rattle.sheet.proofs.Flat.{as-ladder}
+use Rattle.sheet.specs.Sheet.{Step, answered, left}
+use Rattle.lines.specs.Lines.{hasRoom}
+use Rattle.sheet.proofs.TextKinds.{as-ladder}
 use Rattle.sheet.proofs.ladder.next_ladder.Statement.{statement}
 use Rattle.sheet.proofs.ladder.next_ladder.Tie as tie
 

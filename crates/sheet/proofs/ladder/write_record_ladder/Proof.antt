@@ -1,17 +1,19 @@
-use mathlib.Core.Path.{_≡_, sym, ap, _∙_}
+use mathlib.Core.Path.{_≡_, refl, sym, _∙_}
+use borrow.Author.Tests.{eq-eqb, ne-eqb}
+use lib.Dec.{eqb}
 use Prim.Native.Nat.{ℕ}
-use native.Mathlib.Nat.{le-trans}
-use native.Mathlib.Omega.{arith}
 use lib.ListN.{length}
 use denote.Ref.{now}
 use borrow.Author.Needs.{needs}
 use Rattle.amounts.proofs.Limits.{kept}
-use Rattle.sheet.specs.Record.{configOf}
-use Rattle.sheet.specs.Lines.{refusalLine, over}
-use Rattle.sheet.specs.Ladder.{laddered, ladderedIn, recordLadder}
-use Rattle.sheet.specs.declared.ladder.LadderAnswer.the-variants as LadderAnswer
-use Rattle.sheet.proofs.Widths.{refusal-most}
-use Rattle.sheet.proofs.Rungs.{text-written, left-refused}
+use Rattle.record.specs.Record.{configOf}
+use Rattle.lines.specs.Lines.{refusalLine, wrote, textLeft}
+use Rattle.lines.proofs.Written.{line-is}
+use Rattle.ladders.specs.Refusals.{smallLadderBuffer}
+use Rattle.ladders.specs.Ladder.{laddered, ladderedIn}
+use Rattle.sheet.specs.Ladders.{refusedBy, recordLadder}
+use Rattle.ladders.specs.declared.ladder.LadderAnswer.the-variants as LadderAnswer
+use Rattle.sheet.proofs.Ladders.{text-written, left-refused}
 use Rattle.sheet.proofs.ladder.write_record_ladder.Statement.{statement}
 use Rattle.sheet.proofs.ladder.write_record_ladder.Tie as tie
 
@@ -24,9 +26,9 @@ answered c =
     let g = c .before .struct-told2 .given in
     rw (c .before .before .before .before .config-of .ensures, kept (r .«mid_price») (g .0 .1), kept (r .volatility) (g .1 .1 .0 .1)) at (c .write-ladder .ensures)
 
--- a refusal leaves the buffer as it was, and its line is the record's text
+-- a refusal leaves the buffer as it was, and the record's text is its line, but for 21
 unchanged : (c : tie.After-write-ladder) (n : ℕ) → c .write-ladder .result ≡ LadderAnswer.Refused n → let a = c .before .before .before .before .before .before .args in
-    (c .write-ladder .last .1 .1 .1 .1 .0 ≡ now (a .out)) × (recordLadder (length (now (a .out))) (a .r) ≡ refusalLine n)
+    (c .write-ladder .last .1 .1 .1 .1 .0 ≡ now (a .out)) × (recordLadder (length (now (a .out))) (a .r) ≡ refusedBy (eqb n smallLadderBuffer) n)
 unfolding recordLadder
 unchanged c n e = let o = answered c in left-refused _ _ _ n (sym e ∙ o .0) (o .1)
 
@@ -42,20 +44,18 @@ enum-known-n c = search needs
 enum-known-number : tie.Need-enum-known-number
 enum-known-number c = search needs
 
-write-refusal-requires : tie.Need-write-refusal-requires
-write-refusal-requires c κs =
-    let w = c .before .before .before .before .before .before in
-    le-trans (refusal-most _ (omega arith)) (rw (unchanged w _ (c .before .before .number .given .1) .0) (w .before .before .before .before .before .before .pre))
-
 same-length : tie.Need-same-length
 same-length c = search needs
 
 returns : tie.Need-returns
-unfolding recordLadder
+unfolding refusedBy wrote textLeft
 returns c =
-    let w = c .before .before .before .before .before in
-    let o = answered w in
-    text-written _ _ _ _ (sym (c .before .n .given .1) ∙ o .0) (o .1)
+    let k = c .before .before in
+    let u = unchanged (k .before .before .before .before) _ (k .number .given .1) in
+    rw (u .1, eq-eqb _ smallLadderBuffer (c .if1 .taken)) (refl, u .0)
+
+write-refusal-requires : tie.Need-write-refusal-requires
+write-refusal-requires c κs = search needs
 
 same-length-2 : tie.Need-same-length-2
 same-length-2 c = search needs
@@ -63,11 +63,23 @@ same-length-2 c = search needs
 returns-2 : tie.Need-returns-2
 unfolding recordLadder
 returns-2 c =
-    let r = c .before .before in
-    let w = r .before .before .before .before .before .before .before in
-    let u = unchanged w _ (r .before .before .before .number .given .1) in
-    let e = r .write-refusal .ensures in
-    rw (u .1) (e .0 ∙ ap (over _) (u .0), e .1)
+    let w = c .before .before .before .before .before in
+    let o = answered w in
+    text-written _ _ _ _ (sym (c .before .n .given .1) ∙ o .0) (o .1)
+
+same-length-3 : tie.Need-same-length-3
+same-length-3 c = search needs
+
+returns-3 : tie.Need-returns-3
+unfolding refusedBy
+returns-3 c =
+    let w = c .before .before in
+    let e = w .before .before in
+    let k = e .before .before in
+    let l = k .before .before .before .before in
+    let s = l .before .before .before .before .before .before in
+    let u = unchanged l _ (k .number .given .1) in
+    rw (u .1, ne-eqb _ smallLadderBuffer (e .if1 .left), ← line-is (refusalLine (k .number .given .0 .0)) (now (s .args .out)) (s .pre)) (rw (u .0) at (w .write-refusal .ensures))
 
 pub write-record-ladder-spec : {M : Type 1} → statement M
 write-record-ladder-spec =
@@ -77,8 +89,10 @@ write-record-ladder-spec =
     write-ladder-requires
     enum-known-n
     enum-known-number
-    write-refusal-requires
     same-length
     returns
+    write-refusal-requires
     same-length-2
-    returns-2)
+    returns-2
+    same-length-3
+    returns-3)

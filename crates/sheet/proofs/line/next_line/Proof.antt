@@ -2,8 +2,9 @@ use mathlib.Core.Path.{ap, _∙_}
 use lib.ListN.{length}
 use denote.Ref.{now}
 use borrow.Author.Needs.{needs}
-use Rattle.sheet.specs.Sheet.{Step, hasRoom, answered, left}
-use Rattle.sheet.proofs.Flat.{as-line}
+use Rattle.sheet.specs.Sheet.{Step, answered, left}
+use Rattle.lines.specs.Lines.{hasRoom}
+use Rattle.sheet.proofs.TextKinds.{as-line}
 use Rattle.sheet.proofs.line.next_line.Statement.{statement}
 use Rattle.sheet.proofs.line.next_line.Tie as tie
 

@@ -1,4 +1,4 @@
--- `sheet::line::write_record` meets its contract: the answer is the definition's, and such an answer is one that `write_answer` takes. Assumes nothing.
+-- `sheet::line::write_record` meets its contract: the answer is the definition's. Assumes nothing.
 use mathlib.Core.Path.{_≡_}
 use Prim.Native.Nat.{_<_, _^_}
 use lib.IntN.{ℤ}
@@ -8,8 +8,7 @@ use mir.Val.{SFits, toZ, ofZ}
 use mir.Facts.{toZ-ofZ}
 use borrow.Author.Needs.{needs}
 use Rattle.quote.specs.Quotes.{exactQuotes}
-use Rattle.quote.proofs.Replies.{replies-kept}
-use Rattle.sheet.specs.Record.{configOf}
+use Rattle.record.specs.Record.{configOf}
 use Rattle.sheet.specs.Sheet.{recordLine}
 use Rattle.sheet.proofs.line.write_record.Statement.{statement}
 use Rattle.sheet.proofs.line.write_record.Tie as tie
@@ -32,10 +31,7 @@ exact-quotes-requires : tie.Need-exact-quotes-requires
 exact-quotes-requires c κs = search needs
 
 write-answer-requires : tie.Need-write-answer-requires
-write-answer-requires c κs =
-    let a = c .before in
-    let s = a .before .before .before .before .before .before in
-    (rw (reply a) (replies-kept _ _ _ _ _), s .pre)
+write-answer-requires c κs = search needs
 
 same-length : tie.Need-same-length
 same-length c = search needs

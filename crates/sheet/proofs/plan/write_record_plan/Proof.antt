@@ -1,9 +1,8 @@
--- `sheet::plan::write_record_plan` meets its contract: the plan is the definition's, and such a plan is one that `write_plan` takes. Assumes nothing.
+-- `sheet::plan::write_record_plan` meets its contract: the plan is the definition's. Assumes nothing.
 use mathlib.Core.Path.{_≡_}
 use borrow.Author.Needs.{needs}
 use Rattle.amounts.proofs.Limits.{kept}
 use Rattle.sheet.specs.Horizon.{planOf, recordPlan}
-use Rattle.sheet.proofs.Plans.{plans-kept}
 use Rattle.sheet.proofs.plan.write_record_plan.Statement.{statement}
 use Rattle.sheet.proofs.plan.write_record_plan.Tie as tie
 
@@ -20,10 +19,7 @@ first-plan-requires : tie.Need-first-plan-requires
 first-plan-requires c κs = search needs
 
 write-plan-requires : tie.Need-write-plan-requires
-write-plan-requires c κs =
-    let a = c .before in
-    let s = a .before .before .before .before .before .before in
-    (rw (reply a) (plans-kept (s .args .r)), s .pre)
+write-plan-requires c κs = search needs
 
 same-length : tie.Need-same-length
 same-length c = search needs

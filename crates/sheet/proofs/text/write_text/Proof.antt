@@ -1,4 +1,8 @@
 use borrow.Author.Needs.{needs}
+use denote.Ref.{now}
+use Rattle.lines.proofs.Written.{line-is}
+use Rattle.sheet.specs.Sheet.{recordLine}
+use Rattle.sheet.specs.Horizon.{recordPlan}
 use Rattle.sheet.specs.Inner.{recordText}
 use Rattle.sheet.proofs.text.write_text.Statement.{statement}
 use Rattle.sheet.proofs.text.write_text.Tie as tie
@@ -26,7 +30,11 @@ same-length c = search needs
 
 returns : tie.Need-returns
 unfolding recordText
-returns c = let w = c .before .before in rw (w .before .before .enum-told .given .1) (w .write-record .ensures)
+returns c =
+    let w = c .before .before in
+    let e = w .before .before in
+    let s = e .before .before .before in
+    rw (e .enum-told .given .1, ← line-is (recordLine (s .args .r)) (now (s .args .out)) (s .pre)) (w .write-record .ensures)
 
 same-length-2 : tie.Need-same-length-2
 same-length-2 c = search needs
@@ -40,7 +48,11 @@ same-length-3 c = search needs
 
 returns-3 : tie.Need-returns-3
 unfolding recordText
-returns-3 c = let w = c .before .before in rw (w .before .before .enum-told3 .given .1) (w .write-record-plan .ensures)
+returns-3 c =
+    let w = c .before .before in
+    let e = w .before .before in
+    let s = e .before .before .before in
+    rw (e .enum-told3 .given .1, ← line-is (recordPlan (s .args .r)) (now (s .args .out)) (s .pre)) (w .write-record-plan .ensures)
 
 pub write-text-spec : {M : Type 1} → statement M
 write-text-spec =

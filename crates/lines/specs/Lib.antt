@@ -1,0 +1,4 @@
+pub mod Refusals
+pub mod Lines
+pub mod Promises
+pub mod Inner

@@ -1,0 +1,10 @@
+pub mod Reading
+pub mod Limits
+pub mod Left
+pub mod Groups
+pub mod Flat
+pub mod Holdings
+pub mod Saving
+pub mod Saved
+pub mod Numbers
+pub mod Refusing

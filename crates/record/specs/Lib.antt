@@ -1,0 +1,6 @@
+pub mod Refusals
+pub mod Record
+pub mod Save
+pub mod Promises
+pub mod Refusing
+pub mod Inner
