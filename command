@@ -7,11 +7,9 @@ stop() {
     exit 1
 }
 
-# Proves and builds the program where it is missing or older than a file that it is made of.
+# Proves and builds the program where it is missing or older than a file that a crate has.
 build() {
-    local crates=() crate
-    for crate in elementary vector distances quote sheet feed "$name"; do crates+=("$root/crates/$crate"); done
-    if [ -x "$program" ] && [ -z "$(find "${crates[@]}" -newer "$program" -type f -print -quit)" ]; then return; fi
+    if [ -x "$program" ] && [ -z "$(find "$root/crates" "$root/crates.txt" -newer "$program" -type f -print -quit)" ]; then return; fi
     command -v rt >/dev/null || stop 'the unit is not built yet, and rt, the Rattle kit, is not on the PATH'
     echo "$name: proving and building the unit, once; this takes some minutes" >&2
     (cd "$root" && rt check "$name" </dev/null) | grep --line-buffered '^rt:' >&2 || stop 'the unit could not be built'

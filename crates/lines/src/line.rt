@@ -15,7 +15,7 @@ use quote::ExactQuotes;
 use quote::GlftQuotes;
 use quote::Price;
 
-// The least line buffer: the most bytes that a line takes.
+// The least line buffer: no line is longer.
 pub const LEAST_ROOM: usize = 64;
 
 // The bits of a NaN.

@@ -7,11 +7,12 @@ use native.Mathlib.Omega.{arith}
 use mathlib.Core.Bool.{Bool, true, false, _&&_, and-eq-true-iff}
 use mathlib.Core.List.{List, [], _∷_, _++_, append-assoc, append-nil}
 use borrow.Author.Tests.{lt-ltb, le-ltb, leb-true, leb-false, ne-eqb, eqb-true, eqb-false}
-use lib.ListN.{length}
+use lib.ListN.{length, drop}
 use lib.Dec.{leb, eqb}
 use Rattle.record.specs.Refusals.{cutShort, malformed}
-use Rattle.record.specs.Record.{Read, taken, refused, _then_, group, groups, mostGroups, number, numbers, fields}
-use Rattle.record.specs.Refusing.{allTop, WholeNumber, EndsInside, NinthGroup, ZeroLast, After, at-once, further, Stopped, by-6, by-7-ninth, by-7-zero}
+use Rattle.record.specs.Record.{Read, taken, refused, _then_, group, groups, mostGroups, number, numbers, numbersAnswer, numbersLeft}
+use Rattle.record.specs.Refusing.{allTop, WholeNumber, EndsInside, NinthGroup, ZeroLast, After, at-once, further, StoppedBefore, NumbersRefusals, by-6, by-7-ninth, by-7-zero}
+use Rattle.record.specs.declared.record.NumbersAnswer.the-variants as NumbersAnswer
 use Rattle.record.proofs.Left.{after}
 use Rattle.record.proofs.Reading.{number-refused}
 
@@ -174,36 +175,47 @@ after-taken (further {u = u} {r = r} a h) =
     let y = number-whole u r h in
     (x .0 ++ (y .0 ∷ []), rw (x .1, y .1))
 
--- the number after n of them is refused
-stops : (n : ℕ) (l r : List ℕ) (k : ℕ) → n < fields → After l n r → number r ≡ refused k → numbers fields l ≡ refused k
-stops n l r k h a e = let x = after-taken a in number-refused fields n l (x .0) r k h (x .1) e
+-- ---- m numbers, of which the one after n is refused
+module _ (m : ℕ) where
+  stops : (n : ℕ) (l r : List ℕ) (k : ℕ) → n < m → After l n r → number r ≡ refused k → numbers m l ≡ refused k
+  stops n l r k h a e = let x = after-taken a in number-refused m n l (x .0) r k h (x .1) e
 
-stopped-refused : {l : List ℕ} {k : ℕ} → Stopped l k → numbers fields l ≡ refused k
-stopped-refused {l} (by-6 {n} {r} h a c) = stops n l r cutShort h a (number-cut r c)
-stopped-refused {l} (by-7-ninth {n} {r} h a c) = stops n l r malformed h a (number-ninth r c)
-stopped-refused {l} (by-7-zero {n} {r} h a c) = stops n l r malformed h a (number-zero r c)
+  stopped-refused : {l : List ℕ} {k : ℕ} → StoppedBefore m l k → numbers m l ≡ refused k
+  stopped-refused {l} (by-6 {n} {r} h a c) = stops n l r cutShort h a (number-cut r c)
+  stopped-refused {l} (by-7-ninth {n} {r} h a c) = stops n l r malformed h a (number-ninth r c)
+  stopped-refused {l} (by-7-zero {n} {r} h a c) = stops n l r malformed h a (number-zero r c)
 
-stopped-at : {l r : List ℕ} {n k : ℕ} → n < fields → After l n r → Situation r (refused k) → Stopped l k
-stopped-at h a (inside c) = by-6 h a c
-stopped-at h a (ninth c) = by-7-ninth h a c
-stopped-at h a (zeroed c) = by-7-zero h a c
+  stopped-at : {l r : List ℕ} {n k : ℕ} → n < m → After l n r → Situation r (refused k) → StoppedBefore m l k
+  stopped-at h a (inside c) = by-6 h a c
+  stopped-at h a (ninth c) = by-7-ninth h a c
+  stopped-at h a (zeroed c) = by-7-zero h a c
 
-refused-stopped : (n : ℕ) (l : List ℕ) (k : ℕ) → n ≤ fields → numbers n l ≡ refused k → Stopped l k
-unfolding numbers _then_
-refused-stopped zero l k h e = let z : _≡_ {A = ℕ} 0 1 = cc in absurd (omega arith)
-refused-stopped (suc n) l k h e = go (numbers n l) refl (refused-stopped n l k (omega arith)) e
-  where
-    go : (x : Read (List ℕ)) → numbers n l ≡ x → (numbers n l ≡ refused k → Stopped l k) → x then (λ v r. number r then λ y q. taken (v ++ (y ∷ [])) q) ≡ refused k → Stopped l k
-    go (refused j) d f g = f (d ∙ g)
-    go (taken v r) d f g =
-        let s = then-refused (number r) _ k (λ y q c. let z : _≡_ {A = ℕ} 0 1 = cc in absurd (omega arith)) g in
-        stopped-at (omega arith) (taken-after n l v r d) (subst (Situation r) s (situation r))
+  refused-stopped : (n : ℕ) (l : List ℕ) (k : ℕ) → n ≤ m → numbers n l ≡ refused k → StoppedBefore m l k
+  unfolding numbers _then_
+  refused-stopped zero l k h e = let z : _≡_ {A = ℕ} 0 1 = cc in absurd (omega arith)
+  refused-stopped (suc n) l k h e = go (numbers n l) refl (refused-stopped n l k (omega arith)) e
+    where
+      go : (x : Read (List ℕ)) → numbers n l ≡ x → (numbers n l ≡ refused k → StoppedBefore m l k) → x then (λ v r. number r then λ y q. taken (v ++ (y ∷ [])) q) ≡ refused k → StoppedBefore m l k
+      go (refused j) d f g = f (d ∙ g)
+      go (taken v r) d f g =
+          let s = then-refused (number r) _ k (λ y q c. let z : _≡_ {A = ℕ} 0 1 = cc in absurd (omega arith)) g in
+          stopped-at (omega arith) (taken-after n l v r d) (subst (Situation r) s (situation r))
 
-pub numbers-stopped : (l : List ℕ) (k : ℕ) → (numbers fields l ≡ refused k) ↔ Stopped l k
-numbers-stopped l k = (refused-stopped fields l k (omega arith), stopped-refused)
+  pub numbers-stopped : (l : List ℕ) (k : ℕ) → (numbers m l ≡ refused k) ↔ StoppedBefore m l k
+  numbers-stopped l k = (refused-stopped m l k (omega arith), stopped-refused)
 
 -- a refusal of the reader is 6 or 7
-pub stopped-number : {l : List ℕ} {k : ℕ} → Stopped l k → (k ≡ cutShort) ⊎ (k ≡ malformed)
+pub stopped-number : {m : ℕ} {l : List ℕ} {k : ℕ} → StoppedBefore m l k → (k ≡ cutShort) ⊎ (k ≡ malformed)
 stopped-number (by-6 h a c) = inl refl
 stopped-number (by-7-ninth h a c) = inr refl
 stopped-number (by-7-zero h a c) = inr refl
+
+-- ---- so of `read_numbers`
+pub numbers-refusals : NumbersRefusals
+unfolding numbersAnswer numbersLeft
+numbers-refusals s at out k = go (numbers (length out) (drop at s)) (numbers-stopped (length out) (drop at s) k)
+  where
+    go : (x : Read (List ℕ)) → (x ≡ refused k) ↔ StoppedBefore (length out) (drop at s) k
+        → ((numbersAnswer (length s) x ≡ NumbersAnswer.Refused k) ↔ StoppedBefore (length out) (drop at s) k) × (numbersAnswer (length s) x ≡ NumbersAnswer.Refused k → numbersLeft x out ≡ out)
+    go (taken v r) f = ((λ e. let z : _≡_ {A = ℕ} 0 1 = cc in absurd (omega arith), λ h. let e = f .1 h in let z : _≡_ {A = ℕ} 0 1 = cc in absurd (omega arith)), λ e. let z : _≡_ {A = ℕ} 0 1 = cc in absurd (omega arith))
+    go (refused j) f = ((λ e. let z : j ≡ k = cc in f .0 (ap refused z), λ h. let e = f .1 h in let z : j ≡ k = cc in ap NumbersAnswer.Refused z), λ e. refl)

@@ -28,7 +28,7 @@ pub record-refusals : RecordRefusals
 unfolding readRecord recordFrom
 record-refusals s at k =
     let x = numbers fields (drop at s) in
-    let p = numbers-stopped (drop at s) k in
+    let p = numbers-stopped fields (drop at s) k in
     (λ e. p .0 (from-refused (length s) x k e), λ h. ap (recordFrom (length s)) (p .1 h))
 
 if-skipped : (t : Bool) (r : Record) (m k next : ℕ) → recordIf t r m ≡ RecordAnswer.Skipped k next → (k ≡ limits) × (t ≡ false) × (next ≡ m)

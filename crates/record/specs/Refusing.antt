@@ -8,9 +8,10 @@ use lib.ListN.{length, drop}
 use lib.Dec.{leb}
 use Rattle.amounts.specs.Refusals.{limits}
 use Rattle.record.specs.Refusals.{cutShort, malformed, smallRecordBuffer}
-use Rattle.record.specs.Record.{taken, mostGroups, numbers, fields, recordOf, recordOk, readRecord}
+use Rattle.record.specs.Record.{taken, mostGroups, numbers, fields, recordOf, recordOk, readRecord, numbersAnswer, numbersLeft}
 use Rattle.record.specs.Save.{noneBelow, recordRoom, saved, savedIn}
 use Rattle.record.specs.declared.record.Record.{Record}
+use Rattle.record.specs.declared.record.NumbersAnswer.the-variants as NumbersAnswer
 use Rattle.record.specs.declared.record.RecordAnswer.the-variants as RecordAnswer
 use Rattle.record.specs.declared.save.SaveAnswer.the-variants as SaveAnswer
 
@@ -41,11 +42,21 @@ pub data After (l : List ℕ) : ℕ → List ℕ → Type 0 where
   at-once : After l 0 l
   further : {n : ℕ} {u r : List ℕ} → After l n (u ++ r) → WholeNumber u → After l (suc n) r
 
--- after fewer numbers than a record has, the next one does not do: the first met decides
-pub data Stopped (l : List ℕ) : ℕ → Type 0 where
-  by-6 : {n : ℕ} {r : List ℕ} → n < fields → After l n r → EndsInside r → Stopped l cutShort
-  by-7-ninth : {n : ℕ} {r : List ℕ} → n < fields → After l n r → NinthGroup r → Stopped l malformed
-  by-7-zero : {n : ℕ} {r : List ℕ} → n < fields → After l n r → ZeroLast r → Stopped l malformed
+-- of m numbers, after fewer than these, the next one does not do: the first met decides
+pub data StoppedBefore (m : ℕ) (l : List ℕ) : ℕ → Type 0 where
+  by-6 : {n : ℕ} {r : List ℕ} → n < m → After l n r → EndsInside r → StoppedBefore m l cutShort
+  by-7-ninth : {n : ℕ} {r : List ℕ} → n < m → After l n r → NinthGroup r → StoppedBefore m l malformed
+  by-7-zero : {n : ℕ} {r : List ℕ} → n < m → After l n r → ZeroLast r → StoppedBefore m l malformed
+
+-- as many numbers as a slice has places: a refusal leaves the slice as it was
+abbrev pub NumbersRefusals : Type 0
+NumbersRefusals = (s : List ℕ) (at : ℕ) (out : List ℕ) (k : ℕ)
+    → let x = numbers (length out) (drop at s) in
+    ((numbersAnswer (length s) x ≡ NumbersAnswer.Refused k) ↔ StoppedBefore (length out) (drop at s) k) × (numbersAnswer (length s) x ≡ NumbersAnswer.Refused k → numbersLeft x out ≡ out)
+
+-- a record's eleven
+abbrev pub Stopped : List ℕ → ℕ → Type 0
+Stopped l k = StoppedBefore fields l k
 
 abbrev pub RecordRefusals : Type 0
 RecordRefusals = (s : List ℕ) (at k : ℕ) → (readRecord s at ≡ RecordAnswer.Refused k) ↔ Stopped (drop at s) k

@@ -47,7 +47,7 @@ module _ (f : Record → Text) (flat : Bool) (P : List ℕ → Type 0) (texts : 
       go true m = stands-by (f (recordOf (asHeld flat v))) _ (texts (recordOf (asHeld flat v))) m
       go false m = stands-line _ _ (lines limits (lit< tt)) (m .0) (m .1)
   stands-read (refused k) e b =
-      stands-line _ _ (lines k (⊎-elim (λ z. omega arith) (λ z. omega arith) (stopped-number (numbers-stopped (drop at s) k .0 e)))) b (le-refl (length s))
+      stands-line _ _ (lines k (⊎-elim (λ z. omega arith) (λ z. omega arith) (stopped-number (numbers-stopped fields (drop at s) k .0 e)))) b (le-refl (length s))
 
   -- there is none from the end on
   pub step-before : (t : List ℕ) (next : ℕ) → stepAt f s at (readAs flat s at) ≡ line t next → at < length s

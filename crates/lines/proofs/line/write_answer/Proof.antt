@@ -30,7 +30,7 @@ cast-write-counted : tie.Need-cast-write-counted
 cast-write-counted c = search needs
 
 write-counted-requires : tie.Need-write-counted-requires
-write-counted-requires c κs = le-trans (counted-most 82 _ (omega arith)) (c .before .before .before .before .if1 .left)
+write-counted-requires c κs = le-trans (counted-most _ _ (omega arith)) (c .before .before .before .before .if1 .left)
 
 same-length : tie.Need-same-length
 same-length c = search needs

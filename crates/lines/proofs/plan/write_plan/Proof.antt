@@ -18,7 +18,7 @@ cast-write-counted : tie.Need-cast-write-counted
 cast-write-counted c = search needs
 
 write-counted-requires : tie.Need-write-counted-requires
-write-counted-requires c κs = le-trans (counted-most 78 _ (omega arith)) (c .before .before .before .before .if1 .left)
+write-counted-requires c κs = le-trans (counted-most _ _ (omega arith)) (c .before .before .before .before .if1 .left)
 
 enum-known-plan-2 : tie.Need-enum-known-plan-2
 enum-known-plan-2 c = search needs
@@ -33,7 +33,7 @@ cast-write-counted-2 : tie.Need-cast-write-counted-2
 cast-write-counted-2 c = search needs
 
 write-counted-requires-2 : tie.Need-write-counted-requires-2
-write-counted-requires-2 c κs = le-trans (counted-most 82 _ (omega arith)) (c .before .before .before .before .if1 .left)
+write-counted-requires-2 c κs = le-trans (counted-most _ _ (omega arith)) (c .before .before .before .before .if1 .left)
 
 same-length : tie.Need-same-length
 same-length c = search needs
