@@ -5,8 +5,8 @@ use Rattle.elementary.specs.Float.{finite, positive, count}
 use Rattle.elementary.specs.Reply.{given}
 use Rattle.elementary.specs.Checks.{verdict, firstOf, firstFailing}
 use Rattle.elementary.specs.Elementary.{horner, mantissa, exponent, odds, lnSum, lnSeries, lnJoin, lnParts, lnHalved, lnOf, LN, ln1pOf, LN1P, factorials, expSum, expN, expRest, expBy, expOf, EXP, ceilOf, CEIL, orNan}
-use Rattle.series.specs.Vectors.{from, everyFrom, fold, larger, abs}
-use Rattle.series.specs.Series.{diagonalAt, leftAt, rightAt}
+use Rattle.operator.specs.Vectors.{from, everyFrom, fold, larger, abs}
+use Rattle.operator.specs.Operator.{diagonalAt, leftAt, rightAt}
 use Rattle.vector.specs.Run.{magnitudes, norm, needed, start, begin, runOn, fixed, firstIf, run, runFrom}
 use Rattle.vector.specs.Values.{padded, vectorOf, ratesOk}
 use Rattle.distances.specs.Distances.{place, distance, bidAt, askAt, fine, sides, exactAt}

@@ -6,8 +6,8 @@ use lib.IntN.{ℤ, pos, negℤ}
 use lib.Ieee.{Float}
 use Rattle.elementary.specs.Float.{_⊕_, _⊘_, hex, whole, 0ᶠ, ½ᶠ, 1ᶠ, 2ᶠ}
 use Rattle.elementary.specs.Elementary.{LN2}
-use Rattle.vector.specs.Refusals.{numerical}
-use Rattle.series.specs.Vectors.{fill}
+use Rattle.series.specs.Refusals.{numerical}
+use Rattle.operator.specs.Vectors.{fill}
 use Rattle.vector.specs.Run.{Fixed, Turn, going, ended, vector, overCap, failed, cap, norm, firstTurn, fixed}
 use Rattle.vector.specs.declared.RunInput.{RunInput}
 use Rattle.distances.specs.FloatEntry.{floatEntry}

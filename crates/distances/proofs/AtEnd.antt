@@ -18,8 +18,8 @@ use Rattle.elementary.specs.Reply.{given}
 use Rattle.elementary.specs.Elementary.{horner, mantissa, exponent, odds, lnSum, lnSeries, lnJoin, lnParts, lnHalved, lnOf, LN, orNan}
 use Rattle.elementary.proofs.Count.{positive-is}
 use Rattle.elementary.proofs.Exact.{minusZero, zero-add-f, zero-div}
-use Rattle.series.specs.Vectors.{at, fill}
-use Rattle.series.specs.Series.{rows}
+use Rattle.operator.specs.Vectors.{at, fill}
+use Rattle.operator.specs.Operator.{rows}
 use Rattle.vector.specs.Run.{fixed, runFor, run, runFrom}
 use Rattle.vector.specs.Values.{padded, vectorOf}
 use Rattle.distances.specs.Distances.{place, distance, bidAt, askAt, fine, sides, exactAt}

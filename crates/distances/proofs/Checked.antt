@@ -9,7 +9,7 @@ use Rattle.elementary.specs.Elementary.{outside}
 use Rattle.elementary.specs.Checks.{passes, refused, firstOf, firstFailing, here, Passes, none, each}
 use Rattle.elementary.proofs.Checks.{first-failing, none-failing, failing-joined}
 use Rattle.vector.specs.Run.{boundOk, run}
-use Rattle.series.specs.Series.{rows}
+use Rattle.operator.specs.Operator.{rows}
 use Rattle.vector.specs.Values.{vectorBy, vectorIf, vectorOver, ratesOk, inputChecks, valueVector}
 use Rattle.vector.specs.declared.RunInput.{RunInput}
 use Rattle.vector.proofs.Bounds.{all-passed}

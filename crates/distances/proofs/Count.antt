@@ -8,7 +8,7 @@ use lib.Ieee.{Float, lt}
 use Rattle.elementary.specs.Float.{0ᶠ}
 use Rattle.elementary.specs.Checks.{Verdict, passes, refused, firstFailing, Refuses, here, later}
 use Rattle.elementary.proofs.Checks.{first-failing}
-use Rattle.vector.specs.Refusals.{numerical}
+use Rattle.series.specs.Refusals.{numerical}
 use Rattle.vector.specs.Run.{going, cap, runOn, run, fixed, spent}
 use Rattle.vector.specs.Count.{planAhead, planIf, FirstGoes}
 use Rattle.vector.specs.Causes.{CapReported}

@@ -11,9 +11,9 @@ use lib.ListN.{length, List·getD-append}
 use lib.Ieee.{Float, nan}
 use Rattle.elementary.specs.Checks.{Verdict, passes, refused, firstFailing}
 use Rattle.elementary.proofs.Signs.{finite-neg}
-use Rattle.series.specs.Vectors.{at, Mirror}
+use Rattle.operator.specs.Vectors.{at, Mirror}
 use Rattle.vector.specs.Run.{Ended, vector, overCap, failed, boundOk, run, spent}
-use Rattle.series.specs.Series.{rows}
+use Rattle.operator.specs.Operator.{rows}
 use Rattle.vector.specs.Values.{padded, vectorOf, blankVector, ratesOk}
 use Rattle.vector.specs.Promises.{MirrorEnd, turnedInput}
 use Rattle.vector.specs.declared.RunInput.{RunInput}

@@ -9,7 +9,7 @@ use lib.Dec.{T, leb, eqb, leb·zero, leb·suc-zero, leb·suc-suc}
 use mir.Facts.{and-yes, leb-yes, eqb-yes}
 use borrow.Author.Tests.{le-ltb}
 use Rattle.vector.specs.Run.{boundOk}
-use Rattle.series.specs.Series.{rows}
+use Rattle.operator.specs.Operator.{rows}
 use Rattle.distances.specs.Distances.{place, lengthOk}
 
 -- ---- the length of a vector

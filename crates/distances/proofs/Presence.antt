@@ -10,7 +10,7 @@ use lib.Dec.{ltb}
 use lib.Ieee.{Float}
 use Rattle.elementary.specs.Checks.{Verdict, passes, refused, firstFailing}
 use Rattle.vector.specs.Run.{Ended, vector, overCap, failed, run}
-use Rattle.series.specs.Series.{rows}
+use Rattle.operator.specs.Operator.{rows}
 use Rattle.vector.specs.Values.{vectorOf}
 use Rattle.vector.specs.declared.ValueVector.{ValueVector}
 use Rattle.distances.specs.Distances.{place, bidAt, askAt, sides, exactAt}

@@ -11,7 +11,7 @@ use borrow.Author.Tests.{eq-eqb}
 use Rattle.elementary.specs.Float.{positive}
 use Rattle.elementary.specs.Checks.{verdict, firstOf, firstFailing}
 use Rattle.vector.specs.Run.{Ended, vector, overCap, failed, boundOk, run}
-use Rattle.series.specs.Series.{rows}
+use Rattle.operator.specs.Operator.{rows}
 use Rattle.vector.specs.Values.{vectorOf, refusedVector, vectorBy}
 use Rattle.vector.specs.declared.ValueVector.{ValueVector}
 use Rattle.vector.specs.declared.Outcome.{Outcome}

@@ -10,9 +10,9 @@ use lib.Dec.{ltb}
 use lib.Ieee.{Float}
 use Rattle.elementary.specs.Checks.{Verdict, passes, refused, firstFailing, Refuses, here, later, Passes, none, each}
 use Rattle.elementary.proofs.Checks.{first-failing, none-failing}
-use Rattle.vector.specs.Refusals.{numerical}
+use Rattle.series.specs.Refusals.{numerical}
 use Rattle.vector.specs.Run.{Ended, vector, overCap, failed, cap, run}
-use Rattle.series.specs.Series.{rows}
+use Rattle.operator.specs.Operator.{rows}
 use Rattle.vector.specs.Values.{vectorOf}
 use Rattle.vector.specs.declared.RunInput.{RunInput}
 use Rattle.vector.specs.declared.ValueVector.{ValueVector}

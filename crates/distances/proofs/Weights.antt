@@ -5,7 +5,7 @@ use lib.Ieee.{Float, nan, inf, fin, neg, add, sub, div}
 use Rattle.elementary.specs.Float.{_⊖_, finite, positive}
 use Rattle.elementary.specs.Reply.{given}
 use Rattle.elementary.specs.Elementary.{LN, orNan}
-use Rattle.series.specs.Vectors.{at}
+use Rattle.operator.specs.Vectors.{at}
 use Rattle.distances.specs.Distances.{distance}
 use Rattle.distances.specs.Weights.{WeightsRead, DistanceFails, own-weight, next-weight, itself, DistancesFail}
 

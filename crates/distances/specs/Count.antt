@@ -9,7 +9,7 @@ use Rattle.elementary.specs.Float.{0ᶠ}
 use Rattle.elementary.specs.Elementary.{outside}
 use Rattle.elementary.specs.Checks.{firstFailing}
 use Rattle.vector.specs.Refusals.{configuration}
-use Rattle.vector.specs.Refusals.{numerical}
+use Rattle.series.specs.Refusals.{numerical}
 use Rattle.vector.specs.Run.{going, cap, boundOk, runOn, fixed}
 use Rattle.vector.specs.Count.{planAhead, planIf, FirstIs, FirstGoes}
 use Rattle.vector.specs.declared.RunInput.{RunInput}

@@ -9,10 +9,10 @@ use Rattle.elementary.specs.Float.{_⊕_, _⊖_, _⊘_, finite, positive}
 use Rattle.elementary.specs.Elementary.{LN, outside, orNan}
 use Rattle.elementary.specs.Checks.{Verdict, passes, refused, firstFailing}
 use Rattle.vector.specs.Refusals.{configuration}
-use Rattle.vector.specs.Refusals.{numerical}
-use Rattle.series.specs.Vectors.{at}
+use Rattle.series.specs.Refusals.{numerical}
+use Rattle.operator.specs.Vectors.{at}
 use Rattle.vector.specs.Run.{boundOk}
-use Rattle.series.specs.Series.{rows}
+use Rattle.operator.specs.Operator.{rows}
 use Rattle.vector.specs.declared.ValueVector.{ValueVector}
 use Rattle.distances.specs.Refusals.{holding}
 use Rattle.distances.specs.declared.Distance.{Distance}

@@ -7,9 +7,9 @@ use lib.IntN.{ℤ, pos, negℤ, natAbs}
 use lib.Dec.{T, ltb}
 use lib.Ieee.{Float, binary64, lt, fits}
 use Rattle.elementary.specs.Float.{0ᶠ, 1ᶠ}
-use Rattle.series.specs.Vectors.{fill, Mirror}
+use Rattle.operator.specs.Vectors.{fill, Mirror}
 use Rattle.vector.specs.Run.{cap, boundOk}
-use Rattle.series.specs.Series.{rows}
+use Rattle.operator.specs.Operator.{rows}
 use Rattle.vector.specs.Values.{vectorOf}
 use Rattle.vector.specs.Promises.{turnedInput}
 use Rattle.vector.specs.declared.RunInput.{RunInput}

@@ -9,9 +9,9 @@ use lib.Ieee.{Float, lt}
 use Rattle.elementary.specs.Float.{0ᶠ, positive}
 use Rattle.elementary.specs.Elementary.{outside}
 use Rattle.vector.specs.Refusals.{configuration}
-use Rattle.vector.specs.Refusals.{numerical}
+use Rattle.series.specs.Refusals.{numerical}
 use Rattle.vector.specs.Run.{vector, cap, boundOk, fixed, run}
-use Rattle.series.specs.Series.{rows}
+use Rattle.operator.specs.Operator.{rows}
 use Rattle.vector.specs.Values.{vectorOf}
 use Rattle.vector.specs.Causes.{RunFails, CapReported}
 use Rattle.vector.specs.declared.RunInput.{RunInput}

@@ -5,7 +5,7 @@ use Prim.Native.Nat.{ℕ}
 use mathlib.Core.Bool.{true, false}
 use lib.Ieee.{Float}
 use Rattle.elementary.specs.Float.{finite, positive}
-use Rattle.series.specs.Vectors.{at}
+use Rattle.operator.specs.Vectors.{at}
 use Rattle.distances.specs.Distances.{distance}
 use Rattle.vector.specs.declared.ValueVector.{ValueVector}
 

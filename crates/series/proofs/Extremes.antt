@@ -17,9 +17,9 @@ use Rattle.elementary.specs.Float.{0ᶠ, finite, positive}
 use Rattle.elementary.proofs.Signs.{nonneg}
 use Rattle.elementary.proofs.Order.{le-trans-f, not-lt→le, lt→le, lt→not-ge, finite-below}
 use Rattle.elementary.proofs.Exact.{value-unique, zero-is}
-use Rattle.series.specs.Vectors.{from, tab, everyFrom, every, fold, larger, smaller}
-use Rattle.series.proofs.Loops.{fold-zero, fold-suc, larger-left}
-use Rattle.series.proofs.Lists.{Opposite, every-each, every-of, same-truth, every-both, every-mirror, fold-mirror}
+use Rattle.operator.specs.Vectors.{from, tab, everyFrom, every, fold, larger, smaller}
+use Rattle.operator.proofs.Loops.{fold-zero, fold-suc, larger-left}
+use Rattle.operator.proofs.Lists.{Opposite, every-each, every-of, same-truth, every-both, every-mirror, fold-mirror}
 
 -- ---- `not below` goes from one value to the next, and to a third, where the middle one is no NaN
 -- for ±a / p, ±b / q and ±c / r

@@ -13,12 +13,14 @@ use lib.ListN.{length}
 use lib.Ieee.{Float, inf, binary64, lt, fits}
 use Rattle.elementary.specs.Float.{_⊕_, _⊖_, _⊗_, _⊘_, whole, 0ᶠ, 1ᶠ, finite}
 use Rattle.elementary.specs.Elementary.{EXP, orNan}
-use Rattle.series.specs.Vectors.{tab, at, fill, before, after, every, fold, larger, smaller, Mirror}
-use Rattle.series.specs.Series.{rows, Operator, operatorOver, leftAt, rightAt, rowAt, plus, small, converged}
-use Rattle.series.specs.Slices.{past, rightBy, besideOf, besideAt, sliceRow, sliceTerm, Fit, Ones}
+use Rattle.operator.specs.Vectors.{tab, at, fill, before, after, every, fold, larger, smaller, Mirror}
+use Rattle.operator.specs.Operator.{rows, leftAt, rightAt}
+use Rattle.series.specs.Series.{Operator, operatorOver, rowAt, plus, small, converged}
+use Rattle.operator.specs.Slices.{past, rightBy, Ones}
+use Rattle.series.specs.Slices.{besideOf, besideAt, sliceRow, sliceTerm, Fit}
 use Rattle.series.specs.Half.{filledOut, mirrored, fullSize, fullFactors, full, fullOperator, Centred}
-use Rattle.series.proofs.Lists.{Opposite, length-tab, at-tab, tab-ext, tab-own, every-ext}
-use Rattle.series.proofs.Loops.{before-later, after-within, after-last, fill-tab}
+use Rattle.operator.proofs.Lists.{Opposite, length-tab, at-tab, tab-ext, tab-own, every-ext}
+use Rattle.operator.proofs.Loops.{before-later, after-within, after-last, fill-tab}
 use Rattle.series.proofs.Terms.{row-is, beside-is, Made, made, fit-tab}
 use Rattle.series.proofs.Mirror.{row-alike, factors-opposite}
 use Rattle.series.proofs.Half.{at-near, at-far, mirrored-turned, mirrored-tab, every-half, largest-half, smallest-half}

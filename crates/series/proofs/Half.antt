@@ -9,11 +9,11 @@ use borrow.Author.Tests.{leb-true, leb-false, lt-ltb, le-ltb, ltb-true, ltb-fals
 use lib.Dec.{T, ltb, leb}
 use lib.Ieee.{Float, inf, binary64, lt, fits}
 use Rattle.elementary.specs.Float.{0ᶠ}
-use Rattle.series.specs.Vectors.{tab, at, every, fold, larger, smaller, Mirror}
-use Rattle.series.specs.Series.{rows}
+use Rattle.operator.specs.Vectors.{tab, at, every, fold, larger, smaller, Mirror}
+use Rattle.operator.specs.Operator.{rows}
 use Rattle.series.specs.Half.{filledOut, mirrored}
-use Rattle.series.proofs.Lists.{Opposite, at-tab, tab-ext, every-each, every-of, same-truth}
-use Rattle.series.proofs.Loops.{fold-suc, larger-left}
+use Rattle.operator.proofs.Lists.{Opposite, at-tab, tab-ext, every-each, every-of, same-truth}
+use Rattle.operator.proofs.Loops.{fold-suc, larger-left}
 use Rattle.series.proofs.Extremes.{largest-above, smallest-floor}
 
 -- ---- the entries

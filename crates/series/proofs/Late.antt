@@ -8,10 +8,10 @@ use Rattle.elementary.specs.Float.{_⊕_, 0ᶠ, finite, positive}
 use Rattle.elementary.specs.Reply.{Reply, value, refusal, given}
 use Rattle.elementary.proofs.Signs.{add-comm-f}
 use Rattle.series.specs.Refusals.{numerical}
-use Rattle.series.specs.Vectors.{at, every}
+use Rattle.operator.specs.Vectors.{at, every}
 use Rattle.series.specs.Series.{Operator, term, plus, bothFinite, converged, summing, summed, judge, nextTerm, series, taylorStep}
 use Rattle.series.specs.Late.{late, lateTerm, lateSeries, AskedOnce}
-use Rattle.series.proofs.Lists.{at-tab, every-ext, every-both}
+use Rattle.operator.proofs.Lists.{at-tab, every-ext, every-both}
 use Rattle.series.proofs.Terms.{finite-term, at-end}
 
 late-end : (k : ℕ) (p : Operator) (eta : Float) (j : ℕ) (x : Reply (List Float)) → lateSeries k p eta j (summed x) ≡ x

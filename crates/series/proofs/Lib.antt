@@ -1,5 +1,3 @@
-pub mod Lists
-pub mod Loops
 pub mod Extremes
 pub mod Terms
 pub mod Late

@@ -11,9 +11,10 @@ use Rattle.elementary.specs.Float.{_⊗_, 0ᶠ}
 use Rattle.elementary.specs.Reply.{Reply, value, refusal, given}
 use Rattle.elementary.proofs.Signs.{add-comm-f}
 use Rattle.series.specs.Refusals.{numerical}
-use Rattle.series.specs.Vectors.{tab, at, before, after, every, fold, larger, Mirror}
-use Rattle.series.specs.Series.{leftAt, rightAt, operatorOver, rowAt, applied, term, plus, bothFinite, converged, Sum, summing, summed, judge, nextTerm, series, taylorStep}
-use Rattle.series.proofs.Lists.{Opposite, at-tab, every-mirror}
+use Rattle.operator.specs.Vectors.{tab, at, before, after, every, fold, larger, Mirror}
+use Rattle.operator.specs.Operator.{leftAt, rightAt}
+use Rattle.series.specs.Series.{operatorOver, rowAt, applied, term, plus, bothFinite, converged, Sum, summing, summed, judge, nextTerm, series, taylorStep}
+use Rattle.operator.proofs.Lists.{Opposite, at-tab, every-mirror}
 use Rattle.series.proofs.Extremes.{largest-mirror}
 
 -- ---- a vector and one that mirrors it

@@ -7,7 +7,7 @@ use mathlib.Core.List.{List, [], _∷_}
 use lib.ListN.{length, set}
 use lib.Ieee.{Float}
 use Rattle.elementary.specs.Float.{_⊗_}
-use Rattle.series.specs.Vectors.{from, tab, at, everyFrom, every}
+use Rattle.operator.specs.Vectors.{from, tab, at, everyFrom, every}
 use Rattle.series.specs.Series.{operatorOver}
 use Rattle.series.specs.Slices.{besideAt, sliceRow, sliceTerm, SliceSum, moreTerms, seriesOver}
 

@@ -9,10 +9,11 @@ use lib.Ieee.Fits.{add-fits, mul-fits}
 use Rattle.elementary.specs.Float.{positive}
 use Rattle.elementary.specs.Reply.{value, refusal, given}
 use Rattle.series.specs.Refusals.{numerical}
-use Rattle.series.specs.Vectors.{at, every}
+use Rattle.operator.specs.Vectors.{at, every}
 use Rattle.series.specs.Series.{Operator, operatorOver, plus, summing, taylorStep}
 use Rattle.series.specs.Late.{late, lateTerm, lateSeries}
-use Rattle.series.specs.Slices.{sliceTerm, SliceSum, withTerm, moreTerms, seriesOver, stepIf, Fit, Ones}
+use Rattle.series.specs.Slices.{sliceTerm, SliceSum, withTerm, moreTerms, seriesOver, stepIf, Fit}
+use Rattle.operator.specs.Slices.{Ones}
 use Rattle.series.specs.Half.{fullSize, full, fullOperator, Centred, StepIs, SumIs, StepStands}
 use Rattle.series.proofs.Terms.{fit-tab}
 use Rattle.series.proofs.Late.{asked-once}

@@ -14,11 +14,12 @@ use Rattle.elementary.specs.Float.{_⊕_, _⊖_, _⊗_, _⊘_, whole, 1ᶠ, fin
 use Rattle.elementary.specs.Reply.{Reply}
 use Rattle.elementary.proofs.Signs.{add-finite}
 use Rattle.elementary.proofs.Exact.{one-whole, mul-one-f, one-mul-f, div-one-f}
-use Rattle.series.specs.Vectors.{tab, at, before, after}
+use Rattle.operator.specs.Vectors.{tab, at, before, after}
 use Rattle.series.specs.Series.{Operator, rowAt, applied, term, plus, converged, summed, series}
-use Rattle.series.specs.Slices.{Fit, OneAt}
-use Rattle.series.proofs.Loops.{at-stored}
-use Rattle.series.proofs.Lists.{length-tab, at-tab, tab-ext}
+use Rattle.series.specs.Slices.{Fit}
+use Rattle.operator.specs.Slices.{OneAt}
+use Rattle.operator.proofs.Loops.{at-stored}
+use Rattle.operator.proofs.Lists.{length-tab, at-tab, tab-ext}
 
 -- ---- a row
 -- row i from the entries beside it, as the code reads them

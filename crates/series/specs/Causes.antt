@@ -8,7 +8,7 @@ use lib.Ieee.{Float, lt}
 use Rattle.elementary.specs.Float.{0ᶠ}
 use Rattle.elementary.specs.Reply.{refusal}
 use Rattle.series.specs.Refusals.{numerical}
-use Rattle.series.specs.Vectors.{at, every}
+use Rattle.operator.specs.Vectors.{at, every}
 use Rattle.series.specs.Series.{Operator, term, plus, bothFinite, converged, mostTerms, taylorStep}
 
 -- From the last term t and the sum s before term j: the sum with term j; are term and sum finite; has every entry converged; is every entry of the sum above zero.

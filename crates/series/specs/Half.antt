@@ -8,9 +8,11 @@ use lib.Dec.{ltb}
 use lib.Ieee.{Float}
 use Rattle.elementary.specs.Float.{positive}
 use Rattle.elementary.specs.Reply.{Reply, value, refusal}
-use Rattle.series.specs.Vectors.{tab, at, every}
-use Rattle.series.specs.Series.{rows, Operator, operatorOver, taylorStep}
-use Rattle.series.specs.Slices.{SliceSum, stepOver, Sizes, Fit, Ones}
+use Rattle.operator.specs.Vectors.{tab, at, every}
+use Rattle.operator.specs.Operator.{rows}
+use Rattle.series.specs.Series.{Operator, operatorOver, taylorStep}
+use Rattle.series.specs.Slices.{SliceSum, stepOver, Sizes, Fit}
+use Rattle.operator.specs.Slices.{Ones}
 
 -- ---- m rows of two lists: before row n l's, and from there r's from the far end
 unfoldable pub filledOut : ℕ → ℕ → List Float → List Float → List Float

@@ -7,7 +7,7 @@ use lib.Ieee.{Float}
 use Rattle.elementary.specs.Float.{positive}
 use Rattle.elementary.specs.Reply.{Reply, value, refusal, given}
 use Rattle.series.specs.Refusals.{numerical}
-use Rattle.series.specs.Vectors.{at, every}
+use Rattle.operator.specs.Vectors.{at, every}
 use Rattle.series.specs.Series.{Operator, term, plus, converged, Sum, summing, summed, mostTerms, taylorStep}
 
 -- a new term and sum: has every entry converged; then each is to be finite and above zero

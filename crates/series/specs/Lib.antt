@@ -1,5 +1,4 @@
 pub mod Refusals
-pub mod Vectors
 pub mod Series
 pub mod Late
 pub mod Slices

@@ -1,35 +1,13 @@
--- Document 01, module 2: the diagonal, the factors, the operator and one Taylor step. Definitions only.
-use Prim.Native.Nat.{ℕ, zero, suc, _+_, _*_}
-use mathlib.Core.Bool.{Bool, true, false, _&&_, cond}
+-- Document 01, module 2: the operator on a vector, and one Taylor step. Definitions only.
+use Prim.Native.Nat.{ℕ, zero, suc}
+use mathlib.Core.Bool.{Bool, true, false, _&&_}
 use mathlib.Core.List.{List}
 use lib.IntN.{pos}
-use lib.Dec.{ltb}
-use lib.Ieee.{Float, minus, lt, le}
-use Rattle.elementary.specs.Float.{_⊕_, _⊖_, _⊗_, _⊘_, hex, whole, 0ᶠ, 1ᶠ, 2ᶠ, finite}
+use lib.Ieee.{Float, lt, le}
+use Rattle.elementary.specs.Float.{_⊕_, _⊖_, _⊗_, _⊘_, hex, whole, 0ᶠ, 1ᶠ, finite}
 use Rattle.elementary.specs.Reply.{Reply, value, refusal, given}
-use Rattle.elementary.specs.Elementary.{EXP, orNan}
 use Rattle.series.specs.Refusals.{numerical}
-use Rattle.series.specs.Vectors.{tab, at, before, after, every, abs}
-
--- ---- the rows of a bound: row i is the holding of i - bound lots
-abbrev pub rows : ℕ → ℕ
-rows bound = 2 * bound + 1
-
--- ((alpha × q) × q - beta × q) + 2 × eta
-unfoldable pub diagonalAt : ℕ → Float → Float → Float → ℕ → Float
-diagonalAt bound alpha beta eta i = let q = whole (minus i bound) in alpha ⊗ q ⊗ q ⊖ beta ⊗ q ⊕ 2ᶠ ⊗ eta
-
--- EXP of the neighbour's offset minus one's own; 0.0 past an end. A NaN where EXP refuses.
-unfoldable pub leftAt : List Float → ℕ → Float
-leftAt o zero = 0ᶠ
-leftAt o (suc i) = orNan (EXP (at o i ⊖ at o (suc i)))
-
--- in the last row as given
-abbrev pub rightOr : ℕ → List Float → ℕ → Float → Float
-rightOr n o i last = cond (ltb (suc i) n) (orNan (EXP (at o (suc i) ⊖ at o i))) last
-
-unfoldable pub rightAt : ℕ → List Float → ℕ → Float
-rightAt n o i = rightOr n o i 0ᶠ
+use Rattle.operator.specs.Vectors.{tab, at, before, after, every, abs}
 
 -- ---- the operator over n rows, with a step's diagonal
 pub record Operator : Type 0 where

@@ -4,7 +4,7 @@ ghost use mathlib.Core.Path.{_≡_};
 ghost use lib.ListN.{length};
 ghost use mathlib.Core.Bool.{true, false};
 ghost use Rattle.elementary.specs.Float.{_⊗_};
-ghost use Rattle.series.specs.Vectors.{tab};
+ghost use Rattle.operator.specs.Vectors.{tab};
 ghost use Rattle.series.specs.Series.{operatorOver};
 ghost use Rattle.series.specs.Slices.{sliceRow, sliceTerm, sumOf, withTerm, seriesOver};
 ghost use Rattle.series.specs.Pairs.{pairOf, operatorOf, partialOf};

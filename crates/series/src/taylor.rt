@@ -15,7 +15,7 @@ pub(crate) const MAX_TAYLOR_ORDER: u32 = 100;
 pub(crate) fn is_small(t: f64, s: f64) -> bool
     ensures { λ r. ⌜ r ≡ small s t ⌝ }
 {
-    crate::reals::magnitude(t) <= TAYLOR_TOL * crate::reals::magnitude(s)
+    operator::magnitude(t) <= TAYLOR_TOL * operator::magnitude(s)
 }
 
 // Whether every entry of a term is small beside its sum.
@@ -64,13 +64,13 @@ fn first_term(
     let mut i: usize = 0;
     while i + 1 < out.len() {
         let x = v[i];
-        let t = crate::operator::row_at(v, diag, eta_dt, left, right, i, lower, v[i + 1]);
+        let t = crate::rows::row_at(v, diag, eta_dt, left, right, i, lower, v[i + 1]);
         out[i] = t;
         v[i] = x + t;
         lower = x;
         i += 1;
     }
-    let t = crate::operator::last_row(v, diag, eta_dt, left, right, half, i, lower);
+    let t = crate::rows::last_row(v, diag, eta_dt, left, right, half, i, lower);
     out[i] = t;
     v[i] = v[i] + t;
     has_converged(out, v)
@@ -96,19 +96,19 @@ fn next_term(
         (sliceTerm half plain (operatorOver (length (now (x .entry))) (now (diag .entry)) (now (left .entry)) (now (right .entry))) «eta_dt» order (now (x .entry))) ⌝ }
 {
     let inv = 1.0 / (order as f64);
-    let first = crate::operator::row_at(x, diag, eta_dt, left, right, 0, 0.0, x[1]) * inv;
+    let first = crate::rows::row_at(x, diag, eta_dt, left, right, 0, 0.0, x[1]) * inv;
     let mut lower = x[0];
     let mut i: usize = 1;
     while i + 1 < x.len() {
         let centre = x[i];
-        let beside = crate::operator::beside(left, right, plain, i, lower, x[i + 1]);
+        let beside = crate::rows::beside(left, right, plain, i, lower, x[i + 1]);
         let t = (eta_dt * beside - diag[i] * centre) * inv;
         x[i] = t;
         v[i] = v[i] + t;
         lower = centre;
         i += 1;
     }
-    let last = crate::operator::last_row(x, diag, eta_dt, left, right, half, i, lower) * inv;
+    let last = crate::rows::last_row(x, diag, eta_dt, left, right, half, i, lower) * inv;
     x[i] = last;
     v[i] = v[i] + last;
     x[0] = first;
@@ -146,9 +146,7 @@ fn taylor_rows(
 fn step_fits(n: usize, diag: usize, left: usize, right: usize, term: usize) -> bool
     ensures { λ r. ⌜ r ≡ fiveSized n diag left right term ⌝ }
 {
-    (2 <= n)
-        & crate::operator::both_sized(n, diag, left)
-        & crate::operator::both_sized(n, right, term)
+    (2 <= n) & ((diag == n) & (left == n)) & ((right == n) & (term == n))
 }
 
 // One Taylor step of v: whether it has converged within 100 terms. The step is good where every sum is

@@ -16,8 +16,8 @@ use Rattle.elementary.specs.Checks as Checks
 use Rattle.elementary.proofs.Checks.{first-failing}
 use Rattle.elementary.proofs.Order.{lt→not-ge}
 use Rattle.series.specs.Refusals.{numerical}
-use Rattle.series.specs.Vectors.{tab, at, fill, every}
-use Rattle.series.specs.Series.{diagonalAt, leftAt, rightAt, rows}
+use Rattle.operator.specs.Vectors.{tab, at, fill, every}
+use Rattle.operator.specs.Operator.{diagonalAt, leftAt, rightAt, rows}
 use Rattle.vector.specs.Run.{Ended, overCap, failed, Fixed, fixedOver, Turn, ended, runOn, run, runFor, spent, cap, boundOk, needed, start, begin, wholePlan, diagonalFinite, firstIf, firstTurn, fixed, runFrom}
 use Rattle.vector.specs.Values.{ratesOk, inputChecks}
 use Rattle.vector.specs.Count.{planIn, planWhen, planIf, firstPlan, firstNorm, firstSize, FirstIs, no-time, not-finite, fails, over, kept, FirstPlanIs, by-5, by-1, passed, FirstPlans, FirstGoes, planAhead, planOver}

@@ -13,8 +13,8 @@ use lib.Ieee.Bits.{is-false}
 use Rattle.elementary.specs.Float.{_⊖_, whole, 0ᶠ, 1ᶠ, positive}
 use Rattle.elementary.specs.Reply.{Reply, value, refusal}
 use Rattle.elementary.proofs.Order.{lt→not-ge}
-use Rattle.series.specs.Vectors.{tab, fill, fold, smaller}
-use Rattle.series.specs.Series.{leftAt, rightAt}
+use Rattle.operator.specs.Vectors.{tab, fill, fold, smaller}
+use Rattle.operator.specs.Operator.{leftAt, rightAt}
 use Rattle.vector.specs.Run.{Ended, vector, overCap, failed, Fixed, Going, Turn, going, ended, cap, needed, start, begin, divided, rebalances, rebalance, next, stepped, turn, runOn, fixed, diagonalFinite, firstIf, firstTurn, runFor, run, runFrom}
 use Rattle.vector.specs.Causes.{Reached, first, later, GoingKeeps, RunsEnd, stepSum, Rebalancing, weightsPositive, Planning, at-first, again, factorsFinite, timesNorm, PlanFails, by-factor, by-norm, RunFails, by-diagonal, by-plan, by-series, by-weight, RunsFail, CapReported, CapReports}
 use Rattle.vector.specs.declared.RunInput.{RunInput}

@@ -12,8 +12,8 @@ use Rattle.elementary.specs.Checks.{Verdict, passes, refused, firstFailing}
 use Rattle.elementary.proofs.Signs.{nonneg, ofInt-neg, finite-neg}
 use Rattle.elementary.proofs.Exact.{zero-is}
 use Rattle.elementary.proofs.Zeros.{zero-test, zero-times, zero-finite, sub-nothing}
-use Rattle.series.specs.Vectors.{tab, at, larger, abs}
-use Rattle.series.specs.Series.{diagonalAt, rows}
+use Rattle.operator.specs.Vectors.{tab, at, larger, abs}
+use Rattle.operator.specs.Operator.{diagonalAt, rows}
 use Rattle.vector.specs.Run.{magnitudes, Fixed, cap, boundOk, start, runOn, fixed, wholePlan, diagonalFinite, firstIf, firstTurn, runFor, run}
 use Rattle.vector.specs.Values.{vectorBy, vectorIf, ratesOk, valueVector, vectorOver, inputChecks}
 use Rattle.vector.specs.Count.{planIn, planWhen, planIf, firstPlan, firstNorm, rowSum, TwoRows, planAhead, planOver}
@@ -21,7 +21,7 @@ use Rattle.series.specs.Refusals.{numerical}
 use Rattle.vector.specs.Inner.{planFor, aheadOf}
 use Rattle.vector.specs.declared.FirstPlan.the-variants as FirstPlan
 use Rattle.vector.specs.Drift.{DriftZero, driftlessDiagonal, driftlessFixed, driftlessRun, driftlessPlan, driftlessInput, driftlessVector, driftlessFirst}
-use Rattle.series.proofs.Lists.{at-tab, tab-ext}
+use Rattle.operator.proofs.Lists.{at-tab, tab-ext}
 use Rattle.vector.proofs.Bounds.{bound-range, rates-above, input-passes}
 use Rattle.series.proofs.Extremes.{above-zero}
 use Rattle.vector.specs.declared.RunInput.{RunInput}

@@ -9,10 +9,10 @@ use lib.Ieee.{Float, inf, binary64, lt}
 use lib.Ieee.Fits.{add-fits}
 use Rattle.elementary.specs.Float.{_⊕_, _⊗_, _⊘_, 0ᶠ}
 use Rattle.elementary.proofs.Signs.{add-comm-f}
-use Rattle.series.specs.Vectors.{tab, at, fold, larger, smaller, abs}
+use Rattle.operator.specs.Vectors.{tab, at, fold, larger, smaller, abs}
 use Rattle.series.specs.Slices.{Fit}
 use Rattle.series.specs.Half.{fullSize, fullFactors, full, Centred}
-use Rattle.series.proofs.Lists.{at-tab, tab-ext}
+use Rattle.operator.proofs.Lists.{at-tab, tab-ext}
 use Rattle.series.proofs.Full.{at-full, own, fit-full, largest-full, smallest-full, full-with, own-tab, full-own-tab, left-opposite, right-opposite}
 use Rattle.vector.specs.Run.{floor, magnitudes, norm, fixedOver, divided, rebalances}
 use Rattle.vector.specs.Half.{fullFixed}

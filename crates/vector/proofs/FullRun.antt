@@ -12,11 +12,12 @@ use lib.Seq.{length-take-le, drop-append-add, getD-take}
 use lib.Ieee.{Float, nan, inf, lt}
 use Rattle.elementary.specs.Float.{_⊕_, _⊗_, 0ᶠ, 1ᶠ, finite, positive}
 use Rattle.elementary.specs.Elementary.{LN, orNan}
-use Rattle.series.specs.Vectors.{tab, at, fill, every, fold, smaller}
-use Rattle.series.specs.Series.{diagonalAt, leftAt, rows}
+use Rattle.operator.specs.Vectors.{tab, at, fill, every, fold, smaller}
+use Rattle.operator.specs.Operator.{diagonalAt, leftAt, rows}
 use Rattle.vector.specs.Run.{failed, cap, fixedOver, begin, divided, rebalances, runOn, run}
 use Rattle.vector.specs.Values.{room, padded}
-use Rattle.series.specs.Slices.{Fit, rightBy}
+use Rattle.series.specs.Slices.{Fit}
+use Rattle.operator.specs.Slices.{rightBy}
 use Rattle.vector.specs.Inner.{planOf, stoppedOf, AfterBy, AfterIs, BegunIs, EndIs}
 use Rattle.series.specs.Half.{filledOut, fullSize, fullFactors, full, Centred}
 use Rattle.vector.specs.Half.{fullFixed, RowsStand}
@@ -26,8 +27,8 @@ use Rattle.vector.specs.declared.Outcome.the-variants as Outcome
 use Rattle.vector.specs.declared.plan.Planned.{Planned}
 use Rattle.vector.specs.declared.plan.Planned.the-variants as Planned
 use Rattle.vector.specs.declared.run.Pace.{Pace}
-use Rattle.series.proofs.Lists.{length-tab, tab-ext}
-use Rattle.series.proofs.Loops.{drop-fill}
+use Rattle.operator.proofs.Lists.{length-tab, tab-ext}
+use Rattle.operator.proofs.Loops.{drop-fill}
 use Rattle.series.proofs.Half.{at-far}
 use Rattle.series.proofs.Full.{at-full, size-full, full-own-tab, full-with, every-with, full-fill, left-full, right-full, centred-factors, finite-full}
 use Rattle.vector.proofs.FullPlan.{divided-full, rebalances-full, norm-full}

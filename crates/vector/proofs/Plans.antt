@@ -17,7 +17,7 @@ use Rattle.elementary.specs.Elementary.{CEIL, orNan}
 use Rattle.elementary.proofs.Signs.{nonneg}
 use Rattle.elementary.proofs.Order.{not-lt→le, le-lt-trans, ofInt-nonneg, toUnsigned-mono}
 use Rattle.elementary.proofs.Exact.{whole-value}
-use Rattle.series.specs.Vectors.{larger}
+use Rattle.operator.specs.Vectors.{larger}
 use Rattle.vector.specs.Run.{needed}
 
 -- the larger of x and 1.0, unless it is a NaN

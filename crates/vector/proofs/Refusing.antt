@@ -6,7 +6,7 @@ use Rattle.elementary.specs.Checks.{Verdict, passes, refused, firstFailing, Ref
 use Rattle.elementary.proofs.Checks.{first-failing}
 use Rattle.series.specs.Refusals.{numerical}
 use Rattle.vector.specs.Run.{Ended, vector, overCap, failed, run}
-use Rattle.series.specs.Series.{rows}
+use Rattle.operator.specs.Operator.{rows}
 use Rattle.vector.specs.Values.{refusedVector, vectorBy, vectorIf, vectorOver, inputChecks, valueVector}
 use Rattle.vector.specs.Refusing.{VectorRefused, by-5, by-1, by-11, VectorRefusals}
 use Rattle.vector.specs.declared.Outcome.the-variants as Outcome

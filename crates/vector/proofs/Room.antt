@@ -7,10 +7,10 @@ use lib.ListN.{length, take, drop, length-append, length-replicate, replicate-ap
 use lib.Seq.{take-at, drop-at}
 use lib.Ieee.{Float}
 use Rattle.elementary.specs.Float.{0ᶠ}
-use Rattle.series.specs.Vectors.{tab, fill}
+use Rattle.operator.specs.Vectors.{tab, fill}
 use Rattle.vector.specs.Values.{room, padded, vectorOf}
 use Rattle.vector.specs.declared.ValueVector.{ValueVector}
-use Rattle.series.proofs.Lists.{length-tab}
+use Rattle.operator.proofs.Lists.{length-tab}
 
 module _ (n : ℕ) (a l : List Float) (e : a ≡ padded n l) (k : length l ≡ n) where
   pub lent : take n a ≡ l

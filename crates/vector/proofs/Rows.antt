@@ -18,12 +18,12 @@ use Rattle.elementary.specs.Elementary.{EXP, orNan}
 use Rattle.elementary.proofs.Signs.{nonneg, add-finite, mul-finite}
 use Rattle.elementary.proofs.Order.{ofInt-mono, le-refl-f, lt→le, finite-below, add-nonneg, add-mono, mul-nonneg, mul-number, mul-twice-number, mul-mono, positive-nonneg}
 use Rattle.elementary.proofs.ExpZero.{exp-at-zero}
-use Rattle.series.specs.Vectors.{tab, at, fill, every, larger}
-use Rattle.series.specs.Series.{leftAt, rightAt, rows}
+use Rattle.operator.specs.Vectors.{tab, at, fill, every, larger}
+use Rattle.operator.specs.Operator.{leftAt, rightAt, rows}
 use Rattle.vector.specs.Run.{norm, boundOk, diagonalFinite}
 use Rattle.vector.specs.Count.{firstNorm, rowSum}
-use Rattle.series.proofs.Lists.{at-tab, every-ext, every-true}
-use Rattle.series.proofs.Loops.{fold-at}
+use Rattle.operator.proofs.Lists.{at-tab, every-ext, every-true}
+use Rattle.operator.proofs.Loops.{fold-at}
 use Rattle.series.proofs.Extremes.{not-above, first-two}
 use Rattle.vector.specs.Drift.{driftlessDiagonal, driftlessFixed}
 use Rattle.vector.proofs.Lots.{lots, lots-of, lots-are, diagonal-is}

@@ -12,8 +12,9 @@ use lib.Ieee.{Float, inf, lt, toUnsigned}
 use Rattle.elementary.specs.Float.{_⊕_, _⊖_, _⊗_, _⊘_, 0ᶠ, 1ᶠ, finite, positive}
 use Rattle.elementary.specs.Reply.{Reply, value, refusal}
 use Rattle.elementary.specs.Elementary.{LN, orNan}
-use Rattle.series.specs.Vectors.{tab, at, fill, every, fold, larger, smaller}
-use Rattle.series.specs.Series.{diagonalAt, leftAt, rightAt, taylorStep, rows, operatorOver}
+use Rattle.operator.specs.Vectors.{tab, at, fill, every, fold, larger, smaller}
+use Rattle.operator.specs.Operator.{diagonalAt, leftAt, rightAt, rows}
+use Rattle.series.specs.Series.{taylorStep, operatorOver}
 use Rattle.vector.specs.Run.{Ended, vector, overCap, failed, Fixed, Going, going, ended, cap, start, begin, divided, floor, rebalances, rebalance, next, stepped, stepOperator, turn, runOn, fixedOver, fixed, firstIf, runFor, run, runFrom}
 use Rattle.vector.specs.Values.{padded, vectorOf, vectorBy}
 use Rattle.vector.specs.Inner.{goingOver, planBy, planOf, pacedOf, askedOf, stoppedOf, endBy, AfterBy, AfterIs, Standing, weightBy, weight, BegunIs, PlanSpent, Between, EndIs}
@@ -24,7 +25,7 @@ use Rattle.vector.specs.declared.Outcome.the-variants as Outcome
 use Rattle.vector.specs.declared.plan.Planned.{Planned}
 use Rattle.vector.specs.declared.plan.Planned.the-variants as Planned
 use Rattle.vector.specs.declared.run.Pace.{Pace}
-use Rattle.series.proofs.Lists.{every-true}
+use Rattle.operator.proofs.Lists.{every-true}
 use Rattle.series.proofs.Extremes.{smallest-floor}
 use Rattle.vector.proofs.Plans.{planned-some}
 

@@ -6,8 +6,8 @@ use mathlib.Core.Bool.{true, false}
 use lib.IntN.{pos}
 use lib.Ieee.{Float, eq}
 use Rattle.elementary.specs.Float.{_⊕_, _⊗_, whole, 0ᶠ, 2ᶠ, positive}
-use Rattle.series.specs.Vectors.{tab}
-use Rattle.series.specs.Series.{diagonalAt, rows}
+use Rattle.operator.specs.Vectors.{tab}
+use Rattle.operator.specs.Operator.{diagonalAt, rows}
 use Rattle.vector.specs.Run.{boundOk}
 use Rattle.series.specs.Half.{fullSize, fullFactors}
 use Rattle.vector.specs.Half.{RowsStand}

@@ -13,8 +13,8 @@ use lib.Ieee.Fits.{mul-fits}
 use Rattle.elementary.specs.Float.{_⊕_, _⊖_, _⊗_, whole, 0ᶠ, 2ᶠ, finite, positive}
 use Rattle.elementary.proofs.Signs.{neg-neg, mul-neg-left, mul-neg-neg, ofInt-neg}
 use Rattle.elementary.proofs.Zeros.{Zero, zero-of, zero-neg, times-zero, sub-nothing}
-use Rattle.series.specs.Vectors.{tab}
-use Rattle.series.specs.Series.{diagonalAt, rows}
+use Rattle.operator.specs.Vectors.{tab}
+use Rattle.operator.specs.Operator.{diagonalAt, rows}
 use Rattle.vector.specs.Run.{Ended, vector, overCap, failed, boundOk, fixedOver, fixed, runFor, run}
 use Rattle.vector.specs.Promises.{TurnedMirror, FullLength}
 use Rattle.vector.proofs.Bounds.{rates-above}

@@ -14,8 +14,9 @@ use Rattle.elementary.specs.Reply.{Reply, value, refusal, given}
 use Rattle.elementary.specs.Elementary.{CEIL, ceilOf, orNan}
 use Rattle.elementary.proofs.Signs.{nonneg}
 use Rattle.elementary.proofs.Order.{not-lt→le, round-nonneg, round-le-held, finite-below}
-use Rattle.series.specs.Vectors.{tab, at, every, larger}
-use Rattle.series.specs.Series.{leftAt, rightAt, taylorStep}
+use Rattle.operator.specs.Vectors.{tab, at, every, larger}
+use Rattle.operator.specs.Operator.{leftAt, rightAt}
+use Rattle.series.specs.Series.{taylorStep}
 use Rattle.vector.specs.Run.{Ended, vector, overCap, failed, Fixed, Going, Turn, going, ended, cap, norm, needed, start, begin, divided, rebalance, next, stepped, stepOperator, turn}
 use Rattle.vector.specs.Promises.{divided-only, rebalanced, SumOf, OwnSum}
 use Rattle.vector.proofs.Plans.{whole-nonneg}

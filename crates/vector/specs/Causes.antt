@@ -10,8 +10,9 @@ use lib.Ieee.{Float, inf, lt}
 use Rattle.elementary.specs.Float.{_⊕_, _⊖_, _⊗_, whole, 0ᶠ, finite, positive}
 use Rattle.elementary.specs.Reply.{Reply, value}
 use Rattle.elementary.specs.Elementary.{LN, orNan}
-use Rattle.series.specs.Vectors.{tab, at, fill, every, fold, smaller}
-use Rattle.series.specs.Series.{leftAt, rightAt, taylorStep}
+use Rattle.operator.specs.Vectors.{tab, at, fill, every, fold, smaller}
+use Rattle.operator.specs.Operator.{leftAt, rightAt}
+use Rattle.series.specs.Series.{taylorStep}
 use Rattle.series.specs.Causes.{SeriesFails}
 use Rattle.vector.specs.Run.{Ended, overCap, failed, Fixed, Going, Turn, going, ended, cap, norm, needed, divided, rebalances, stepOperator, turn, diagonalFinite, firstTurn, fixed, run}
 use Rattle.vector.specs.declared.RunInput.{RunInput}

@@ -11,8 +11,8 @@ use Rattle.elementary.specs.Elementary.{outside}
 use Rattle.elementary.specs.Checks.{Verdict, passes, refused, firstFailing}
 use Rattle.vector.specs.Refusals.{configuration}
 use Rattle.series.specs.Refusals.{numerical}
-use Rattle.series.specs.Vectors.{tab, fill, larger}
-use Rattle.series.specs.Series.{leftAt, rightAt}
+use Rattle.operator.specs.Vectors.{tab, fill, larger}
+use Rattle.operator.specs.Operator.{leftAt, rightAt}
 use Rattle.vector.specs.Run.{vector, overCap, failed, Fixed, Going, Turn, going, ended, cap, boundOk, norm, needed, diagonalFinite, firstTurn, fixed}
 use Rattle.vector.specs.Values.{ratesOk, inputChecks}
 use Rattle.vector.specs.declared.RunInput.{RunInput}

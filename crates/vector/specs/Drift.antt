@@ -6,9 +6,9 @@ use lib.Ieee.{Float, eq, lt, minus}
 use Rattle.elementary.specs.Float.{_⊕_, _⊗_, whole, 0ᶠ, 1ᶠ, 2ᶠ, finite, positive}
 use Rattle.elementary.specs.Elementary.{outside}
 use Rattle.vector.specs.Refusals.{configuration}
-use Rattle.series.specs.Vectors.{tab, fill}
+use Rattle.operator.specs.Vectors.{tab, fill}
 use Rattle.vector.specs.Run.{Ended, vector, Fixed, cap, boundOk, runOn, wholePlan, fixed, run, runFrom}
-use Rattle.series.specs.Series.{rows}
+use Rattle.operator.specs.Operator.{rows}
 use Rattle.vector.specs.Values.{refusedVector, vectorBy, ratesOk, valueVector, vectorOver}
 use Rattle.vector.specs.Count.{planIn, planWhen, firstPlan, planAhead, planOver}
 use Rattle.vector.specs.declared.RunInput.{RunInput}

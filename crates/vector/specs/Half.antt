@@ -4,8 +4,8 @@ use Prim.Native.Nat.{ℕ}
 use mathlib.Core.Bool.{Bool}
 use mathlib.Core.List.{List}
 use lib.Ieee.{Float}
-use Rattle.series.specs.Vectors.{tab}
-use Rattle.series.specs.Series.{diagonalAt, rows}
+use Rattle.operator.specs.Vectors.{tab}
+use Rattle.operator.specs.Operator.{diagonalAt, rows}
 use Rattle.series.specs.Half.{fullSize, full}
 use Rattle.vector.specs.Run.{Fixed, fixedOver}
 

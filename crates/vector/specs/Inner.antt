@@ -8,7 +8,7 @@ use lib.Ieee.{Float, inf, le, toUnsigned}
 use Rattle.elementary.specs.Float.{_⊕_, _⊖_, _⊗_, _⊘_, whole, 0ᶠ, 1ᶠ, positive}
 use Rattle.elementary.specs.Elementary.{LN, orNan}
 use Rattle.series.specs.Refusals.{numerical}
-use Rattle.series.specs.Vectors.{tab, at, fill, every, fold, smaller}
+use Rattle.operator.specs.Vectors.{tab, at, fill, every, fold, smaller}
 use Rattle.vector.specs.Run.{Ended, vector, overCap, failed, Fixed, fixedOver, Going, going, cap, norm, needed, begin, rebalances, runOn}
 use Rattle.vector.specs.declared.Outcome.{Outcome}
 use Rattle.vector.specs.declared.Outcome.the-variants as Outcome

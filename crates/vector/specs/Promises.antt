@@ -8,9 +8,10 @@ use lib.Ieee.{Float, neg}
 use Rattle.elementary.specs.Float.{_⊕_, _⊗_, 1ᶠ}
 use Rattle.elementary.specs.Reply.{value}
 use Rattle.elementary.specs.Elementary.{LN, orNan}
-use Rattle.series.specs.Vectors.{at, tab, fill}
-unfoldable pub use Rattle.series.specs.Vectors.{Mirror}
-use Rattle.series.specs.Series.{taylorStep, rows}
+use Rattle.operator.specs.Vectors.{at, tab, fill}
+unfoldable pub use Rattle.operator.specs.Vectors.{Mirror}
+use Rattle.series.specs.Series.{taylorStep}
+use Rattle.operator.specs.Operator.{rows}
 use Rattle.vector.specs.Run.{Ended, vector, overCap, failed, Fixed, fixedOver, Going, going, ended, cap, boundOk, run, runFor, turn, stepOperator, divided, spent}
 use Rattle.vector.specs.Values.{ratesOk}
 use Rattle.vector.specs.declared.RunInput.{RunInput}

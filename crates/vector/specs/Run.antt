@@ -8,9 +8,10 @@ use lib.Ieee.{Float, inf, lt, le, toUnsigned}
 use Rattle.elementary.specs.Float.{_⊕_, _⊖_, _⊗_, _⊘_, hex, whole, 0ᶠ, 1ᶠ, 2ᶠ, finite, positive}
 use Rattle.elementary.specs.Reply.{Reply, value, refusal}
 use Rattle.elementary.specs.Elementary.{LN, CEIL, orNan}
-use Rattle.series.specs.Vectors.{tab, at, fill, every, fold, larger, smaller, abs}
-pub use Rattle.series.specs.Series.{rows}
-use Rattle.series.specs.Series.{Operator, diagonalAt, leftAt, rightAt, taylorStep}
+use Rattle.operator.specs.Vectors.{tab, at, fill, every, fold, larger, smaller, abs}
+pub use Rattle.operator.specs.Operator.{rows}
+use Rattle.series.specs.Series.{Operator, taylorStep}
+use Rattle.operator.specs.Operator.{diagonalAt, leftAt, rightAt}
 use Rattle.vector.specs.declared.RunInput.{RunInput}
 
 -- the step budget, and the largest bound

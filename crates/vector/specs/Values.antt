@@ -8,9 +8,9 @@ use Rattle.elementary.specs.Elementary.{outside}
 use Rattle.elementary.specs.Checks.{Verdict, passes, refused, firstFailing}
 use Rattle.vector.specs.Refusals.{configuration}
 use Rattle.series.specs.Refusals.{numerical}
-use Rattle.series.specs.Vectors.{fill}
+use Rattle.operator.specs.Vectors.{fill}
 use Rattle.vector.specs.Run.{Ended, vector, overCap, failed, cap, boundOk, run}
-use Rattle.series.specs.Series.{rows}
+use Rattle.operator.specs.Operator.{rows}
 use Rattle.vector.specs.declared.RunInput.{RunInput}
 use Rattle.vector.specs.declared.ValueVector.{ValueVector}
 use Rattle.vector.specs.declared.Outcome.{Outcome}

@@ -6,7 +6,7 @@ ghost use mathlib.Core.Bool.{true};
 ghost use lib.ListN.{length};
 ghost use lib.Ieee.{eq};
 ghost use Rattle.elementary.specs.Float.{0ᶠ, 1ᶠ, 2ᶠ, positive};
-ghost use Rattle.series.specs.Vectors.{larger};
+ghost use Rattle.operator.specs.Vectors.{larger};
 ghost use Rattle.vector.specs.Run.{boundOk, fixedOver, fixed, wholePlan, firstTurn};
 ghost use Rattle.vector.specs.Count.{planIn, planAhead, rowSum};
 ghost use Rattle.vector.specs.Inner.{aheadOf};
@@ -66,7 +66,7 @@ fn plan_of_rows(diag: &[f64], eta: f64, tau: f64, n: usize) -> FirstPlan
     let o = crate::run::zeros();
     let mut left = crate::run::zeros();
     let mut right = crate::run::zeros();
-    if series::set_factors(&o[..n], &mut left[..n], &mut right[..n], false) {
+    if operator::set_factors(&o[..n], &mut left[..n], &mut right[..n], false) {
         return ahead(crate::plan::plan_over(
             tau,
             diag,
@@ -86,7 +86,7 @@ fn plan_of_all(input: RunInput) -> FirstPlan
 {
     let n = (2 * input.bound + 1) as usize;
     let mut diag = crate::run::zeros();
-    if series::fill_shifted_diagonal(
+    if operator::fill_shifted_diagonal(
         input.alpha,
         input.beta,
         input.eta,

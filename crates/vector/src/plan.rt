@@ -31,7 +31,7 @@ fn norm_of(diag_s: &[f64], eta: f64, left: &[f64], right: &[f64]) -> f64
     let mut i: usize = 0;
     while i < diag_s.len() {
         let d = diag_s[i];
-        let sum = series::magnitude(d) + eta * (left[i] + right[i]);
+        let sum = operator::magnitude(d) + eta * (left[i] + right[i]);
         if norm < sum {
             norm = sum;
         }

@@ -2,7 +2,7 @@
 // reads it tests for later.
 ghost use mathlib.Core.Path.{_≡_};
 ghost use Rattle.elementary.specs.Elementary.{LN, CEIL, orNan};
-ghost use Rattle.series.specs.Vectors.{larger};
+ghost use Rattle.operator.specs.Vectors.{larger};
 
 pub(crate) fn larger_of(x: f64, y: f64) -> f64
     ensures { λ r. ⌜ r ≡ larger x y ⌝ }

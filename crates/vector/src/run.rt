@@ -8,9 +8,9 @@ ghost use lib.Ieee.{inf, lt};
 ghost use mathlib.Core.Bool.{true, false, not, _&&_};
 ghost use Rattle.elementary.specs.Float.{_⊕_, _⊘_, 0ᶠ, 1ᶠ, finite, positive};
 ghost use Rattle.elementary.specs.Elementary.{LN, orNan};
-ghost use Rattle.series.specs.Vectors.{tab, at, fill, every, fold, larger, smaller};
+ghost use Rattle.operator.specs.Vectors.{tab, at, fill, every, fold, larger, smaller};
 ghost use Rattle.vector.specs.Run.{boundOk, cap, run, runOn, begin, divided, rebalances};
-ghost use Rattle.series.specs.Series.{rows};
+ghost use Rattle.operator.specs.Operator.{rows};
 ghost use Rattle.vector.specs.Values.{blankVector, vectorOf, refusedVector, vectorBy, ratesOk};
 ghost use Rattle.vector.specs.Inner.{pacedOf, askedOf, stoppedOf, refusedPace, endBy, AfterIs, BegunIs, PlanSpent, Between, weight, EndIs};
 ghost use Rattle.series.specs.Slices.{Sizes, Fit};
@@ -225,10 +225,10 @@ fn start(
         (fullFactors half (length (now (o .entry))) (now (left .exit)) (now (right .exit))) (fullFactors half (length (now (o .entry))) (now (right .exit)) (now (left .exit))) (full half (length (now (o .entry))) (now (diag .exit))) r ⌝ }
     ensures { λ _. ⌜ Centred half (length (now (o .entry))) (now (left .exit)) (now (right .exit)) ⌝ }
 {
-    if series::set_factors(o, left, right, half) {
+    if operator::set_factors(o, left, right, half) {
         match crate::plan::plan_with(rest, diag_s, eta, left, right, budget) {
             Planned::Steps(steps, dt) => {
-                series::scale_diagonal(diag_s, dt, diag);
+                operator::scale_diagonal(diag_s, dt, diag);
                 return paced(steps, budget, rest, dt);
             }
             Planned::OverCap(need) => {
@@ -258,7 +258,7 @@ fn plan_steps(
         (fullFactors half (length (now (w .entry))) (now (left .entry)) (now (right .entry))) (fullFactors half (length (now (w .entry))) (now (right .entry)) (now (left .entry))) (full half (length (now (w .entry))) (now (diag .entry)))
         first (full half (length (now (w .entry))) (now (w .exit))) (full half (length (now (w .entry))) (now (o .exit))) r ⌝ }
 {
-    let plain = series::all_ones(left, right);
+    let plain = operator::all_ones(left, right);
     let mut pace = first;
     while (0 < pace.steps) & (0 < pace.budget) {
         let eta_dt = eta * pace.dt;
@@ -418,7 +418,7 @@ fn run_rows(w: &mut [f64], o: &mut [f64], input: RunInput, n: usize, half: bool)
     ensures { λ r. ⌜ EndIs (run input) r (full half n (now (w .exit))) (full half n (now (o .exit))) ⌝ }
 {
     let mut diag_s = zeros();
-    if series::fill_shifted_diagonal(
+    if operator::fill_shifted_diagonal(
         input.alpha,
         input.beta,
         input.eta,

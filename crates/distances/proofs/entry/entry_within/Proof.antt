@@ -6,7 +6,7 @@ use lib.Ieee.{Float}
 use mir.Facts.{toZ-ofZ}
 use borrow.Author.Needs.{needs}
 use Rattle.vector.specs.Run.{Ended, vector, overCap, failed, run}
-use Rattle.series.specs.Series.{rows}
+use Rattle.operator.specs.Operator.{rows}
 use Rattle.vector.specs.Values.{vectorOf, refusedVector, vectorBy}
 use Rattle.distances.specs.Distances.{place, exactAt}
 use Rattle.distances.specs.FloatEntry.{refusedEntry, withVector, answerBy}

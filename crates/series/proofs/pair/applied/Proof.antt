@@ -1,6 +1,6 @@
 -- Two rows, written out. Assumes nothing.
 use borrow.Author.Needs.{needs}
-use Rattle.series.specs.Vectors.{from, before}
+use Rattle.operator.specs.Vectors.{from, before}
 use Rattle.series.specs.Slices.{besideOf, besideAt, sliceRow}
 use Rattle.series.proofs.pair.applied.Statement.{statement}
 use Rattle.series.proofs.pair.applied.Tie as tie

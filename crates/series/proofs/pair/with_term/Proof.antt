@@ -1,8 +1,8 @@
+use mathlib.Core.Bool.{_&&_}
 -- The sums and the test, entry by entry. Assumes nothing.
 use mathlib.Core.Path.{ap, ap₂, _∙_}
-use mathlib.Core.Bool.{_&&_}
 use borrow.Author.Needs.{needs}
-use Rattle.series.specs.Vectors.{from}
+use Rattle.operator.specs.Vectors.{from}
 use Rattle.series.specs.Series.{plus, converged}
 use Rattle.series.specs.Slices.{sumOf, withTerm}
 use Rattle.series.specs.Pairs.{pairOf}

@@ -3,9 +3,9 @@ use mathlib.Core.Path.{_≡_, _∙_}
 use Prim.Native.Nat.{_-_, _≤_}
 use native.Mathlib.Omega.{arith}
 use lib.ListN.{length}
-use Rattle.series.specs.Vectors.{at, every}
+use Rattle.operator.specs.Vectors.{at, every}
 use Rattle.series.specs.Series.{small, converged}
-use Rattle.series.proofs.Loops.{every-zero, every-suc, every-at}
+use Rattle.operator.proofs.Loops.{every-zero, every-suc, every-at}
 use Rattle.series.proofs.taylor.all_small.Statement.{statement}
 use Rattle.series.proofs.taylor.all_small.Tie as tie
 

@@ -10,10 +10,10 @@ use lib.ListN.{length, length-set}
 use lib.Ieee.{Float}
 use denote.Ref.{now}
 use Rattle.elementary.specs.Float.{_⊕_}
-use Rattle.series.specs.Vectors.{at, before}
+use Rattle.operator.specs.Vectors.{at, before}
 use Rattle.series.specs.Series.{operatorOver}
 use Rattle.series.specs.Slices.{sliceRow}
-use Rattle.series.proofs.Loops.{filled, filled-zero, stored, stored-last, at-filled, before-first, before-later}
+use Rattle.operator.proofs.Loops.{filled, filled-zero, stored, stored-last, at-filled, before-first, before-later}
 use Rattle.series.proofs.Slices.{never-plain, row-through, row-last, converged-at, first-made}
 use Rattle.series.proofs.taylor.first_term.Statement.{statement}
 use Rattle.series.proofs.taylor.first_term.Tie as tie

@@ -3,7 +3,7 @@ use borrow.Author.Needs.{needs}
 use mathlib.Core.Path.{sym, _∙_}
 use native.Mathlib.Omega.{arith}
 use Rattle.series.specs.Series.{converged}
-use Rattle.series.proofs.Loops.{every-first}
+use Rattle.operator.proofs.Loops.{every-first}
 use Rattle.series.proofs.taylor.has_converged.Statement.{statement}
 use Rattle.series.proofs.taylor.has_converged.Tie as tie
 

@@ -11,10 +11,10 @@ use lib.ListN.{length, length-set}
 use lib.Ieee.{Float}
 use denote.Ref.{now}
 use Rattle.elementary.specs.Float.{_⊕_, _⊖_, _⊗_, _⊘_, whole, 1ᶠ}
-use Rattle.series.specs.Vectors.{at, before}
+use Rattle.operator.specs.Vectors.{at, before}
 use Rattle.series.specs.Series.{operatorOver}
 use Rattle.series.specs.Slices.{sliceRow}
-use Rattle.series.proofs.Loops.{filled, stored, stored-last, at-filled, later, later-one, later-is, later-first, later-all, before-first, before-later}
+use Rattle.operator.proofs.Loops.{filled, stored, stored-last, at-filled, later, later-one, later-is, later-first, later-all, before-first, before-later}
 use Rattle.series.proofs.Slices.{row-through, row-inner, row-last, converged-at, term-made}
 use Rattle.series.proofs.taylor.next_term.Statement.{statement}
 use Rattle.series.proofs.taylor.next_term.Tie as tie

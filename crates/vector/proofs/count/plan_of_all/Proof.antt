@@ -5,9 +5,9 @@ use native.Mathlib.Omega.{arith}
 use lib.ListN.{length, take}
 use borrow.Author.Needs.{needs}
 use Rattle.elementary.specs.Float.{finite}
-use Rattle.series.specs.Vectors.{tab, at, every}
-use Rattle.series.specs.Series.{rows, diagonalAt}
-use Rattle.series.proofs.Slices.{diagonal-over, diagonal-fine}
+use Rattle.operator.specs.Vectors.{tab, at, every}
+use Rattle.operator.specs.Operator.{rows, diagonalAt}
+use Rattle.operator.proofs.Slices.{diagonal-over, diagonal-fine}
 use Rattle.vector.proofs.Room.{blank-room, blank-length, stored-part, stored-length, stored-room}
 use Rattle.vector.proofs.Ahead.{all-rows, no-rows}
 use Rattle.vector.proofs.count.plan_of_all.Statement.{statement}

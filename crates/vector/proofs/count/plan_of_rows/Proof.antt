@@ -6,12 +6,12 @@ use mathlib.Core.List.{List}
 use lib.ListN.{length, take, length-replicate}
 use lib.Ieee.{Float}
 use Rattle.elementary.specs.Float.{0ᶠ}
-use Rattle.series.specs.Vectors.{tab, fill}
-use Rattle.series.specs.Series.{leftAt, rightAt}
+use Rattle.operator.specs.Vectors.{tab, fill}
+use Rattle.operator.specs.Operator.{leftAt, rightAt}
 use Rattle.vector.specs.Inner.{aheadOf}
 use Rattle.vector.proofs.Room.{lent, blank-padded, blank-room, blank-length, stored-part, stored-length, stored-room}
-use Rattle.series.specs.Slices.{bothFine}
-use Rattle.series.proofs.Slices.{left-over, right-over, factors-over}
+use Rattle.operator.specs.Slices.{bothFine}
+use Rattle.operator.proofs.Slices.{left-over, right-over, factors-over}
 use Rattle.series.proofs.Full.{right-whole}
 use Rattle.vector.proofs.Rows.{factors-fine}
 use Rattle.vector.proofs.Ahead.{ahead-of}

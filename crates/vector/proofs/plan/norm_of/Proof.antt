@@ -8,10 +8,10 @@ use lib.ListN.{length}
 use lib.Ieee.{Float}
 use denote.Ref.{now}
 use Rattle.elementary.specs.Float.{_⊕_, _⊗_, 0ᶠ}
-use Rattle.series.specs.Vectors.{tab, at, fold, larger, abs}
+use Rattle.operator.specs.Vectors.{tab, at, fold, larger, abs}
 use Rattle.vector.specs.Run.{magnitudes, norm}
-use Rattle.series.proofs.Loops.{fold-zero, fold-suc, fold-at, larger-taken, larger-left}
-use Rattle.series.proofs.Lists.{at-tab, tab-ext}
+use Rattle.operator.proofs.Loops.{fold-zero, fold-suc, fold-at, larger-taken, larger-left}
+use Rattle.operator.proofs.Lists.{at-tab, tab-ext}
 use Rattle.vector.proofs.plan.norm_of.Statement.{statement}
 use Rattle.vector.proofs.plan.norm_of.Tie as tie
 

@@ -1,7 +1,7 @@
 -- The two arms are those of `larger`. Assumes nothing.
 use borrow.Author.Needs.{needs}
 use Rattle.vector.specs.Run.{needed}
-use Rattle.series.proofs.Loops.{larger-taken, larger-left}
+use Rattle.operator.proofs.Loops.{larger-taken, larger-left}
 use Rattle.vector.proofs.plan.steps_needed.Statement.{statement}
 use Rattle.vector.proofs.plan.steps_needed.Tie as tie
 

@@ -1,5 +1,5 @@
 -- The larger by the test. Assumes nothing.
-use Rattle.series.specs.Vectors.{larger}
+use Rattle.operator.specs.Vectors.{larger}
 use Rattle.vector.proofs.reals.larger_of.Statement.{statement}
 use Rattle.vector.proofs.reals.larger_of.Tie as tie
 

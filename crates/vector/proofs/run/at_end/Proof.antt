@@ -6,7 +6,7 @@ use lib.Ieee.{Float}
 use lib.ListN.{length-replicate}
 use borrow.Author.Needs.{needs}
 use Rattle.elementary.specs.Float.{0ᶠ, 1ᶠ}
-use Rattle.series.specs.Vectors.{fill}
+use Rattle.operator.specs.Vectors.{fill}
 use Rattle.vector.specs.Values.{padded, vectorOf}
 use Rattle.vector.proofs.Room.{blank-padded, blank-room, blank-length, back}
 use Rattle.vector.proofs.run.at_end.Statement.{statement}

@@ -9,9 +9,9 @@ use lib.ListN.{length, length-set}
 use lib.Ieee.{Float, inf}
 use denote.Ref.{now}
 use Rattle.elementary.specs.Float.{_⊘_}
-use Rattle.series.specs.Vectors.{at, every, fold, smaller}
+use Rattle.operator.specs.Vectors.{at, every, fold, smaller}
 use Rattle.vector.specs.Run.{rebalances}
-use Rattle.series.proofs.Loops.{filled, filled-zero, stored, filled-all, at-filled, every-zero, every-suc, every-at}
+use Rattle.operator.proofs.Loops.{filled, filled-zero, stored, filled-all, at-filled, every-zero, every-suc, every-at}
 use Rattle.vector.proofs.RunLaws.{calm-is}
 use Rattle.vector.proofs.run.divide.Statement.{statement}
 use Rattle.vector.proofs.run.divide.Tie as tie

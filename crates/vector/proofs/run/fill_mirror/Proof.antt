@@ -9,9 +9,9 @@ use lib.Dec.{ltb}
 use lib.ListN.{length, length-set}
 use lib.Ieee.{Float}
 use denote.Ref.{now}
-use Rattle.series.specs.Vectors.{at}
+use Rattle.operator.specs.Vectors.{at}
 use Rattle.series.specs.Half.{filledOut}
-use Rattle.series.proofs.Loops.{filled, filled-kept, stored, filled-all, at-filled-before}
+use Rattle.operator.proofs.Loops.{filled, filled-kept, stored, filled-all, at-filled-before}
 use Rattle.vector.proofs.run.fill_mirror.Statement.{statement}
 use Rattle.vector.proofs.run.fill_mirror.Tie as tie
 

@@ -5,7 +5,7 @@ use native.Mathlib.Omega.{arith}
 use lib.ListN.{length, length-set}
 use denote.Ref.{now}
 use Rattle.elementary.specs.Float.{1ᶠ}
-use Rattle.series.proofs.Loops.{filled, filled-zero, stored, filled-all, fill-tab}
+use Rattle.operator.proofs.Loops.{filled, filled-zero, stored, filled-all, fill-tab}
 use Rattle.vector.proofs.run.fill_ones.Statement.{statement}
 use Rattle.vector.proofs.run.fill_ones.Tie as tie
 

@@ -9,10 +9,10 @@ use lib.Seq.{take-all}
 use lib.Ieee.{Float, binary64, lt}
 use denote.Ref.{now}
 use Rattle.elementary.specs.Float.{0ᶠ, finite, positive}
-use Rattle.series.specs.Vectors.{at, every, fold, larger}
+use Rattle.operator.specs.Vectors.{at, every, fold, larger}
 use Rattle.series.specs.Slices.{Fit}
-use Rattle.series.proofs.Lists.{tab-own}
-use Rattle.series.proofs.Loops.{every-zero, every-suc, every-at, fold-take}
+use Rattle.operator.proofs.Lists.{tab-own}
+use Rattle.operator.proofs.Loops.{every-zero, every-suc, every-at, fold-take}
 use Rattle.series.proofs.Extremes.{Gathered, larger-keeps, larger-apart, zero-gathered, zero-zero, positive-all}
 use Rattle.vector.proofs.run.largest.Statement.{statement}
 use Rattle.vector.proofs.run.largest.Tie as tie

@@ -14,7 +14,7 @@ use Rattle.elementary.specs.Float.{_⊗_}
 use Rattle.series.specs.Series.{taylorStep}
 use Rattle.series.specs.Slices.{SliceSum, Sizes, Fit}
 use Rattle.series.specs.Half.{fullSize, fullFactors, full, fullOperator, SumIs, StandsFor}
-use Rattle.series.proofs.Slices.{ones-between}
+use Rattle.operator.proofs.Slices.{ones-between}
 use Rattle.series.proofs.Steps.{step-stands}
 use Rattle.vector.specs.declared.run.Pace.{Pace}
 use Rattle.vector.proofs.FullRun.{after-step-full}

@@ -9,8 +9,8 @@ use lib.Ieee.{Float}
 use denote.Ref.{now}
 use Rattle.elementary.specs.Float.{_⊕_, 1ᶠ, positive}
 use Rattle.elementary.specs.Elementary.{LN, orNan}
-use Rattle.series.specs.Vectors.{at, every}
-use Rattle.series.proofs.Loops.{filled, filled-zero, stored, filled-all, at-filled, every-zero, every-suc, every-at, fill-tab}
+use Rattle.operator.specs.Vectors.{at, every}
+use Rattle.operator.proofs.Loops.{filled, filled-zero, stored, filled-all, at-filled, every-zero, every-suc, every-at, fill-tab}
 use Rattle.vector.proofs.run.rebalance.Statement.{statement}
 use Rattle.vector.proofs.run.rebalance.Tie as tie
 

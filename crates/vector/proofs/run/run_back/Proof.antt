@@ -11,9 +11,9 @@ use borrow.Author.Needs.{needs}
 use denote.Enum.Declared.{tagOf}
 use types.Run.{OneOf}
 use Rattle.elementary.specs.Float.{0ᶠ, 1ᶠ}
-use Rattle.series.specs.Vectors.{fill}
+use Rattle.operator.specs.Vectors.{fill}
 use Rattle.vector.specs.Run.{Ended, vector, overCap, failed}
-use Rattle.series.specs.Series.{rows}
+use Rattle.operator.specs.Operator.{rows}
 use Rattle.vector.specs.Values.{room, padded, blankVector, refusedVector, vectorBy}
 use Rattle.vector.specs.Inner.{EndIs}
 use Rattle.series.specs.Half.{fullSize}

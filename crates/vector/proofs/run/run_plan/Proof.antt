@@ -5,7 +5,7 @@ use mathlib.Core.List.{List, _++_}
 use lib.ListN.{length, take, drop}
 use lib.Ieee.{Float}
 use Rattle.elementary.specs.Float.{0ᶠ}
-use Rattle.series.specs.Vectors.{fill}
+use Rattle.operator.specs.Vectors.{fill}
 use Rattle.vector.proofs.Room.{blank-room, blank-length, part-back, part-room}
 use Rattle.vector.proofs.RunLaws.{planned}
 use Rattle.vector.proofs.run.run_plan.Statement.{statement}

@@ -3,7 +3,7 @@ use mathlib.Core.Path.{_≡_, refl, ap, _∙_}
 use lib.ListN.{length, length-replicate}
 use native.Mathlib.Omega.{arith}
 use Rattle.elementary.specs.Float.{1ᶠ}
-use Rattle.series.specs.Vectors.{fill}
+use Rattle.operator.specs.Vectors.{fill}
 use Rattle.vector.specs.Run.{cap, begin, runOn}
 use Rattle.vector.specs.Inner.{Between, weight}
 use Rattle.series.specs.Half.{fullSize, full}

@@ -5,9 +5,9 @@ use native.Mathlib.Omega.{arith}
 use lib.ListN.{length, take, length-replicate}
 use borrow.Author.Needs.{needs}
 use Rattle.elementary.specs.Float.{0ᶠ, finite}
-use Rattle.series.specs.Vectors.{tab, at, every}
-use Rattle.series.specs.Series.{diagonalAt}
-use Rattle.series.proofs.Slices.{diagonal-over, diagonal-fine}
+use Rattle.operator.specs.Vectors.{tab, at, every}
+use Rattle.operator.specs.Operator.{diagonalAt}
+use Rattle.operator.proofs.Slices.{diagonal-over, diagonal-fine}
 use Rattle.vector.specs.Values.{room}
 use Rattle.vector.specs.Inner.{EndIs}
 use Rattle.vector.proofs.Room.{blank-room, blank-length, stored-part, stored-length, stored-room}

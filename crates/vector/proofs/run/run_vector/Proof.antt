@@ -6,8 +6,8 @@ use borrow.Author.Needs.{needs}
 use mathlib.Core.Bool.{false}
 use lib.Ieee.{lt}
 use Rattle.elementary.specs.Float.{0ᶠ, 1ᶠ}
-use Rattle.series.specs.Vectors.{fill}
-use Rattle.series.specs.Series.{rows}
+use Rattle.operator.specs.Vectors.{fill}
+use Rattle.operator.specs.Operator.{rows}
 use Rattle.vector.specs.Run.{fixed, runFor, run, runFrom}
 use Rattle.vector.specs.Values.{vectorOf, vectorBy}
 use Rattle.vector.specs.declared.RunInput.{RunInput}

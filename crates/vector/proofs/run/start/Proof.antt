@@ -5,10 +5,10 @@ use native.Mathlib.Omega.{arith}
 use borrow.Author.Needs.{needs}
 use denote.Ref.{now}
 use lib.ListN.{length}
-use Rattle.series.specs.Vectors.{tab}
-use Rattle.series.specs.Series.{leftAt}
-use Rattle.series.specs.Slices.{rightBy, bothFine}
-use Rattle.series.proofs.Slices.{scaled-over, left-over, right-over, factors-over}
+use Rattle.operator.specs.Vectors.{tab}
+use Rattle.operator.specs.Operator.{leftAt}
+use Rattle.operator.specs.Slices.{rightBy, bothFine}
+use Rattle.operator.proofs.Slices.{scaled-over, left-over, right-over, factors-over}
 use Rattle.vector.specs.declared.plan.Planned.the-variants as Planned
 use Rattle.series.proofs.Full.{centred-factors}
 use Rattle.vector.proofs.FullRun.{begun-full, not-begun-full}

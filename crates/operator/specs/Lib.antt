@@ -1,0 +1,3 @@
+pub mod Vectors
+pub mod Operator
+pub mod Slices
