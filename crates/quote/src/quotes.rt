@@ -87,8 +87,8 @@ pub(crate) fn closed_of(mid: i64, least: i64, sides: Sides) -> ClosedFormQuotes
     }
 }
 
-// The exact quotes of an answer before prices: refused by 2 where the mid or the min spread is beyond the
-// limit, then as the answer is, then by 13 and 14.
+// The exact quotes of any answer before prices: refused by 2 where the mid or the min spread is beyond
+// the limit, then as the answer is, then by 11 where a distance is not finite, 13 and 14.
 pub fn quotes_by(mid_price: i64, min_spread: i64, answer: Answer) -> ExactQuotes
     ensures { λ r. ⌜ r ≡ quotesByAnswer «mid_price» «min_spread» answer ⌝ }
 {
