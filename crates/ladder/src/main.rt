@@ -31,10 +31,16 @@ fn fill(s: &[u8], at: usize, out: &mut [u8]) -> Text
     }
 }
 
+// Room for any ladder, so that none is refused by 21.
+fn buffer() -> [u8; sheet::MOST_LADDER]
+    ensures { λ r. ⌜ mostLadder ≡ length r ⌝ }
+{
+    [0; sheet::MOST_LADDER]
+}
+
 // Writes the ladders of a sheet, each with one call; false where standard output does not take them.
 fn write_ladders(s: &[u8]) -> bool {
-    // At least `sheet::MOST_LADDER` bytes, so that none is refused for want of room.
-    let mut out = io::large_buffer();
+    let mut out = buffer();
     let mut at: usize = 0;
     while at < s.len() {
         let text = fill(s, at, &mut out);

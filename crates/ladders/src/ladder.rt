@@ -13,9 +13,10 @@ use lines::LineWritten;
 use lines::write_answer;
 use quote::Check;
 use quote::GLFTConfig;
+use vector::MAX_DIM;
 
 // The most bytes that a ladder takes: a line for each of 401 lots.
-pub const MOST_LADDER: usize = 25664;
+pub const MOST_LADDER: usize = LEAST_ROOM * MAX_DIM;
 
 // The bytes that a ladder takes, or a refusal's number.
 pub enum LadderAnswer {

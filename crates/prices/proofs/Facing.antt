@@ -48,11 +48,15 @@ widening-swap least Absent (At a) = refl
 widening-swap least (At b) Absent = refl
 widening-swap least (At b) (At a) = rw (+ℤ-comm b a)
 
+-- a bid and an ask at one distance, each moved outward by w
+pub facing-at : (mid w : ℤ) (d : Price) → Facing mid (bidPrice mid w d) (askPrice mid w d)
+unfolding Facing bidPrice askPrice
+facing-at mid w Absent = tt
+facing-at mid w (At d) = around mid (d +ℤ w)
+
 -- b and a are the rounded distances at one holding, a and b those at the other
 facing : (mid least : ℤ) (b a : Price) → Facing mid (bidPrice mid (widening least b a) b) (askPrice mid (widening least a b) b)
-unfolding Facing bidPrice askPrice
-facing mid least Absent a = tt
-facing mid least (At d) a = rw (widening-swap least (At d) a) (around mid (d +ℤ widening least a (At d)))
+facing mid least b a = rw (widening-swap least b a) (facing-at mid (widening least a b) b)
 
 pub built-facing : BuiltFacing
 unfolding widened

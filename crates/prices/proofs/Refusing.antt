@@ -10,8 +10,10 @@ use Rattle.distances.specs.declared.Distance.{Distance}
 use Rattle.amounts.specs.Refusals.{beyond}
 use Rattle.amounts.specs.Amounts.{amountOk, above0}
 use Rattle.prices.specs.Refusals.{crossed}
-use Rattle.prices.specs.Prices.{each, side, roundedIf, rounded, widened, widenIf, widen, inOrder, judgeIf, judge, quotesBy, buildQuotes}
-use Rattle.prices.specs.Refusing.{RoundingRefused, rounded-11, rounded-13, RoundingRefusals, WideningRefused, widened-2, widened-13, WideningRefusals, JudgedRefused, judged-13, judged-14, JudgedRefusals, Within, Ordered, Priced, by-13, by-14, PricesRefused}
+use Rattle.prices.specs.Prices as Prices
+use Rattle.prices.specs.Prices.{each, side, roundedIf, rounded, widened, widenIf, widen, priceSides, inOrder, judgeIf, judge, quotesBy, buildQuotes}
+use Rattle.prices.specs.Refusing.{RoundingRefused, rounded-11, rounded-13, RoundingRefusals, SidesRefused, sides-2, sides-13, WideningRefusals, PricingRefusals, JudgedRefused, judged-13, judged-14, JudgedRefusals, Within, Ordered, Priced, by-13, by-14, PricesRefused}
+use Rattle.prices.specs.declared.Price.{Price}
 use Rattle.prices.specs.declared.GlftQuotes.{GlftQuotes}
 use Rattle.prices.specs.declared.Rounded.the-variants as Rounded
 use Rattle.prices.specs.declared.QuotesAnswer.the-variants.{Refused}
@@ -29,18 +31,27 @@ rounding-refusals b a n = (to (fine b && fine a) (each amountOk (side b) && each
     from m (rounded-11 h) = rw h
     from m (rounded-13 h k) = rw (h, k)
 
-pub widening-refusals : WideningRefusals
-unfolding widen widenIf
-widening-refusals mid least b a n = (to (amountOk mid && amountOk least) (each amountOk b && each amountOk a) refl refl, from n)
+-- the widening, and the prices without it, by whether the amounts that are given are within the limit
+sides-refused : (given : Bool) (b a : Price) (q : GlftQuotes) (n : ℕ) → (widenIf given (each amountOk b && each amountOk a) q ≡ Refused n) ↔ SidesRefused given b a n
+unfolding widenIf
+sides-refused given b a q n = (to given (each amountOk b && each amountOk a) refl refl, from n)
   where
-    to : (x y : Bool) → (amountOk mid && amountOk least) ≡ x → (each amountOk b && each amountOk a) ≡ y → widenIf x y (widened mid least b a) ≡ Refused n → WideningRefused mid least b a n
-    to false y h k e = subst (λ (m : ℕ). WideningRefused mid least b a m) (cc) (widened-2 h)
-    to true false h k e = subst (λ (m : ℕ). WideningRefused mid least b a m) (cc) (widened-13 h k)
+    to : (x y : Bool) → given ≡ x → (each amountOk b && each amountOk a) ≡ y → widenIf x y q ≡ Refused n → SidesRefused given b a n
+    to false y h k e = subst (λ (m : ℕ). SidesRefused given b a m) (cc) (sides-2 h)
+    to true false h k e = subst (λ (m : ℕ). SidesRefused given b a m) (cc) (sides-13 h k)
     to true true h k e = let z : _≡_ {A = ℕ} 0 1 = cc in absurd (omega arith)
 
-    from : (m : ℕ) → WideningRefused mid least b a m → widen mid least b a ≡ Refused m
-    from m (widened-2 h) = rw h
-    from m (widened-13 h k) = rw (h, k)
+    from : (m : ℕ) → SidesRefused given b a m → widenIf given (each amountOk b && each amountOk a) q ≡ Refused m
+    from m (sides-2 h) = rw h
+    from m (sides-13 h k) = rw (h, k)
+
+pub widening-refusals : WideningRefusals
+unfolding widen
+widening-refusals mid least b a n = sides-refused (amountOk mid && amountOk least) b a (widened mid least b a) n
+
+pub pricing-refusals : PricingRefusals
+unfolding priceSides
+pricing-refusals mid b a n = sides-refused (amountOk mid) b a (Prices.priced mid b a) n
 
 pub judged-refusals : JudgedRefusals
 unfolding judge judgeIf

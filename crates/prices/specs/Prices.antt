@@ -63,7 +63,7 @@ askPrice mid w (At d) = At (mid +ℤ (d +ℤ w))
 unfoldable pub widened : ℤ → ℤ → Price → Price → GlftQuotes
 widened mid least b a = let w = widening least b a in record { bid = bidPrice mid w b; ask = askPrice mid w a }
 
--- the entry's: are mid and min spread within the limit, or 2; are the rounded distances, or 13
+-- are the amounts given within the limit, or 2; are the rounded distances, or 13
 unfoldable pub widenIf : Bool → Bool → GlftQuotes → QuotesAnswer
 widenIf false w q = Refused limits
 widenIf true false q = Refused beyond
@@ -71,6 +71,13 @@ widenIf true true q = Quotes q
 
 unfoldable pub widen : ℤ → ℤ → Price → Price → QuotesAnswer
 widen mid least b a = widenIf (amountOk mid && amountOk least) (each amountOk b && each amountOk a) (widened mid least b a)
+
+-- the prices as they are without it, whatever the spread
+unfoldable pub priced : ℤ → Price → Price → GlftQuotes
+priced mid b a = record { bid = bidPrice mid (pos 0) b; ask = askPrice mid (pos 0) a }
+
+unfoldable pub priceSides : ℤ → Price → Price → QuotesAnswer
+priceSides mid b a = widenIf (amountOk mid) (each amountOk b && each amountOk a) (priced mid b a)
 
 -- ---- 3. the judgement: are the prices within the limit, or 13; are they positive, and bid below ask, or 14
 unfoldable pub inOrder : Price → Price → Bool

@@ -10,7 +10,7 @@ use Rattle.distances.specs.declared.Distance.{Distance}
 use Rattle.amounts.specs.Refusals.{limits, beyond}
 use Rattle.amounts.specs.Amounts.{amountOk, above0}
 use Rattle.prices.specs.Refusals.{crossed}
-use Rattle.prices.specs.Prices.{each, side, rounded, widening, bidPrice, askPrice, widen, inOrder, judge, buildQuotes}
+use Rattle.prices.specs.Prices.{each, side, rounded, widening, bidPrice, askPrice, widen, priceSides, inOrder, judge, buildQuotes}
 use Rattle.prices.specs.declared.Price.{Price}
 use Rattle.prices.specs.declared.GlftQuotes.{GlftQuotes}
 use Rattle.prices.specs.declared.Rounded.the-variants as Rounded
@@ -25,13 +25,16 @@ pub data RoundingRefused (b a : Distance) : ℕ → Type 0 where
 abbrev pub RoundingRefusals : Type 0
 RoundingRefusals = (b a : Distance) (n : ℕ) → (rounded b a ≡ Rounded.Refused n) ↔ RoundingRefused b a n
 
--- the widening: 2 where the mid or the min spread is beyond the limit; 13 where neither is and a distance is
-pub data WideningRefused (mid least : ℤ) (b a : Price) : ℕ → Type 0 where
-  widened-2 : (amountOk mid && amountOk least) ≡ false → WideningRefused mid least b a limits
-  widened-13 : (amountOk mid && amountOk least) ≡ true → (each amountOk b && each amountOk a) ≡ false → WideningRefused mid least b a beyond
+-- the widening, and the prices without it: 2 where an amount that is given is beyond the limit; 13 where none is and a distance is
+pub data SidesRefused (given : Bool) (b a : Price) : ℕ → Type 0 where
+  sides-2 : given ≡ false → SidesRefused given b a limits
+  sides-13 : given ≡ true → (each amountOk b && each amountOk a) ≡ false → SidesRefused given b a beyond
 
 abbrev pub WideningRefusals : Type 0
-WideningRefusals = (mid least : ℤ) (b a : Price) (n : ℕ) → (widen mid least b a ≡ Refused n) ↔ WideningRefused mid least b a n
+WideningRefusals = (mid least : ℤ) (b a : Price) (n : ℕ) → (widen mid least b a ≡ Refused n) ↔ SidesRefused (amountOk mid && amountOk least) b a n
+
+abbrev pub PricingRefusals : Type 0
+PricingRefusals = (mid : ℤ) (b a : Price) (n : ℕ) → (priceSides mid b a ≡ Refused n) ↔ SidesRefused (amountOk mid) b a n
 
 -- the judgement: 13 where a price is beyond the limit; 14 where none is and a price is not positive or bid is not below ask
 pub data JudgedRefused (q : GlftQuotes) : ℕ → Type 0 where

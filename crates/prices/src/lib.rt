@@ -7,6 +7,7 @@ mod widening;
 
 pub use judging::judge;
 pub use rounding::round_sides;
+pub use widening::price_sides;
 pub use widening::widen;
 ghost use mathlib.Core.Path.{_≡_};
 ghost use Rattle.amounts.specs.Amounts.{amountOk};

@@ -4,7 +4,7 @@ ghost use Prim.Native.Nat.{_*_, _≤_};
 ghost use lib.IntN.{natAbs};
 ghost use lib.Dec.{T};
 ghost use Rattle.amounts.specs.Amounts.{amountLimit, amountOk};
-ghost use Rattle.prices.specs.Prices.{each, halfUp, widening, bidPrice, askPrice, widen};
+ghost use Rattle.prices.specs.Prices.{each, halfUp, widening, bidPrice, askPrice, widen, priceSides};
 use crate::GlftQuotes;
 use crate::Price;
 use crate::QuotesAnswer;
@@ -78,6 +78,23 @@ pub fn widen(mid: i64, min_spread: i64, bid: Price, ask: Price) -> QuotesAnswer
             return QuotesAnswer::Quotes(GlftQuotes {
                 bid: bid_price(mid, w, bid),
                 ask: ask_price(mid, w, ask),
+            });
+        }
+        return QuotesAnswer::Refused(BEYOND);
+    }
+    QuotesAnswer::Refused(LIMITS)
+}
+
+// The prices of two sides' distances around a mid, whatever their spread. Refused by 2 where the mid is
+// beyond the limit, by 13 where a distance is. The prices are not judged.
+pub fn price_sides(mid: i64, bid: Price, ask: Price) -> QuotesAnswer
+    ensures { λ r. ⌜ r ≡ priceSides mid bid ask ⌝ }
+{
+    if amount_fits(mid) {
+        if side_fits(bid) & side_fits(ask) {
+            return QuotesAnswer::Quotes(GlftQuotes {
+                bid: bid_price(mid, 0, bid),
+                ask: ask_price(mid, 0, ask),
             });
         }
         return QuotesAnswer::Refused(BEYOND);

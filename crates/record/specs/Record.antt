@@ -122,9 +122,13 @@ unfoldable pub recordIf : Bool → Record → ℕ → RecordAnswer
 recordIf true r next = RecordAnswer.Record r next
 recordIf false r next = RecordAnswer.Skipped limits next
 
+-- by its eleven numbers
+abbrev pub recordBy : List ℕ → ℕ → RecordAnswer
+recordBy v next = let r = recordOf v in recordIf (recordOk r) r next
+
 -- of a sheet of n bytes
 unfoldable pub recordFrom : ℕ → Read (List ℕ) → RecordAnswer
-recordFrom n (taken v rest) = let r = recordOf v in recordIf (recordOk r) r (n - length rest)
+recordFrom n (taken v rest) = recordBy v (n - length rest)
 recordFrom n (refused k) = RecordAnswer.Refused k
 
 unfoldable pub readRecord : List ℕ → ℕ → RecordAnswer

@@ -1,17 +1,16 @@
 // Reads a record: eleven numbers in groups of seven bits.
 ghost use mathlib.Core.Path.{_≡_};
-ghost use Prim.Native.Nat.{_*_, _≤_};
+ghost use Prim.Native.Nat.{_≤_};
 ghost use lib.ListN.{length, drop};
 ghost use lib.Dec.{T};
-ghost use Rattle.amounts.specs.Amounts.{amountLimit};
-ghost use Rattle.record.specs.Record.{numbers, numbersAnswer, numbersLeft, configOf, holding, asHeld, recordOf, recordOk, readAs, readRecord};
+ghost use Rattle.record.specs.Record.{numbers, numbersAnswer, numbersLeft, configOf, holding, asHeld, recordOf, recordOk, recordBy, readAs, readRecord};
 ghost use Rattle.record.specs.Inner.{NumberIs, Stored};
 use crate::refusals::CUT_SHORT;
 use crate::refusals::MALFORMED;
 use quote::GLFTConfig;
 
 // The numbers of a record.
-pub(crate) const FIELDS: usize = 11;
+pub const FIELDS: usize = 11;
 
 // The holding's place among them.
 const HOLDING: usize = 1;
@@ -178,8 +177,7 @@ fn within_limits(v: [u64; FIELDS]) -> bool
 }
 
 // A stored holding: 2h, or -2h - 1 where it is negative.
-fn holding_of(stored: u64) -> i64
-    requires { ⌜ stored ≤ 2 * amountLimit ⌝ }
+pub fn holding_of(stored: u64) -> i64
     ensures { λ r. ⌜ r ≡ holding stored ⌝ }
 {
     let half = (stored / 2) as i64;
@@ -235,6 +233,16 @@ fn numbers_of(v: [u64; FIELDS], flat: bool) -> [u64; FIELDS]
     values
 }
 
+// The record of eleven numbers in the sheet's order, with the place after them: refused by 2.
+pub fn record_of_numbers(numbers: [u64; FIELDS], next: usize) -> RecordAnswer
+    ensures { λ r. ⌜ r ≡ recordBy numbers next ⌝ }
+{
+    if within_limits(numbers) {
+        return RecordAnswer::Record(record_of(numbers), next);
+    }
+    RecordAnswer::Skipped(quote::refusals::LIMITS, next)
+}
+
 // The record at a place of a sheet, with its holding or without: refused by 6, 7 and 2.
 pub fn read_as(sheet: &[u8], at: usize, flat: bool) -> RecordAnswer
     ensures { λ r. ⌜ r ≡ readAs flat (now (sheet .entry)) at ⌝ }
@@ -242,13 +250,7 @@ pub fn read_as(sheet: &[u8], at: usize, flat: bool) -> RecordAnswer
     let mut found: [u64; FIELDS] = [0; FIELDS];
     let start = place_in(sheet, at);
     match take_numbers(sheet, start, &mut found) {
-        NumbersAnswer::Taken(next) => {
-            let values = numbers_of(found, flat);
-            if within_limits(values) {
-                return RecordAnswer::Record(record_of(values), next);
-            }
-            RecordAnswer::Skipped(quote::refusals::LIMITS, next)
-        }
+        NumbersAnswer::Taken(next) => record_of_numbers(numbers_of(found, flat), next),
         NumbersAnswer::Refused(number) => RecordAnswer::Refused(number),
     }
 }

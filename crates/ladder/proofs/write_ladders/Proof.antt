@@ -5,19 +5,20 @@ use Prim.Native.Nat.{_-_, _<_, _≤_}
 use native.Mathlib.Omega.{arith}
 use lib.ListN.{length}
 use denote.Ref.{now}
+use Rattle.ladders.specs.Ladder.{mostLadder}
 use Rattle.sheet.proofs.Ladders.{ladder-told}
 use borrow.Author.Needs.{needs}
 use Rattle.ladder.proofs.write_ladders.Statement.{statement}
 use Rattle.ladder.proofs.write_ladders.Tie as tie
 
 abbrev Inv-loop : tie.InvT-loop
-Inv-loop s out₀ at₀ out at = (65536 ≡ length out) × (at ≤ length s)
+Inv-loop s out₀ at₀ out at = (mostLadder ≡ length out) × (at ≤ length s)
 
 abbrev μ-loop : tie.MeasureT-loop
 μ-loop s out₀ at₀ out at = length s - at
 
-large-buffer-requires : tie.Need-large-buffer-requires Inv-loop μ-loop
-large-buffer-requires c κs = search needs
+buffer-requires : tie.Need-buffer-requires Inv-loop μ-loop
+buffer-requires c κs = search needs
 
 loop-holds : tie.Need-loop-holds Inv-loop μ-loop
 loop-holds c = search needs
@@ -64,7 +65,7 @@ write-ladders-spec =
     (tie.spec
     Inv-loop
     μ-loop
-    large-buffer-requires
+    buffer-requires
     loop-holds
     slice-aggregate-fill
     fill-requires

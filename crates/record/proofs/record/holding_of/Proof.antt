@@ -18,7 +18,7 @@ minus-one-less zero = refl
 minus-one-less (suc n) = rw (zero-add n)
 
 small : (c : tie.Start) → c .args .stored / 2 < 2 ^ 63
-small c = omega arith
+small c = omega (arith, c .fits .stored)
 
 cast-half : tie.Need-cast-half
 cast-half c = search needs

@@ -7,7 +7,7 @@ use lib.ListN.{length, drop}
 use lib.Dec.{T}
 use denote.Ref.{now}
 use borrow.Author.Needs.{needs}
-use Rattle.record.specs.Record.{taken, numbers, fields, recordIf, recordFrom, heldAs, asHeld, recordOf, recordOk, readAs}
+use Rattle.record.specs.Record.{taken, numbers, fields, recordBy, recordFrom, heldAs, asHeld, readAs}
 use Rattle.record.proofs.Reading.{taken-parts, refused-parts}
 use Rattle.record.proofs.record.read_as.Statement.{statement}
 use Rattle.record.proofs.record.read_as.Tie as tie
@@ -21,8 +21,7 @@ parts c =
     let e = rw d at (w .take-numbers .ensures) in
     taken-parts _ _ _ _ (sym (c .next .given .1) ∙ e .0) (e .1)
 
-read-taken : (flat : Bool) (s : List ℕ) (at : ℕ) (v r : List ℕ) (next : ℕ) → numbers fields (drop at s) ≡ taken v r → next ≡ length s - length r
-    → readAs flat s at ≡ (let w = asHeld flat v in recordIf (recordOk (recordOf w)) (recordOf w) next)
+read-taken : (flat : Bool) (s : List ℕ) (at : ℕ) (v r : List ℕ) (next : ℕ) → numbers fields (drop at s) ≡ taken v r → next ≡ length s - length r → readAs flat s at ≡ recordBy (asHeld flat v) next
 unfolding readAs recordFrom heldAs
 read-taken flat s at v r next e k = rw (e, k)
 
@@ -41,34 +40,21 @@ enum-known-next c = search needs
 numbers-of-requires : tie.Need-numbers-of-requires
 numbers-of-requires c κs = search needs
 
-within-limits-requires : tie.Need-within-limits-requires
-within-limits-requires c κs = search needs
-
-record-of-requires : tie.Need-record-of-requires
-record-of-requires c κs = subst T (sym (c .if1 .taken) ∙ c .before .within-limits .ensures) tt
+record-of-numbers-requires : tie.Need-record-of-numbers-requires
+record-of-numbers-requires c κs = search needs
 
 returns : tie.Need-returns
-unfolding recordIf
 returns c =
-    let w = c .before .before in
-    let n = w .before in
+    let n = c .before in
     let p = parts (n .before .before) in
-    rw (read-taken _ _ _ _ _ _ (p .1) (p .2), ← n .numbers-of .ensures, ← w .within-limits .ensures, c .before .if1 .taken, c .record-of .ensures)
+    rw (read-taken _ _ _ _ _ _ (p .1) (p .2), ← n .numbers-of .ensures, c .record-of-numbers .ensures)
 
 enum-known-number : tie.Need-enum-known-number
 enum-known-number c = search needs
 
 returns-2 : tie.Need-returns-2
-unfolding recordIf
-returns-2 c =
-    let w = c .before in
-    let n = w .before in
-    let p = parts (n .before .before) in
-    rw (read-taken _ _ _ _ _ _ (p .1) (p .2), ← n .numbers-of .ensures, ← w .within-limits .ensures, c .if1 .left)
-
-returns-3 : tie.Need-returns-3
 unfolding readAs recordFrom heldAs
-returns-3 c =
+returns-2 c =
     let w = c .before .before .before .before in
     let d = w .before .before .place-in .ensures .1 in
     rw (refused-parts _ _ _ (sym (c .before .number .given .1) ∙ rw d at (w .take-numbers .ensures .0)))
@@ -82,9 +68,7 @@ read-as-spec =
     take-numbers-requires
     enum-known-next
     numbers-of-requires
-    within-limits-requires
-    record-of-requires
-    returns
+    record-of-numbers-requires
     enum-known-number
-    returns-2
-    returns-3)
+    returns
+    returns-2)

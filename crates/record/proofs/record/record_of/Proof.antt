@@ -32,7 +32,7 @@ array-read-holding-of : tie.Need-array-read-holding-of
 array-read-holding-of c = search needs
 
 holding-of-requires : tie.Need-holding-of-requires
-holding-of-requires c κs = kept c .holds
+holding-of-requires c κs = search needs
 
 array-read-t13 : tie.Need-array-read-t13
 array-read-t13 c = search needs
