@@ -12,7 +12,7 @@ use lib.Ieee.Fits.{down-pos}
 use Rattle.elementary.specs.Float.{finite}
 use Rattle.elementary.specs.WholeUp.{next}
 use Rattle.elementary.proofs.WholeUp.{next-holds}
-use Rattle.vector.specs.Refusals.{numerical}
+use Rattle.series.specs.Refusals.{numerical}
 use Rattle.amounts.specs.Refusals.{beyond}
 use Rattle.amounts.specs.Amounts.{billion, amountOk}
 use Rattle.amounts.specs.Rounding.{billionths, countIf, toBillionths, exactly, AtMost, RoundingIsRight, WholeStays, CountRefusals}

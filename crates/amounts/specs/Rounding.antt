@@ -8,7 +8,7 @@ use lib.Signed.{_≤ℤ_}
 use lib.Dec.{T}
 use lib.Ieee.{Float, nan, inf, fin, up, down}
 use Rattle.elementary.specs.Float.{finite}
-use Rattle.vector.specs.Refusals.{numerical}
+use Rattle.series.specs.Refusals.{numerical}
 use Rattle.amounts.specs.Refusals.{beyond}
 use Rattle.amounts.specs.Amounts.{billion, amountOk}
 use Rattle.amounts.specs.declared.rounding.Billionths.{Billionths}

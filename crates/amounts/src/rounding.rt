@@ -138,5 +138,5 @@ pub fn to_billionths(d: f64) -> Billionths
     if elementary::is_finite(d) {
         return count_of(d);
     }
-    Billionths::Refused(vector::refusals::NUMERICAL)
+    Billionths::Refused(series::refusals::NUMERICAL)
 }

@@ -16,3 +16,4 @@ pub mod WholeUp
 pub mod LnSplit
 pub mod LnTwo
 pub mod Refusing
+pub mod Integers

@@ -7,7 +7,8 @@ ghost use Rattle.record.specs.Record.{numbers, numbersAnswer, numbersLef
 ghost use Rattle.record.specs.Inner.{NumberIs, Stored};
 use crate::refusals::CUT_SHORT;
 use crate::refusals::MALFORMED;
-use quote::GLFTConfig;
+use amounts::refusals::LIMITS;
+use model::GLFTConfig;
 
 // The numbers of a record.
 pub const FIELDS: usize = 11;
@@ -240,7 +241,7 @@ pub fn record_of_numbers(numbers: [u64; FIELDS], next: usize) -> RecordAnswer
     if within_limits(numbers) {
         return RecordAnswer::Record(record_of(numbers), next);
     }
-    RecordAnswer::Skipped(quote::refusals::LIMITS, next)
+    RecordAnswer::Skipped(LIMITS, next)
 }
 
 // The record at a place of a sheet, with its holding or without: refused by 6, 7 and 2.

@@ -12,8 +12,8 @@ use crate::record::MOST_GROUPS;
 use crate::record::Record;
 use crate::record::config_of;
 use crate::refusals::SMALL_RECORD_BUFFER;
-use quote::GLFTConfig;
-use quote::refusals::LIMITS;
+use amounts::refusals::LIMITS;
+use model::GLFTConfig;
 
 // The least buffer for a record: the most groups for each of its numbers.
 pub const RECORD_ROOM: usize = FIELDS * MOST_GROUPS;
@@ -106,7 +106,7 @@ fn none_below(r: Record) -> bool
 fn can_save(r: Record) -> bool
     ensures { λ b. ⌜ b ≡ saveOk r ⌝ }
 {
-    quote::limits_fit(r.mid_price, r.inventory, config_of(r), r.volatility)
+    model::limits_fit(r.mid_price, r.inventory, config_of(r), r.volatility)
         & (r.current_time <= GLFTConfig::MAX_TIME)
         & none_below(r)
 }

@@ -1,7 +1,7 @@
 use mir.Facts.{toZ-ofZ}
 use borrow.Author.Needs.{needs}
 use Rattle.amounts.specs.Amounts.{amountLimit, amountOk}
-use Rattle.distances.proofs.Holdings.{within-is}
+use Rattle.elementary.proofs.Integers.{within-is}
 use Rattle.amounts.proofs.amount_fits.Statement.{statement}
 use Rattle.amounts.proofs.amount_fits.Tie as tie
 

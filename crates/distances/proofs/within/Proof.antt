@@ -5,7 +5,7 @@ use mir.Syntax.{w64}
 use mir.Val.{SFits, toZ}
 use mir.Facts.{toZ-ofZ, toZ-pos}
 use borrow.Author.Needs.{needs}
-use Rattle.distances.proofs.Holdings.{within-is, minus-mag}
+use Rattle.elementary.proofs.Integers.{within-is, minus-mag}
 use Rattle.distances.proofs.within.Statement.{statement}
 use Rattle.distances.proofs.within.Tie as tie
 

@@ -8,7 +8,7 @@ use lib.Dec.{lit<}
 use mir.Syntax.{w64}
 use mir.Val.{SFits, toZ, ofZ}
 use mir.Facts.{toZ-ofZ}
-use Rattle.distances.proofs.Holdings.{within-is, minus-mag}
+use Rattle.elementary.proofs.Integers.{within-is, minus-mag}
 use Rattle.amounts.specs.Amounts.{amountLimit, amountOk}
 use Rattle.amounts.proofs.Limits.{quot-fits, divides}
 use Rattle.lots.proofs.Lots.{lots-within, quot-most}

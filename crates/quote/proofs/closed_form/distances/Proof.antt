@@ -7,7 +7,7 @@ use mir.Facts.{toZ-ofZ, toZ-pos}
 use borrow.Author.Needs.{needs}
 use Rattle.elementary.specs.Float.{positive}
 use Rattle.distances.specs.Distances.{sides}
-use Rattle.distances.proofs.Holdings.{minus-mag}
+use Rattle.elementary.proofs.Integers.{minus-mag}
 use Rattle.quote.specs.ClosedForm.{slope, bidForm, askForm, formIf, closedFormDistances}
 use Rattle.quote.proofs.closed_form.distances.Statement.{statement}
 use Rattle.quote.proofs.closed_form.distances.Tie as tie
