@@ -7,8 +7,10 @@ use Rattle.elementary.specs.Checks.{verdict, firstOf, firstFailing}
 use Rattle.elementary.specs.Elementary.{horner, mantissa, exponent, odds, lnSum, lnSeries, lnJoin, lnParts, lnHalved, lnOf, LN, ln1pOf, LN1P, factorials, expSum, expN, expRest, expBy, expOf, EXP, ceilOf, CEIL, orNan}
 use Rattle.operator.specs.Vectors.{from, everyFrom, fold, larger, abs}
 use Rattle.operator.specs.Operator.{diagonalAt, leftAt, rightAt}
-use Rattle.vector.specs.Run.{magnitudes, norm, needed, start, begin, runOn, fixed, firstIf, run, runFrom}
-use Rattle.vector.specs.Values.{padded, vectorOf, ratesOk}
+use Rattle.plan.specs.Plan.{magnitudes, norm, needed, start, begin, fixed, firstIf}
+use Rattle.vector.specs.Run.{runOn, run, runFrom}
+use Rattle.plan.specs.Input.{ratesOk}
+use Rattle.vector.specs.Values.{padded, vectorOf}
 use Rattle.distances.specs.Distances.{place, distance, bidAt, askAt, fine, sides, exactAt}
 use Rattle.distances.specs.FloatEntry.{refusedEntry, withVector, answerBy, entryIf, floatsOk, floatEntry, entryOver}
 use Rattle.amounts.specs.Amounts.{amountOk, timeOk, above0, toFloat, tauOf}

@@ -8,8 +8,8 @@ use Rattle.elementary.specs.Float.{_⊕_, _⊘_, hex, whole, 0ᶠ, ½ᶠ, 1ᶠ,
 use Rattle.elementary.specs.Elementary.{LN2}
 use Rattle.series.specs.Refusals.{numerical}
 use Rattle.operator.specs.Vectors.{fill}
-use Rattle.vector.specs.Run.{Fixed, Turn, going, ended, vector, overCap, failed, cap, norm, firstTurn, fixed}
-use Rattle.vector.specs.declared.RunInput.{RunInput}
+use Rattle.plan.specs.Plan.{Fixed, Turn, going, ended, vector, overCap, failed, cap, norm, firstTurn, fixed}
+use Rattle.plan.specs.declared.RunInput.{RunInput}
 use Rattle.distances.specs.FloatEntry.{floatEntry}
 use Rattle.distances.specs.declared.Distance.{Distance}
 use Rattle.distances.specs.declared.Distance.the-variants as Distance

@@ -10,9 +10,10 @@ use Rattle.elementary.specs.Checks.{passes, refused, firstOf, firstFailing, her
 use Rattle.elementary.proofs.Checks.{first-failing, none-failing, failing-joined}
 use Rattle.vector.specs.Run.{boundOk, run}
 use Rattle.operator.specs.Operator.{rows}
-use Rattle.vector.specs.Values.{vectorBy, vectorIf, vectorOver, ratesOk, inputChecks, valueVector}
-use Rattle.vector.specs.declared.RunInput.{RunInput}
-use Rattle.vector.proofs.Bounds.{all-passed}
+use Rattle.plan.specs.Input.{ratesOk, inputChecks}
+use Rattle.vector.specs.Values.{vectorBy, vectorIf, vectorOver, valueVector}
+use Rattle.plan.specs.declared.RunInput.{RunInput}
+use Rattle.plan.proofs.Bounds.{all-passed}
 use Rattle.distances.specs.Refusals.{holding}
 use Rattle.distances.specs.Distances.{within}
 use Rattle.distances.specs.FloatEntry.{floatsOk, entryChecks}

@@ -10,14 +10,15 @@ use Rattle.elementary.specs.Checks.{Verdict, passes, refused, firstFailing, Ref
 use Rattle.elementary.proofs.Checks.{first-failing}
 use Rattle.series.specs.Refusals.{numerical}
 use Rattle.vector.specs.Run.{going, cap, runOn, run, fixed, spent}
-use Rattle.vector.specs.Count.{planAhead, planIf, FirstGoes}
+use Rattle.plan.specs.Count.{planAhead, planIf, FirstGoes}
 use Rattle.vector.specs.Causes.{CapReported}
-use Rattle.vector.specs.declared.RunInput.{RunInput}
-use Rattle.vector.specs.declared.FirstPlan.{FirstPlan}
-use Rattle.vector.specs.declared.FirstPlan.the-variants as FirstPlan
+use Rattle.plan.specs.declared.RunInput.{RunInput}
+use Rattle.plan.specs.declared.FirstPlan.{FirstPlan}
+use Rattle.plan.specs.declared.FirstPlan.the-variants as FirstPlan
 use Rattle.vector.proofs.Spent.{budget-within}
 use Rattle.vector.proofs.Causes.{cap-reports}
-use Rattle.vector.proofs.Ahead.{first-when, run-first, tied, whole-budget}
+use Rattle.plan.proofs.Ahead.{first-when}
+use Rattle.vector.proofs.Ahead.{run-first, tied, whole-budget}
 use Rattle.distances.specs.FloatEntry.{refusedEntry, answerBy, entryChecks, entryIf, entryOver, floatEntry, stepsIf, stepsOver, floatSteps}
 use Rattle.distances.specs.Refusing.{FloatRefused, at-5, at-1, at-4, at-11}
 use Rattle.distances.specs.Count.{countOver, stepCount, CountIs, counted, StepCounts, CountIsFirstPlan}

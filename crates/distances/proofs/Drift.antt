@@ -7,11 +7,13 @@ use Rattle.elementary.specs.Float.{0ᶠ, finite}
 use Rattle.elementary.specs.Checks.{Verdict, passes, refused, firstFailing}
 use Rattle.elementary.proofs.Zeros.{zero-test, zero-finite, zero-neg, zero-equal}
 use Rattle.vector.specs.Run.{Ended, boundOk, spent, run}
-use Rattle.vector.specs.Values.{ratesOk}
-use Rattle.vector.specs.Count.{planAhead, planIf}
+use Rattle.plan.specs.Input.{ratesOk}
+use Rattle.plan.specs.Count.{planAhead, planIf}
 use Rattle.vector.specs.Promises.{turnedInput}
-use Rattle.vector.specs.Drift.{driftlessRun, driftlessPlan, driftlessInput}
-use Rattle.vector.specs.declared.RunInput.{RunInput}
+use Rattle.plan.specs.Drift.{driftlessPlan, driftlessInput}
+use Rattle.vector.specs.Drift.{driftlessRun}
+use Rattle.plan.specs.declared.RunInput.{RunInput}
+use Rattle.plan.proofs.Drift.{drift-zero as plan-zero}
 use Rattle.vector.proofs.Drift.{drift-zero}
 use Rattle.distances.specs.FloatEntry.{answerBy, floatsOk, entryChecks, entryIf, entryOver, floatEntry, stepsIf, stepsOver, floatSteps}
 use Rattle.distances.specs.Count.{countOver, stepCount}
@@ -57,7 +59,7 @@ module _ (k base : Float) (x : RunInput) (z : eq (x .beta) 0ᶠ ≡ true) where
     count-driftless = rw (← floats-driftless) (go (firstFailing (entryChecks k base x q)) refl)
       where
         go : (v : Verdict) → firstFailing (entryChecks k base x q) ≡ v → planIf v (planAhead x) ≡ planIf v (driftlessPlan (x .alpha) (x .eta) (x .bound) (x .tau))
-        go passes e = let p = passed k base x q e in drift-zero .plans x (p .bound-ok) (rates-pass k base x (p .floats)) z
+        go passes e = let p = passed k base x q e in plan-zero .plans x (p .bound-ok) (rates-pass k base x (p .floats)) z
         go (refused n) e = refl
 
 -- the other zero

@@ -7,7 +7,7 @@ use lib.IntN.{ℤ}
 use lib.Ieee.{Float}
 use Rattle.elementary.specs.Checks.{Verdict, passes, refused, firstFailing}
 use Rattle.vector.specs.Run.{run}
-use Rattle.vector.specs.declared.RunInput.{RunInput}
+use Rattle.plan.specs.declared.RunInput.{RunInput}
 use Rattle.vector.specs.declared.ValueVector.{ValueVector}
 use Rattle.vector.specs.declared.Outcome.{Outcome}
 use Rattle.vector.specs.declared.Outcome.the-variants as Outcome

@@ -14,9 +14,10 @@ use Rattle.elementary.proofs.Signs.{finite-neg}
 use Rattle.operator.specs.Vectors.{at, Mirror}
 use Rattle.vector.specs.Run.{Ended, vector, overCap, failed, boundOk, run, spent}
 use Rattle.operator.specs.Operator.{rows}
-use Rattle.vector.specs.Values.{padded, vectorOf, blankVector, ratesOk}
+use Rattle.plan.specs.Input.{ratesOk}
+use Rattle.vector.specs.Values.{padded, vectorOf, blankVector}
 use Rattle.vector.specs.Promises.{MirrorEnd, turnedInput}
-use Rattle.vector.specs.declared.RunInput.{RunInput}
+use Rattle.plan.specs.declared.RunInput.{RunInput}
 use Rattle.vector.specs.declared.ValueVector.{ValueVector}
 use Rattle.vector.proofs.Turned.{turned-mirror, full-length}
 use Rattle.distances.specs.Distances.{place, distance, bidAt, askAt, fine, sides, exactAt}

@@ -7,7 +7,7 @@ use lib.IntN.{ℤ, pos, negsuc, natAbs, _+ℤ_}
 use lib.Dec.{T, leb, eqb}
 use mir.Facts.{and-yes, leb-yes, eqb-yes}
 use borrow.Author.Tests.{le-ltb}
-use Rattle.vector.specs.Run.{boundOk}
+use Rattle.plan.specs.Plan.{boundOk}
 use Rattle.operator.specs.Operator.{rows}
 use Rattle.distances.specs.Distances.{place, lengthOk}
 

@@ -14,7 +14,7 @@ use Rattle.series.specs.Refusals.{numerical}
 use Rattle.vector.specs.Run.{Ended, vector, overCap, failed, cap, run}
 use Rattle.operator.specs.Operator.{rows}
 use Rattle.vector.specs.Values.{vectorOf}
-use Rattle.vector.specs.declared.RunInput.{RunInput}
+use Rattle.plan.specs.declared.RunInput.{RunInput}
 use Rattle.vector.specs.declared.ValueVector.{ValueVector}
 use Rattle.vector.proofs.Causes.{runs-fail, cap-reports}
 use Rattle.distances.specs.Distances.{place, bidAt, askAt, fine, sides, exactAt, distanceChecks, distancesIf, exactDistances}

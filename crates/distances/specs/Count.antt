@@ -11,10 +11,10 @@ use Rattle.elementary.specs.Checks.{firstFailing}
 use Rattle.vector.specs.Refusals.{configuration}
 use Rattle.series.specs.Refusals.{numerical}
 use Rattle.vector.specs.Run.{going, cap, boundOk, runOn, fixed}
-use Rattle.vector.specs.Count.{planAhead, planIf, FirstIs, FirstGoes}
-use Rattle.vector.specs.declared.RunInput.{RunInput}
-use Rattle.vector.specs.declared.FirstPlan.{FirstPlan}
-use Rattle.vector.specs.declared.FirstPlan.the-variants as FirstPlan
+use Rattle.plan.specs.Count.{planAhead, planIf, FirstIs, FirstGoes}
+use Rattle.plan.specs.declared.RunInput.{RunInput}
+use Rattle.plan.specs.declared.FirstPlan.{FirstPlan}
+use Rattle.plan.specs.declared.FirstPlan.the-variants as FirstPlan
 use Rattle.distances.specs.Refusals.{holding}
 use Rattle.distances.specs.Distances.{within}
 use Rattle.distances.specs.FloatEntry.{answerBy, floatsOk, entryChecks, floatEntry, floatSteps}

@@ -11,7 +11,7 @@ use Rattle.elementary.specs.Checks.{Verdict, passes, refused, firstFailing}
 use Rattle.vector.specs.Refusals.{configuration}
 use Rattle.series.specs.Refusals.{numerical}
 use Rattle.operator.specs.Vectors.{at}
-use Rattle.vector.specs.Run.{boundOk}
+use Rattle.plan.specs.Plan.{boundOk}
 use Rattle.operator.specs.Operator.{rows}
 use Rattle.vector.specs.declared.ValueVector.{ValueVector}
 use Rattle.distances.specs.Refusals.{holding}

@@ -5,9 +5,10 @@ use mathlib.Core.Bool.{true}
 use lib.IntN.{ℤ, negℤ}
 use lib.Ieee.{Float, eq}
 use Rattle.elementary.specs.Float.{0ᶠ}
-use Rattle.vector.specs.Drift.{driftlessRun, driftlessPlan, driftlessInput}
-use Rattle.vector.specs.declared.RunInput.{RunInput}
-use Rattle.vector.specs.declared.FirstPlan.{FirstPlan}
+use Rattle.plan.specs.Drift.{driftlessPlan, driftlessInput}
+use Rattle.vector.specs.Drift.{driftlessRun}
+use Rattle.plan.specs.declared.RunInput.{RunInput}
+use Rattle.plan.specs.declared.FirstPlan.{FirstPlan}
 use Rattle.distances.specs.FloatEntry.{entryOver, floatEntry, stepsOver, floatSteps}
 use Rattle.distances.specs.Count.{countOver, stepCount}
 use Rattle.distances.specs.declared.FloatAnswer.{FloatAnswer}

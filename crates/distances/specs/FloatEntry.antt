@@ -11,8 +11,9 @@ use Rattle.vector.specs.Refusals.{configuration}
 use Rattle.series.specs.Refusals.{numerical}
 use Rattle.vector.specs.Run.{Ended, vector, overCap, failed, cap, boundOk, run, spent}
 use Rattle.operator.specs.Operator.{rows}
-use Rattle.vector.specs.Values.{vectorOf, blankVector, ratesOk}
-use Rattle.vector.specs.declared.RunInput.{RunInput}
+use Rattle.plan.specs.Input.{ratesOk}
+use Rattle.vector.specs.Values.{vectorOf, blankVector}
+use Rattle.plan.specs.declared.RunInput.{RunInput}
 use Rattle.vector.specs.declared.ValueVector.{ValueVector}
 use Rattle.distances.specs.Refusals.{holding}
 use Rattle.distances.specs.Distances.{within, place, exactAt}

@@ -8,11 +8,11 @@ use lib.Dec.{T, ltb}
 use lib.Ieee.{Float, binary64, lt, fits}
 use Rattle.elementary.specs.Float.{0ᶠ, 1ᶠ}
 use Rattle.operator.specs.Vectors.{fill, Mirror}
-use Rattle.vector.specs.Run.{cap, boundOk}
+use Rattle.plan.specs.Plan.{cap, boundOk}
 use Rattle.operator.specs.Operator.{rows}
 use Rattle.vector.specs.Values.{vectorOf}
 use Rattle.vector.specs.Promises.{turnedInput}
-use Rattle.vector.specs.declared.RunInput.{RunInput}
+use Rattle.plan.specs.declared.RunInput.{RunInput}
 use Rattle.vector.specs.declared.ValueVector.{ValueVector}
 use Rattle.vector.specs.declared.VectorAnswer.{VectorAnswer}
 use Rattle.distances.specs.Distances.{place, fine, exactDistances}

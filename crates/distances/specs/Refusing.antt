@@ -14,7 +14,7 @@ use Rattle.vector.specs.Run.{vector, cap, boundOk, fixed, run}
 use Rattle.operator.specs.Operator.{rows}
 use Rattle.vector.specs.Values.{vectorOf}
 use Rattle.vector.specs.Causes.{RunFails, CapReported}
-use Rattle.vector.specs.declared.RunInput.{RunInput}
+use Rattle.plan.specs.declared.RunInput.{RunInput}
 use Rattle.vector.specs.declared.ValueVector.{ValueVector}
 use Rattle.distances.specs.Refusals.{holding}
 use Rattle.distances.specs.Distances.{within, place, lengthOk, exactAt, exactDistances}

@@ -15,7 +15,7 @@ use Rattle.quote.specs.declared.ExactQuotes.the-variants as ExactQuotes
 use Rattle.lines.specs.Lines.{digits, count, price, signed, side, hex, joined, quotesLine, capLine, refusalLine, answerLine, planLine, leastRoom}
 use Rattle.lines.specs.Promises.{PriceHeld, AnswerHeld, PlanHeld, AnswersFit, PlansFit}
 use Rattle.lines.specs.Inner.{mostSide}
-use Rattle.vector.specs.declared.FirstPlan.the-variants as FirstPlan
+use Rattle.plan.specs.declared.FirstPlan.the-variants as FirstPlan
 use Rattle.lines.proofs.Digits.{places-most, length-digits, length-count}
 
 -- ---- fields

@@ -12,8 +12,8 @@ use Rattle.prices.specs.declared.Price.the-variants.{At, Absent}
 use Rattle.prices.specs.declared.GlftQuotes.{GlftQuotes}
 use Rattle.quote.specs.declared.ExactQuotes.{ExactQuotes}
 use Rattle.quote.specs.declared.ExactQuotes.the-variants as ExactQuotes
-use Rattle.vector.specs.declared.FirstPlan.{FirstPlan}
-use Rattle.vector.specs.declared.FirstPlan.the-variants as FirstPlan
+use Rattle.plan.specs.declared.FirstPlan.{FirstPlan}
+use Rattle.plan.specs.declared.FirstPlan.the-variants as FirstPlan
 use Rattle.buffers.specs.Over.{over}
 use Rattle.lines.specs.Refusals.{smallBuffer}
 use Rattle.lines.specs.declared.line.LineWritten.{LineWritten}

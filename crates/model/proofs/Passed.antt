@@ -19,9 +19,9 @@ use Rattle.elementary.proofs.Checks.{first-failing, none-failing, failing-joine
 use Rattle.elementary.proofs.Signs.{nonneg}
 use Rattle.elementary.proofs.Exact.{whole-value, div-one-f}
 use Rattle.elementary.proofs.Order.{round-nonneg, div-nonneg, div-number, div-anti, finite-below}
-use Rattle.vector.specs.Refusals.{configuration}
-use Rattle.vector.specs.Run.{largestBound, boundOk}
-use Rattle.vector.specs.Values.{ratesOk}
+use Rattle.plan.specs.Refusals.{configuration}
+use Rattle.plan.specs.Plan.{largestBound, boundOk}
+use Rattle.plan.specs.Input.{ratesOk}
 use Rattle.distances.specs.FloatEntry.{floatsOk}
 use Rattle.amounts.specs.Refusals.{limits}
 use Rattle.amounts.specs.Amounts.{amountOk, timeLimit, timeOk, above0, tauOf}

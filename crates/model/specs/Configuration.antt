@@ -6,8 +6,8 @@ use lib.IntN.{pos, negℤ}
 use lib.Signed.{leZ}
 use lib.Dec.{ltb}
 use Rattle.elementary.specs.Checks.{Verdict, passes, refused, firstFailing}
-use Rattle.vector.specs.Refusals.{configuration}
-use Rattle.vector.specs.Run.{boundOk}
+use Rattle.plan.specs.Refusals.{configuration}
+use Rattle.plan.specs.Plan.{boundOk}
 use Rattle.amounts.specs.Refusals.{limits}
 use Rattle.model.specs.declared.GLFTConfig.{GLFTConfig}
 use Rattle.model.specs.declared.ConfigAnswer.{ConfigAnswer}

@@ -10,9 +10,9 @@ use Rattle.elementary.specs.Float.{_⊕_, _⊗_, _⊘_, whole, 1ᶠ, 2ᶠ, fini
 use Rattle.elementary.specs.Elementary.{LN1P, EXP, outside, orNan}
 use Rattle.elementary.specs.Checks.{Verdict, passes, refused, firstOf, firstFailing, checkOf}
 use Rattle.elementary.specs.declared.Check.{Check}
-use Rattle.vector.specs.Refusals.{configuration}
+use Rattle.plan.specs.Refusals.{configuration}
 use Rattle.distances.specs.Refusals.{holding}
-use Rattle.vector.specs.declared.RunInput.{RunInput}
+use Rattle.plan.specs.declared.RunInput.{RunInput}
 use Rattle.distances.specs.Distances.{within}
 use Rattle.model.specs.Refusals.{market, drifting}
 use Rattle.amounts.specs.Amounts.{amountOk, above0, toFloat, timeOk}

@@ -13,7 +13,7 @@ use amounts::is_positive;
 use amounts::refusals::LIMITS;
 use amounts::time_fits;
 use elementary::Check;
-use vector::refusals::CONFIGURATION;
+use plan::refusals::CONFIGURATION;
 
 // One check: passed, or refused by its number.
 pub fn one_check(passes: bool, number: u8) -> Check

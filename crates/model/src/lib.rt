@@ -57,7 +57,7 @@ pub enum ModelAnswer {
 }
 
 impl GLFTConfig {
-    pub const MAX_INVENTORY_LOTS: u32 = vector::MAX_INVENTORY_LOTS;
+    pub const MAX_INVENTORY_LOTS: u32 = plan::MAX_INVENTORY_LOTS;
 
     pub const MAX_AMOUNT: i64 = amounts::MAX_AMOUNT;
 

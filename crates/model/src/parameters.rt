@@ -10,7 +10,7 @@ use crate::ModelAnswer;
 use amounts::amount_fits;
 use amounts::is_positive;
 use amounts::to_f64;
-use vector::RunInput;
+use plan::RunInput;
 
 const SECONDS_PER_YEAR: f64 = 31536000.0;
 
@@ -116,5 +116,5 @@ pub(crate) fn of_holding(inventory: i64, config: GLFTConfig, volatility: i64) ->
         }
         return ModelAnswer::Refused(distances::refusals::HOLDING);
     }
-    ModelAnswer::Refused(vector::refusals::CONFIGURATION)
+    ModelAnswer::Refused(plan::refusals::CONFIGURATION)
 }

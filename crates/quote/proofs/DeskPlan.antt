@@ -8,11 +8,11 @@ use lib.IntN.{ℤ}
 use lib.Ieee.{Float, lt}
 use Rattle.elementary.specs.Float.{0ᶠ, positive}
 use Rattle.vector.specs.Refusals.{numerical}
-use Rattle.vector.specs.Run.{boundOk, diagonalFinite, fixed}
-use Rattle.vector.specs.Count.{firstSize, FirstIs, no-time, not-finite, fails, over, kept, FirstGoes}
-use Rattle.vector.specs.declared.RunInput.{RunInput}
-use Rattle.vector.specs.declared.FirstPlan.{FirstPlan}
-use Rattle.vector.specs.declared.FirstPlan.the-variants as FirstPlan
+use Rattle.plan.specs.Plan.{boundOk, diagonalFinite, fixed}
+use Rattle.plan.specs.Count.{firstSize, FirstIs, no-time, not-finite, fails, over, kept, FirstGoes}
+use Rattle.plan.specs.declared.RunInput.{RunInput}
+use Rattle.plan.specs.declared.FirstPlan.{FirstPlan}
+use Rattle.plan.specs.declared.FirstPlan.the-variants as FirstPlan
 use Rattle.distances.specs.Distances.{within}
 use Rattle.distances.specs.FloatEntry.{floatsOk}
 use Rattle.distances.specs.Count.{stepCount, CountIs, at-5, at-1, at-4, counted}

@@ -9,8 +9,8 @@ use lib.Ieee.{Float, binary64, eq}
 use Rattle.elementary.specs.Float.{0ᶠ, finite, positive}
 use Rattle.elementary.specs.Checks.{verdict, firstOf, firstFailing}
 use Rattle.elementary.proofs.Zeros.{Zero, zero-equal, zero-finite}
-use Rattle.vector.specs.declared.FirstPlan.{FirstPlan}
-use Rattle.vector.specs.declared.FirstPlan.the-variants as FirstPlan
+use Rattle.plan.specs.declared.FirstPlan.{FirstPlan}
+use Rattle.plan.specs.declared.FirstPlan.the-variants as FirstPlan
 use Rattle.distances.specs.declared.Answer.{Answer}
 use Rattle.distances.specs.declared.Answer.the-variants as Answer
 use Rattle.distances.specs.declared.FloatAnswer.{FloatAnswer}

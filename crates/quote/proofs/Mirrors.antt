@@ -14,9 +14,9 @@ use Rattle.elementary.specs.Checks.{Verdict, passes, refused, firstFailing}
 use Rattle.elementary.proofs.Signs.{mul-neg-left, div-neg-left, sub-neg}
 use Rattle.elementary.proofs.Zeros.{Zero, zero-equal, zero-neg}
 use Rattle.elementary.proofs.Exact.{one-whole, twice-and-one, twice-less-one}
-use Rattle.vector.specs.Run.{cap, largestBound}
+use Rattle.plan.specs.Plan.{cap, largestBound}
 use Rattle.vector.specs.Promises.{turnedInput}
-use Rattle.vector.specs.declared.RunInput.{RunInput}
+use Rattle.plan.specs.declared.RunInput.{RunInput}
 use Rattle.distances.specs.Promises.{Counted, exchanged, exchangedSides}
 use Rattle.distances.specs.FloatEntry.{floatEntry, floatSteps}
 use Rattle.distances.specs.declared.Distance.the-variants.{At}

@@ -10,8 +10,8 @@ use lib.Ieee.{Float}
 use Rattle.elementary.specs.Float.{positive}
 use Rattle.elementary.specs.Checks.{firstFailing, Refuses, Passes}
 use Rattle.vector.specs.Refusals.{numerical}
-use Rattle.vector.specs.Run.{boundOk}
-use Rattle.vector.specs.declared.RunInput.{RunInput}
+use Rattle.plan.specs.Plan.{boundOk}
+use Rattle.plan.specs.declared.RunInput.{RunInput}
 use Rattle.distances.specs.Distances.{within, fine, sides}
 use Rattle.distances.specs.FloatEntry.{floatsOk, floatEntry}
 use Rattle.distances.specs.Refusing.{EntryFails, FloatRefused, at-5, at-1, at-4, at-11}

@@ -10,8 +10,8 @@ use lib.Dec.{T}
 use lib.Ieee.{Float, nan, inf, fin, lt, isNan}
 use Rattle.elementary.specs.Float.{whole}
 use Rattle.elementary.specs.Checks.{Refuses, here, later}
-use Rattle.vector.specs.Run.{cap}
-use Rattle.vector.specs.declared.RunInput.{RunInput}
+use Rattle.plan.specs.Plan.{cap}
+use Rattle.plan.specs.declared.RunInput.{RunInput}
 use Rattle.distances.specs.FloatEntry.{floatEntry}
 use Rattle.distances.specs.Promises.{Counted}
 use Rattle.distances.specs.declared.Distance.{Distance}

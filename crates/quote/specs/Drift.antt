@@ -8,8 +8,8 @@ use Rattle.elementary.specs.Float.{positive}
 use Rattle.elementary.specs.Elementary.{outside}
 use Rattle.elementary.specs.Checks.{firstFailing, checkOf}
 use Rattle.elementary.specs.declared.Check.{Check}
-use Rattle.vector.specs.declared.FirstPlan.{FirstPlan}
-use Rattle.vector.specs.declared.FirstPlan.the-variants as FirstPlan
+use Rattle.plan.specs.declared.FirstPlan.{FirstPlan}
+use Rattle.plan.specs.declared.FirstPlan.the-variants as FirstPlan
 use Rattle.distances.specs.Drift.{driftlessEntry, driftlessSteps as entrySteps, driftlessCount}
 use Rattle.distances.specs.Refusals.{holding}
 use Rattle.distances.specs.declared.Answer.{Answer}

@@ -8,10 +8,10 @@ use lib.Ieee.{Float, lt}
 use Rattle.elementary.specs.Float.{0ᶠ, positive}
 use Rattle.elementary.specs.Checks.{Refuses, Passes}
 use Rattle.vector.specs.Refusals.{numerical}
-use Rattle.vector.specs.Run.{diagonalFinite, fixed}
-use Rattle.vector.specs.Count.{firstSize, FirstGoes}
-use Rattle.vector.specs.declared.FirstPlan.{FirstPlan}
-use Rattle.vector.specs.declared.FirstPlan.the-variants as FirstPlan
+use Rattle.plan.specs.Plan.{diagonalFinite, fixed}
+use Rattle.plan.specs.Count.{firstSize, FirstGoes}
+use Rattle.plan.specs.declared.FirstPlan.{FirstPlan}
+use Rattle.plan.specs.declared.FirstPlan.the-variants as FirstPlan
 use Rattle.distances.specs.Count.{stepCount}
 use Rattle.amounts.specs.Amounts.{tauOf}
 use Rattle.model.specs.Model.{modelOf, inputOf, exactChecks, exactModel}

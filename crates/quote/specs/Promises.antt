@@ -8,7 +8,7 @@ use lib.Ieee.{Float}
 use Rattle.elementary.specs.Float.{positive}
 use Rattle.elementary.specs.Checks.{Refuses, Passes}
 use Rattle.vector.specs.Refusals.{numerical}
-use Rattle.vector.specs.Run.{cap}
+use Rattle.plan.specs.Plan.{cap}
 use Rattle.distances.specs.Distances.{fine}
 use Rattle.distances.specs.Refusing.{EntryFails}
 use Rattle.distances.specs.Promises.{exchanged, exchangedSides}

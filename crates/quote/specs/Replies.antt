@@ -5,7 +5,7 @@ use mathlib.Core.Bool.{not}
 use lib.IntN.{ℤ, pos, negsuc}
 use lib.Dec.{T}
 use lib.Ieee.{isNan}
-use Rattle.vector.specs.Run.{cap}
+use Rattle.plan.specs.Plan.{cap}
 use Rattle.prices.specs.Refusals.{crossed}
 use Rattle.amounts.specs.Amounts.{amountLimit}
 use Rattle.quote.specs.Quotes.{exactQuotes}

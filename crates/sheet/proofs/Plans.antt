@@ -9,8 +9,8 @@ use borrow.Author.Tests.{leb-true, leb-false, le-leb}
 use lib.ListN.{length}
 use lib.Dec.{leb}
 use lib.Ieee.{Float}
-use Rattle.vector.specs.declared.FirstPlan.{FirstPlan}
-use Rattle.vector.specs.declared.FirstPlan.the-variants as FirstPlan
+use Rattle.plan.specs.declared.FirstPlan.{FirstPlan}
+use Rattle.plan.specs.declared.FirstPlan.the-variants as FirstPlan
 use Rattle.quote.specs.Replies.{ReplyKept}
 use Rattle.quote.specs.declared.ExactQuotes.{ExactQuotes}
 use Rattle.quote.specs.declared.ExactQuotes.the-variants as ExactQuotes

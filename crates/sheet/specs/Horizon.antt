@@ -5,8 +5,8 @@ use Prim.Native.Nat.{ℕ, _<_, _≤_}
 use mathlib.Core.List.{List}
 use lib.ListN.{length}
 use lib.Ieee.{Float}
-use Rattle.vector.specs.declared.FirstPlan.{FirstPlan}
-use Rattle.vector.specs.declared.FirstPlan.the-variants as FirstPlan
+use Rattle.plan.specs.declared.FirstPlan.{FirstPlan}
+use Rattle.plan.specs.declared.FirstPlan.the-variants as FirstPlan
 use Rattle.quote.specs.Horizon.{deskPlan}
 use Rattle.lines.specs.Refusals.{smallBuffer}
 use Rattle.record.specs.Record.{configOf, readRecord}

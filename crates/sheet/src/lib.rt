@@ -1,13 +1,14 @@
 // The sheet: records in, lines out.
 mod fill;
+mod horizon;
 mod ladder;
 mod line;
-mod plan;
 pub mod refusals;
 mod text;
 
 pub use fill::FillAnswer;
 pub use fill::fill_lines;
+pub use horizon::next_plan;
 pub use ladder::next_ladder;
 pub use ladders::LadderAnswer;
 pub use ladders::MOST_LADDER;
@@ -16,7 +17,6 @@ pub use line::LineAnswer;
 pub use line::MOST_BYTES;
 pub use line::next_line;
 pub use lines::LEAST_ROOM;
-pub use plan::next_plan;
 pub use record::RECORD_ROOM;
 pub use record::Record;
 pub use record::RecordAnswer;

@@ -15,12 +15,13 @@ use Rattle.elementary.specs.Reply.{Reply, value, refusal}
 use Rattle.elementary.proofs.Order.{lt→not-ge}
 use Rattle.operator.specs.Vectors.{tab, fill, fold, smaller}
 use Rattle.operator.specs.Operator.{leftAt, rightAt}
-use Rattle.vector.specs.Run.{Ended, vector, overCap, failed, Fixed, Going, Turn, going, ended, cap, needed, start, begin, divided, rebalances, rebalance, next, stepped, turn, runOn, fixed, diagonalFinite, firstIf, firstTurn, runFor, run, runFrom}
+use Rattle.plan.specs.Plan.{Ended, vector, overCap, failed, Fixed, Going, Turn, going, ended, cap, needed, start, begin, fixed, diagonalFinite, firstIf, firstTurn}
+use Rattle.vector.specs.Run.{divided, rebalances, rebalance, next, stepped, turn, runOn, runFor, run, runFrom}
 use Rattle.vector.specs.Causes.{Reached, first, later, GoingKeeps, RunsEnd, stepSum, Rebalancing, weightsPositive, Planning, at-first, again, factorsFinite, timesNorm, PlanFails, by-factor, by-norm, RunFails, by-diagonal, by-plan, by-series, by-weight, RunsFail, CapReported, CapReports}
-use Rattle.vector.specs.declared.RunInput.{RunInput}
-use Rattle.vector.proofs.Plans.{planned-some, planned-within, planned-same}
+use Rattle.plan.specs.declared.RunInput.{RunInput}
+use Rattle.plan.proofs.Plans.{planned-some, planned-within, planned-same}
 use Rattle.vector.proofs.RunLaws.{on-ended}
-use Rattle.vector.proofs.Turns.{Any, TurnOk, begin-ok}
+use Rattle.plan.proofs.Begun.{Any, TurnOk, begin-ok}
 use Rattle.series.proofs.Summing.{series-refused}
 
 module _ (p : Fixed) (tau : Float) where

@@ -14,7 +14,8 @@ use Rattle.series.specs.Slices.{Fit}
 use Rattle.series.specs.Half.{fullSize, fullFactors, full, Centred}
 use Rattle.operator.proofs.Lists.{at-tab, tab-ext}
 use Rattle.series.proofs.Full.{at-full, own, fit-full, largest-full, smallest-full, full-with, own-tab, full-own-tab, left-opposite, right-opposite}
-use Rattle.vector.specs.Run.{floor, magnitudes, norm, fixedOver, divided, rebalances}
+use Rattle.plan.specs.Plan.{magnitudes, norm, fixedOver}
+use Rattle.vector.specs.Run.{floor, divided, rebalances}
 use Rattle.vector.specs.Half.{fullFixed}
 
 -- ---- the division by the largest weight, and the smallest

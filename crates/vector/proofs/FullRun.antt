@@ -14,18 +14,20 @@ use Rattle.elementary.specs.Float.{_⊕_, _⊗_, 0ᶠ, 1ᶠ, finite, positive}
 use Rattle.elementary.specs.Elementary.{LN, orNan}
 use Rattle.operator.specs.Vectors.{tab, at, fill, every, fold, smaller}
 use Rattle.operator.specs.Operator.{diagonalAt, leftAt, rows}
-use Rattle.vector.specs.Run.{failed, cap, fixedOver, begin, divided, rebalances, runOn, run}
-use Rattle.vector.specs.Values.{room, padded}
+use Rattle.plan.specs.Plan.{failed, cap, fixedOver, begin, room, planOf, planWith}
+use Rattle.vector.specs.Run.{divided, rebalances, runOn, run}
+use Rattle.vector.specs.Values.{padded}
 use Rattle.series.specs.Slices.{Fit}
 use Rattle.operator.specs.Slices.{rightBy}
-use Rattle.vector.specs.Inner.{planOf, stoppedOf, AfterBy, AfterIs, BegunIs, EndIs}
+use Rattle.vector.specs.Inner.{stoppedOf, AfterBy, AfterIs, BegunIs, EndIs}
 use Rattle.series.specs.Half.{filledOut, fullSize, fullFactors, full, Centred}
 use Rattle.vector.specs.Half.{fullFixed, RowsStand}
-use Rattle.vector.specs.declared.RunInput.{RunInput}
+use Rattle.plan.specs.declared.RunInput.{RunInput}
 use Rattle.vector.specs.declared.Outcome.{Outcome}
 use Rattle.vector.specs.declared.Outcome.the-variants as Outcome
-use Rattle.vector.specs.declared.plan.Planned.{Planned}
-use Rattle.vector.specs.declared.plan.Planned.the-variants as Planned
+use Rattle.plan.specs.declared.plan.Planned.{Planned}
+use Rattle.plan.specs.declared.plan.Planned.the-variants as Planned
+use Rattle.plan.proofs.Plans.{planned-over}
 use Rattle.vector.specs.declared.run.Pace.{Pace}
 use Rattle.operator.proofs.Lists.{length-tab, tab-ext}
 use Rattle.operator.proofs.Loops.{drop-fill}
@@ -58,9 +60,13 @@ module _ (h : Bool) (n b : ℕ) (rest : Float) (o left right d : List Float) (et
   scaled-full (Planned.OverCap need) e = tt
   scaled-full Planned.Refused e = tt
 
-  pub begun-full : good ≡ true → (q : Planned) → q ≡ planOf (fixedOver n d eta) b left right rest → Scaled (fixedOver n d eta) diag q → a ≡ told b rest q
+  -- the slices agree
+  plan-slices : length d ≡ n → (q : Planned) → q ≡ planWith rest d eta left right b → q ≡ planOf (fixedOver n d eta) b left right rest
+  plan-slices ed q e = rw ed at (planned-over rest d eta left right b (ap length el ∙ length-tab n _ ∙ sym ed) (ap length er ∙ length-tab n _ ∙ sym ed) q e)
+
+  pub begun-full : length d ≡ n → good ≡ true → (q : Planned) → q ≡ planWith rest d eta left right b → Scaled (fixedOver n d eta) diag q → a ≡ told b rest q
       → BegunIs (fullFixed h n d eta) b rest (full h n o) (fullFactors h n left right) (fullFactors h n right left) (full h n diag) a
-  begun-full g q e s = begun (fullFixed h n d eta) b rest (full h n o) _ _ (full h n diag) fits good left-is (ap₂ (fullFactors h n) er el ∙ right-full h n o two) good-is a g q (e ∙ plan-full) (scaled-full q s)
+  begun-full ed g q e s = begun (fullFixed h n d eta) b rest (full h n o) _ _ (full h n diag) fits good left-is (ap₂ (fullFactors h n) er el ∙ right-full h n o two) good-is a g q (plan-slices ed q e ∙ plan-full) (scaled-full q s)
 
   pub not-begun-full : good ≡ false → a ≡ stoppedOf (Outcome.Refused 11)
       → BegunIs (fullFixed h n d eta) b rest (full h n o) (fullFactors h n left right) (fullFactors h n right left) (full h n diag) a

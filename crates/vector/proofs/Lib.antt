@@ -1,12 +1,8 @@
-pub mod Plans
 pub mod Room
 pub mod RunLaws
-pub mod Bounds
 pub mod Mirror
 pub mod FullPlan
 pub mod FullRun
-pub mod Lots
-pub mod Rows
 pub mod Ahead
 pub mod Drift
 pub mod Stands

@@ -11,11 +11,10 @@ use lib.Ieee.Fits.{add-fits}
 use Rattle.elementary.specs.Float.{_⊕_, _⊖_, _⊗_, hex, 0ᶠ, 1ᶠ, finite, positive}
 use Rattle.elementary.specs.Reply.{Reply}
 use Rattle.elementary.proofs.Signs.{add-comm-f}
-use Rattle.operator.specs.Vectors.{tab, at, fill, every, fold, larger, smaller, before, after, Mirror}
+use Rattle.operator.specs.Vectors.{tab, at, fill, every, fold, larger, smaller, Mirror}
 use Rattle.operator.specs.Operator.{leftAt, rightAt}
-use Rattle.series.specs.Series.{Operator, rowAt, applied, term, plus, bothFinite, converged, Sum, summing, summed, judge, nextTerm, series, taylorStep}
-use Rattle.vector.specs.Run.{cap, Ended, vector, overCap, failed, magnitudes, fixedOver, Going, Turn, going, ended, norm, start, begin, divided, rebalances, rebalance, next, stepped, stepOperator, turn, runOn, diagonalFinite, firstIf, runFor, runFrom}
-use Rattle.series.specs.Refusals.{numerical}
+use Rattle.plan.specs.Plan.{cap, Ended, vector, overCap, failed, magnitudes, fixedOver, Going, Turn, going, ended, norm, start, begin, diagonalFinite, firstIf}
+use Rattle.vector.specs.Run.{divided, rebalances, rebalance, next, stepped, stepOperator, turn, runOn, runFor, runFrom}
 use Rattle.vector.specs.Promises.{MirrorEnd, MirrorRuns}
 use Rattle.operator.proofs.Lists.{Opposite, length-tab, every-mirror}
 use Rattle.series.proofs.Extremes.{largest-mirror, smallest-mirror}

@@ -5,12 +5,14 @@ use native.Mathlib.Omega.{arith}
 use Rattle.elementary.specs.Checks.{Verdict, passes, refused, firstFailing, Refuses, here, later}
 use Rattle.elementary.proofs.Checks.{first-failing}
 use Rattle.series.specs.Refusals.{numerical}
-use Rattle.vector.specs.Run.{Ended, vector, overCap, failed, run}
+use Rattle.plan.specs.Plan.{Ended, vector, overCap, failed}
+use Rattle.vector.specs.Run.{run}
 use Rattle.operator.specs.Operator.{rows}
-use Rattle.vector.specs.Values.{refusedVector, vectorBy, vectorIf, vectorOver, inputChecks, valueVector}
+use Rattle.plan.specs.Input.{inputChecks}
+use Rattle.vector.specs.Values.{refusedVector, vectorBy, vectorIf, vectorOver, valueVector}
 use Rattle.vector.specs.Refusing.{VectorRefused, by-5, by-1, by-11, VectorRefusals}
 use Rattle.vector.specs.declared.Outcome.the-variants as Outcome
-use Rattle.vector.proofs.Bounds.{input-passes, rates-refused, bound-refused, all-passed}
+use Rattle.plan.proofs.Bounds.{input-passes, rates-refused, bound-refused, all-passed}
 use Rattle.vector.proofs.Causes.{runs-fail}
 
 failed-by : (m : ℕ) (e : Ended) (n : ℕ) → vectorBy m e .outcome ≡ Outcome.Refused n → (s : ℕ) × (e ≡ failed s) × (n ≡ numerical)

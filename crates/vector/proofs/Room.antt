@@ -1,16 +1,17 @@
 -- An array that holds n entries and 0.0 after them, its first n places lent and come back. Assumes nothing.
-use mathlib.Core.Path.{_≡_, sym, ap, _∙_}
-use Prim.Native.Nat.{ℕ, _+_, _-_, _≤_}
+use mathlib.Core.Path.{_≡_, ap, _∙_}
+use Prim.Native.Nat.{ℕ, _-_, _≤_}
 use native.Mathlib.Omega.{arith}
 use mathlib.Core.List.{List, _++_}
-use lib.ListN.{length, take, drop, length-append, length-replicate, replicate-append-replicate}
+use lib.ListN.{length, take, drop, length-append}
 use lib.Seq.{take-at, drop-at}
 use lib.Ieee.{Float}
 use Rattle.elementary.specs.Float.{0ᶠ}
-use Rattle.operator.specs.Vectors.{tab, fill}
-use Rattle.vector.specs.Values.{room, padded, vectorOf}
+use Rattle.operator.specs.Vectors.{fill}
+use Rattle.plan.specs.Plan.{room}
+use Rattle.plan.proofs.Room.{blank-apart}
+use Rattle.vector.specs.Values.{padded, vectorOf}
 use Rattle.vector.specs.declared.ValueVector.{ValueVector}
-use Rattle.operator.proofs.Lists.{length-tab}
 
 module _ (n : ℕ) (a l : List Float) (e : a ≡ padded n l) (k : length l ≡ n) where
   pub lent : take n a ≡ l
@@ -29,43 +30,9 @@ module _ (n : ℕ) (a l : List Float) (e : a ≡ padded n l) (k : length l ≡ n
   back v = rw e (ap (λ (r : List Float). v ++ r) (drop-at l _ n k))
 
 -- a blank array
-module _ (n : ℕ) (a : List Float) (e : a ≡ fill room 0ᶠ) (h : n ≤ room) where
-  pub blank-padded : a ≡ padded n (fill n 0ᶠ)
-  unfolding padded
-  blank-padded =
-      let k : room ≡ n + (room - n) = omega arith in
-      e ∙ ap (λ (m : ℕ). fill m 0ᶠ) k ∙ sym (replicate-append-replicate n (room - n) 0ᶠ)
-
-  pub blank-room : n ≤ length a
-  blank-room = rw (ap length e ∙ length-replicate room 0ᶠ) h
-
-  pub blank-length : length (take n a) ≡ n
-  blank-length = length-lent n a (fill n 0ᶠ) blank-padded (length-replicate n 0ᶠ)
-
--- n entries that came back, with what stands after them
-module _ (n : ℕ) (d r : List Float) (k : length d ≡ n) where
-  pub part-back : take n (d ++ r) ≡ d
-  part-back = take-at d r n k
-
-  pub part-length : length (take n (d ++ r)) ≡ n
-  part-length = ap length part-back ∙ k
-
-  pub part-room : n ≤ length (d ++ r)
-  part-room = rw (length-append d r, k) (omega arith)
-
--- and by a rule
-module _ (n : ℕ) (f : ℕ → Float) (d r : List Float) (e : d ≡ tab n f) where
-  by-rule : length d ≡ n
-  by-rule = ap length e ∙ length-tab n f
-
-  pub stored-part : take n (d ++ r) ≡ tab n f
-  stored-part = part-back n d r by-rule ∙ e
-
-  pub stored-length : length (take n (d ++ r)) ≡ n
-  stored-length = part-length n d r by-rule
-
-  pub stored-room : n ≤ length (d ++ r)
-  stored-room = part-room n d r by-rule
+pub blank-padded : (n : ℕ) (a : List Float) → a ≡ fill room 0ᶠ → n ≤ room → a ≡ padded n (fill n 0ᶠ)
+unfolding padded
+blank-padded n a e h = blank-apart n a e h
 
 -- a vector's own arrays
 module _ (n : ℕ) (w o : List Float) (v : ValueVector) (e : v ≡ vectorOf n w o) where

@@ -15,19 +15,20 @@ use Rattle.elementary.specs.Elementary.{LN, orNan}
 use Rattle.operator.specs.Vectors.{tab, at, fill, every, fold, larger, smaller}
 use Rattle.operator.specs.Operator.{diagonalAt, leftAt, rightAt, rows}
 use Rattle.series.specs.Series.{taylorStep, operatorOver}
-use Rattle.vector.specs.Run.{Ended, vector, overCap, failed, Fixed, Going, going, ended, cap, start, begin, divided, floor, rebalances, rebalance, next, stepped, stepOperator, turn, runOn, fixedOver, fixed, firstIf, runFor, run, runFrom}
+use Rattle.plan.specs.Plan.{Ended, vector, overCap, failed, Fixed, Going, going, ended, cap, start, begin, fixedOver, fixed, firstIf, planBy, planOf}
+use Rattle.vector.specs.Run.{divided, floor, rebalances, rebalance, next, stepped, stepOperator, turn, runOn, run, runFrom}
 use Rattle.vector.specs.Values.{padded, vectorOf, vectorBy}
-use Rattle.vector.specs.Inner.{goingOver, planBy, planOf, pacedOf, askedOf, stoppedOf, endBy, AfterBy, AfterIs, Standing, weightBy, weight, BegunIs, PlanSpent, Between, EndIs}
+use Rattle.vector.specs.Inner.{goingOver, pacedOf, askedOf, stoppedOf, endBy, AfterBy, AfterIs, Standing, weightBy, weight, BegunIs, PlanSpent, Between, EndIs}
 use Rattle.series.specs.Half.{StepIs}
-use Rattle.vector.specs.declared.RunInput.{RunInput}
+use Rattle.plan.specs.declared.RunInput.{RunInput}
 use Rattle.vector.specs.declared.Outcome.{Outcome}
 use Rattle.vector.specs.declared.Outcome.the-variants as Outcome
-use Rattle.vector.specs.declared.plan.Planned.{Planned}
-use Rattle.vector.specs.declared.plan.Planned.the-variants as Planned
+use Rattle.plan.specs.declared.plan.Planned.{Planned}
+use Rattle.plan.specs.declared.plan.Planned.the-variants as Planned
 use Rattle.vector.specs.declared.run.Pace.{Pace}
 use Rattle.operator.proofs.Lists.{every-true}
 use Rattle.series.proofs.Extremes.{smallest-floor}
-use Rattle.vector.proofs.Plans.{planned-some}
+use Rattle.plan.proofs.Plans.{planned-some}
 
 never : {A : Type 0} → _≡_ {A = ℕ} 0 1 → A
 never e = absurd (omega arith)

@@ -7,10 +7,12 @@ use mathlib.Core.Bool.{Bool, true, false}
 use mathlib.Core.List.{List}
 use lib.Ieee.{Float, lt}
 use Rattle.elementary.specs.Float.{0ᶠ}
-use Rattle.vector.specs.Run.{Ended, vector, overCap, failed, Fixed, Turn, going, ended, cap, turn, runOn, fixed, firstIf, runFor, runFrom, run, spent}
+use Rattle.plan.specs.Plan.{Ended, vector, overCap, failed, Fixed, Turn, going, ended, cap, fixed, firstIf}
+use Rattle.vector.specs.Run.{turn, runOn, runFor, runFrom, run, spent}
 use Rattle.vector.specs.Promises.{StepsWithin, BudgetWithin, SumOf}
-use Rattle.vector.specs.declared.RunInput.{RunInput}
-use Rattle.vector.proofs.Turns.{Any, EndOk, TurnOk, begin-ok, turn-ok}
+use Rattle.plan.specs.declared.RunInput.{RunInput}
+use Rattle.plan.proofs.Begun.{Any, EndOk, TurnOk, begin-ok}
+use Rattle.vector.proofs.Turns.{turn-ok}
 
 -- ---- the run, of whatever weights
 end-any : (P : List Float → List Float → Type 0) (b : ℕ) (r : Ended) → b ≤ cap → EndOk b P r → EndOk cap Any r

@@ -8,12 +8,12 @@ use lib.Ieee.{Float, eq}
 use Rattle.elementary.specs.Float.{_⊕_, _⊗_, whole, 0ᶠ, 2ᶠ, positive}
 use Rattle.operator.specs.Vectors.{tab}
 use Rattle.operator.specs.Operator.{diagonalAt, rows}
-use Rattle.vector.specs.Run.{boundOk}
+use Rattle.plan.specs.Plan.{boundOk}
 use Rattle.series.specs.Half.{fullSize, fullFactors}
 use Rattle.vector.specs.Half.{RowsStand}
-use Rattle.vector.proofs.Lots.{lots, lots-are, diagonal-is}
+use Rattle.plan.proofs.Lots.{lots, lots-are, diagonal-is}
 use Rattle.series.proofs.Full.{full-tab}
-use Rattle.vector.proofs.Drift.{entry-driftless}
+use Rattle.plan.proofs.Drift.{entry-driftless}
 
 pub all-stand : (b : ℕ) (alpha beta eta : Float) → RowsStand false (rows b) b alpha beta eta
 unfolding fullSize fullFactors

@@ -15,11 +15,12 @@ use Rattle.elementary.proofs.Signs.{neg-neg, mul-neg-left, mul-neg-neg, ofInt-n
 use Rattle.elementary.proofs.Zeros.{Zero, zero-of, zero-neg, times-zero, sub-nothing}
 use Rattle.operator.specs.Vectors.{tab}
 use Rattle.operator.specs.Operator.{diagonalAt, rows}
-use Rattle.vector.specs.Run.{Ended, vector, overCap, failed, boundOk, fixedOver, fixed, runFor, run}
+use Rattle.plan.specs.Plan.{Ended, vector, overCap, failed, boundOk, fixedOver, fixed}
+use Rattle.vector.specs.Run.{runFor, run}
 use Rattle.vector.specs.Promises.{TurnedMirror, FullLength}
-use Rattle.vector.proofs.Bounds.{rates-above}
-use Rattle.vector.proofs.Lots.{lots, lots-are, square-is}
-use Rattle.vector.proofs.Drift.{square-above}
+use Rattle.plan.proofs.Bounds.{rates-above}
+use Rattle.plan.proofs.Lots.{lots, lots-are, square-is}
+use Rattle.plan.proofs.Drift.{square-above}
 use Rattle.series.proofs.Mirror.{tab-mirror}
 use Rattle.vector.proofs.Mirror.{Ends, vectors, reports, failures, ends, mirror-end}
 

@@ -14,8 +14,9 @@ use Rattle.operator.specs.Vectors.{tab, at, fill, every, fold, smaller}
 use Rattle.operator.specs.Operator.{leftAt, rightAt}
 use Rattle.series.specs.Series.{taylorStep}
 use Rattle.series.specs.Causes.{SeriesFails}
-use Rattle.vector.specs.Run.{Ended, overCap, failed, Fixed, Going, Turn, going, ended, cap, norm, needed, divided, rebalances, stepOperator, turn, diagonalFinite, firstTurn, fixed, run}
-use Rattle.vector.specs.declared.RunInput.{RunInput}
+use Rattle.plan.specs.Plan.{Ended, overCap, failed, Fixed, Going, Turn, going, ended, cap, norm, needed, diagonalFinite, firstTurn, fixed}
+use Rattle.vector.specs.Run.{divided, rebalances, stepOperator, turn, run}
+use Rattle.plan.specs.declared.RunInput.{RunInput}
 
 -- what a run over tau meets: its states, each with the budget left
 pub data Reached (p : Fixed) (tau : Float) : ℕ → Turn → Type 0 where

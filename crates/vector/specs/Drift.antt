@@ -1,48 +1,25 @@
--- Change request 7: at drift 0 each reply is the one that is reckoned without any beta. What is driftless stands here, over what a drift does not touch. The statement is proved once, in proofs/. Definitions only.
+-- Change request 7: at drift 0 each reply is the one that is reckoned without any beta: the run and the value vector, over the plan's driftless rows. The statement is proved once, in proofs/. Definitions only.
 use mathlib.Core.Path.{_≡_}
 use Prim.Native.Nat.{ℕ}
 use mathlib.Core.Bool.{true}
-use lib.Ieee.{Float, eq, lt, minus}
-use Rattle.elementary.specs.Float.{_⊕_, _⊗_, whole, 0ᶠ, 1ᶠ, 2ᶠ, finite, positive}
-use Rattle.elementary.specs.Elementary.{outside}
-use Rattle.vector.specs.Refusals.{configuration}
-use Rattle.operator.specs.Vectors.{tab, fill}
-use Rattle.vector.specs.Run.{Ended, vector, Fixed, cap, boundOk, runOn, wholePlan, fixed, run, runFrom}
-use Rattle.operator.specs.Operator.{rows}
-use Rattle.vector.specs.Values.{refusedVector, vectorBy, ratesOk, valueVector, vectorOver}
-use Rattle.vector.specs.Count.{planIn, planWhen, firstPlan, planAhead, planOver}
-use Rattle.vector.specs.declared.RunInput.{RunInput}
+use lib.Ieee.{Float, eq, lt}
+use Rattle.elementary.specs.Float.{0ᶠ}
+use Rattle.plan.specs.Plan.{Ended, boundOk, wholePlan}
+use Rattle.plan.specs.Input.{ratesOk}
+use Rattle.plan.specs.Drift.{driftlessFixed, driftlessInput}
+use Rattle.plan.specs.declared.RunInput.{RunInput}
+use Rattle.vector.specs.Run.{run, runFrom}
+use Rattle.vector.specs.Values.{valueVector, vectorOver}
 use Rattle.vector.specs.declared.VectorAnswer.{VectorAnswer}
-use Rattle.vector.specs.declared.FirstPlan.{FirstPlan}
-
--- (alpha × q) × q + 2 × eta
-unfoldable pub driftlessDiagonal : ℕ → Float → Float → ℕ → Float
-driftlessDiagonal bound alpha eta i = let q = whole (minus i bound) in alpha ⊗ q ⊗ q ⊕ 2ᶠ ⊗ eta
-
--- the norm takes the diagonal as it is
-unfoldable pub driftlessFixed : ℕ → Float → Float → Fixed
-driftlessFixed bound alpha eta = let d = tab (rows bound) (driftlessDiagonal bound alpha eta) in record { n = rows bound; diagonal = d; sizes = d; eta = eta }
 
 -- a run begins with its first plan, whatever the diagonal
 unfoldable pub driftlessRun : Float → Float → ℕ → Float → Ended
 driftlessRun alpha eta bound tau = let p = driftlessFixed bound alpha eta in runFrom (lt 0ᶠ tau) p (wholePlan p tau)
 
-unfoldable pub driftlessPlan : Float → Float → ℕ → Float → FirstPlan
-driftlessPlan alpha eta bound tau = planWhen (lt 0ᶠ tau) (wholePlan (driftlessFixed bound alpha eta) tau)
-
--- ---- the replies over them; the checks are asked of a beta of 0.0, which passes
-abbrev pub driftlessInput : Float → Float → ℕ → Float → RunInput
-driftlessInput alpha eta bound tau = record { alpha = alpha; beta = 0ᶠ; eta = eta; bound = bound; tau = tau }
-
 unfoldable pub driftlessVector : Float → Float → ℕ → Float → VectorAnswer
 driftlessVector alpha eta bound tau = vectorOver (driftlessRun alpha eta bound tau) (driftlessInput alpha eta bound tau)
 
-unfoldable pub driftlessFirst : Float → Float → ℕ → Float → FirstPlan
-driftlessFirst alpha eta bound tau = planOver (driftlessPlan alpha eta bound tau) (driftlessInput alpha eta bound tau)
-
--- ---- either zero: the run and the plan from rates that pass, the value vector and the first plan from any numbers
+-- ---- either zero: the run from rates that pass, the value vector from any numbers
 pub record DriftZero : Type 0 where
   pub runs : (x : RunInput) → boundOk (x .bound) ≡ true → ratesOk x ≡ true → eq (x .beta) 0ᶠ ≡ true → run x ≡ driftlessRun (x .alpha) (x .eta) (x .bound) (x .tau)
-  pub plans : (x : RunInput) → boundOk (x .bound) ≡ true → ratesOk x ≡ true → eq (x .beta) 0ᶠ ≡ true → planAhead x ≡ driftlessPlan (x .alpha) (x .eta) (x .bound) (x .tau)
   pub vectors : (x : RunInput) → eq (x .beta) 0ᶠ ≡ true → valueVector x ≡ driftlessVector (x .alpha) (x .eta) (x .bound) (x .tau)
-  pub first : (x : RunInput) → eq (x .beta) 0ᶠ ≡ true → firstPlan x ≡ driftlessFirst (x .alpha) (x .eta) (x .bound) (x .tau)

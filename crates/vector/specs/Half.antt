@@ -7,7 +7,7 @@ use lib.Ieee.{Float}
 use Rattle.operator.specs.Vectors.{tab}
 use Rattle.operator.specs.Operator.{diagonalAt, rows}
 use Rattle.series.specs.Half.{fullSize, full}
-use Rattle.vector.specs.Run.{Fixed, fixedOver}
+use Rattle.plan.specs.Plan.{Fixed, fixedOver}
 
 -- a run's own numbers over all rows
 abbrev pub fullFixed : Bool → ℕ → List Float → Float → Fixed

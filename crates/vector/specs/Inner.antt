@@ -3,42 +3,19 @@ use mathlib.Core.Path.{_≡_}
 use Prim.Native.Nat.{ℕ, zero, suc, _+_, _-_, _≤_}
 use mathlib.Core.Bool.{Bool, true, false}
 use mathlib.Core.List.{List}
-use lib.IntN.{pos}
-use lib.Ieee.{Float, inf, le, toUnsigned}
-use Rattle.elementary.specs.Float.{_⊕_, _⊖_, _⊗_, _⊘_, whole, 0ᶠ, 1ᶠ, positive}
+use lib.Ieee.{Float, inf}
+use Rattle.elementary.specs.Float.{_⊕_, _⊖_, _⊗_, 0ᶠ, 1ᶠ, positive}
 use Rattle.elementary.specs.Elementary.{LN, orNan}
 use Rattle.series.specs.Refusals.{numerical}
 use Rattle.operator.specs.Vectors.{tab, at, fill, every, fold, smaller}
-use Rattle.vector.specs.Run.{Ended, vector, overCap, failed, Fixed, fixedOver, Going, going, cap, norm, needed, begin, rebalances, runOn}
+use Rattle.plan.specs.Plan.{Ended, vector, overCap, failed, Fixed, fixedOver, Going, going, cap, begin}
+use Rattle.vector.specs.Run.{rebalances, runOn}
 use Rattle.vector.specs.declared.Outcome.{Outcome}
 use Rattle.vector.specs.declared.Outcome.the-variants as Outcome
-use Rattle.vector.specs.declared.FirstPlan.{FirstPlan}
-use Rattle.vector.specs.declared.FirstPlan.the-variants as FirstPlan
-use Rattle.vector.specs.declared.plan.Planned.{Planned}
-use Rattle.vector.specs.declared.plan.Planned.the-variants as Planned
 use Rattle.vector.specs.declared.run.Pace.{Pace}
 
 abbrev pub goingOver : List Float → List Float → List Float → List Float → Float → Float → ℕ → Going
 goingOver w o left right dt remaining steps = record { w = w; o = o; left = left; right = right; dt = dt; remaining = remaining; steps = steps }
-
--- ---- a plan: is time × norm finite and positive, does it keep the budget
-unfoldable pub planBy : Bool → Bool → Float → Float → Planned
-planBy false c rest need = Planned.Refused
-planBy true false rest need = Planned.OverCap need
-planBy true true rest need = Planned.Steps (toUnsigned 32 need) (rest ⊘ need)
-
-unfoldable pub planFor : Float → Float → ℕ → Planned
-planFor size rest b = planBy true (le (needed size) (whole (pos b))) rest (needed size)
-
-unfoldable pub planOf : Fixed → ℕ → List Float → List Float → Float → Planned
-planOf p b left right rest =
-    let size = rest ⊗ norm p left right in planBy (positive size) (le (needed size) (whole (pos b))) rest (needed size)
-
--- as a first plan, with the whole budget
-unfoldable pub aheadOf : Planned → FirstPlan
-aheadOf (Planned.Steps s dt) = FirstPlan.Steps s
-aheadOf (Planned.OverCap need) = FirstPlan.OverCap need cap
-aheadOf Planned.Refused = FirstPlan.Refused numerical
 
 -- ---- the paces that the code makes
 abbrev pub pacedOf : ℕ → ℕ → Float → Float → Pace

@@ -1,7 +1,6 @@
 pub mod Refusals
 pub mod Run
 pub mod Values
-pub mod Count
 pub mod Drift
 pub mod Inner
 pub mod Half

@@ -12,9 +12,10 @@ use Rattle.operator.specs.Vectors.{at, tab, fill}
 unfoldable pub use Rattle.operator.specs.Vectors.{Mirror}
 use Rattle.series.specs.Series.{taylorStep}
 use Rattle.operator.specs.Operator.{rows}
-use Rattle.vector.specs.Run.{Ended, vector, overCap, failed, Fixed, fixedOver, Going, going, ended, cap, boundOk, run, runFor, turn, stepOperator, divided, spent}
-use Rattle.vector.specs.Values.{ratesOk}
-use Rattle.vector.specs.declared.RunInput.{RunInput}
+use Rattle.plan.specs.Plan.{Ended, vector, overCap, failed, Fixed, fixedOver, Going, going, ended, cap, boundOk}
+use Rattle.vector.specs.Run.{run, runFor, turn, stepOperator, divided, spent}
+use Rattle.plan.specs.Input.{ratesOk}
+use Rattle.plan.specs.declared.RunInput.{RunInput}
 
 -- ---- the steps: never more than 11,000
 abbrev pub StepsWithin : Type 0

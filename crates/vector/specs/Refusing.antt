@@ -8,10 +8,11 @@ use Rattle.elementary.specs.Float.{0ᶠ}
 use Rattle.elementary.specs.Elementary.{outside}
 use Rattle.vector.specs.Refusals.{configuration}
 use Rattle.series.specs.Refusals.{numerical}
-use Rattle.vector.specs.Run.{boundOk, fixed}
-use Rattle.vector.specs.Values.{ratesOk, valueVector}
+use Rattle.plan.specs.Plan.{boundOk, fixed}
+use Rattle.plan.specs.Input.{ratesOk}
+use Rattle.vector.specs.Values.{valueVector}
 use Rattle.vector.specs.Causes.{RunFails}
-use Rattle.vector.specs.declared.RunInput.{RunInput}
+use Rattle.plan.specs.declared.RunInput.{RunInput}
 use Rattle.vector.specs.declared.Outcome.the-variants as Outcome
 
 -- in order: the floats, the bound, and a run that fails

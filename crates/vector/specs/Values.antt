@@ -1,26 +1,22 @@
 -- Document 01, module 3: the value vector's reply. Definitions only.
 use Prim.Native.Nat.{ℕ, _-_}
-use mathlib.Core.Bool.{Bool, _&&_}
-use mathlib.Core.List.{List, [], _∷_, _++_}
+use mathlib.Core.List.{List, _++_}
 use lib.Ieee.{Float}
-use Rattle.elementary.specs.Float.{0ᶠ, finite, positive}
-use Rattle.elementary.specs.Elementary.{outside}
+use Rattle.elementary.specs.Float.{0ᶠ}
 use Rattle.elementary.specs.Checks.{Verdict, passes, refused, firstFailing}
-use Rattle.vector.specs.Refusals.{configuration}
 use Rattle.series.specs.Refusals.{numerical}
 use Rattle.operator.specs.Vectors.{fill}
-use Rattle.vector.specs.Run.{Ended, vector, overCap, failed, cap, boundOk, run}
+use Rattle.plan.specs.Plan.{Ended, vector, overCap, failed, cap, room}
+use Rattle.plan.specs.Input.{inputChecks}
+use Rattle.vector.specs.Run.{run}
 use Rattle.operator.specs.Operator.{rows}
-use Rattle.vector.specs.declared.RunInput.{RunInput}
+use Rattle.plan.specs.declared.RunInput.{RunInput}
 use Rattle.vector.specs.declared.ValueVector.{ValueVector}
 use Rattle.vector.specs.declared.Outcome.{Outcome}
 use Rattle.vector.specs.declared.Outcome.the-variants as Outcome
 use Rattle.vector.specs.declared.VectorAnswer.{VectorAnswer}
 
 -- ---- the value vector: its two arrays of 401 floats and its length
-abbrev pub room : ℕ
-room = 401
-
 -- n entries, and 0.0 in every place after them
 unfoldable pub padded : ℕ → List Float → List Float
 padded n l = l ++ fill (room - n) 0ᶠ
@@ -39,15 +35,6 @@ unfoldable pub vectorBy : ℕ → Ended → VectorAnswer
 vectorBy n (vector w o s) = record { outcome = Outcome.Done s; vector = vectorOf n w o }
 vectorBy n (overCap need b) = record { outcome = Outcome.OverCap need b (cap - b); vector = blankVector }
 vectorBy n (failed s) = refusedVector numerical
-
--- ---- the checks
--- alpha and eta finite and above zero, beta and tau finite
-unfoldable pub ratesOk : RunInput → Bool
-ratesOk x = positive (x .alpha) && finite (x .beta) && positive (x .eta) && finite (x .tau)
-
--- in order: the floats, the bound
-abbrev pub inputChecks : RunInput → List (Bool × ℕ)
-inputChecks x = (ratesOk x, outside) ∷ (boundOk (x .bound), configuration) ∷ []
 
 -- ---- the reply, by the checks and the run
 unfoldable pub vectorIf : Verdict → VectorAnswer → VectorAnswer

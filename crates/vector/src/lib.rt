@@ -1,39 +1,23 @@
-// The float layer: the plan of steps, and the run that gives the value vector.
-mod count;
-mod plan;
+// The float layer: the run that gives the value vector.
 mod reals;
 pub mod refusals;
 mod run;
 
+pub use plan::FirstPlan;
+pub use plan::MAX_DIM;
+pub use plan::MAX_EXPM_STEPS;
+pub use plan::MAX_INVENTORY_LOTS;
+pub use plan::RunInput;
+pub use plan::check_input;
+pub use plan::first_plan;
 pub use run::refused_vector;
 ghost use mathlib.Core.Path.{_≡_};
-ghost use Rattle.elementary.specs.Checks.{firstFailing, checkOf};
 ghost use Rattle.vector.specs.Run.{rebalances};
-ghost use Rattle.vector.specs.Values.{inputChecks, valueVector};
-ghost use Rattle.vector.specs.Count.{firstPlan};
+ghost use Rattle.vector.specs.Values.{valueVector};
 use elementary::Check;
-
-// The largest bound.
-pub const MAX_INVENTORY_LOTS: u32 = 200;
-
-// The rows of the largest bound: the places of a vector's arrays.
-pub const MAX_DIM: usize = 401;
-
-// The most steps of a run.
-pub const MAX_EXPM_STEPS: u32 = 11000;
 
 // Below this weight a step is followed by rebalancing.
 const REBALANCE_FLOOR: f64 = 1e-200;
-
-// What a run, and so a value vector, is made from: alpha, what the drift makes a second, eta, the bound,
-// and the seconds to the end.
-pub struct RunInput {
-    pub alpha: f64,
-    pub beta: f64,
-    pub eta: f64,
-    pub bound: u32,
-    pub tau: f64,
-}
 
 // v_i is proportional to w_i exp(log_offset_i), over the first n entries; the rest is 0.0.
 pub struct ValueVector {
@@ -56,33 +40,12 @@ pub struct VectorAnswer {
     pub vector: ValueVector,
 }
 
-// The first plan of a run: its steps; or the steps needed, above the budget left; or a refusal's
-// number.
-pub enum FirstPlan {
-    Steps(u32),
-    OverCap(f64, u32),
-    Refused(u8),
-}
-
 // Whether a step is followed by rebalancing: steps remain, and the smallest weight is below 1e-200.
 // The run asks it of each weight: one calls for rebalancing just where the smallest does.
 pub fn must_rebalance(smallest: f64, steps: u32) -> bool
     ensures { λ r. ⌜ r ≡ rebalances smallest steps ⌝ }
 {
     (0 < steps) & (smallest < REBALANCE_FLOOR)
-}
-
-// Whether a run can be made from an input: refused by 5, then 1.
-pub fn check_input(input: RunInput) -> Check
-    ensures { λ r. ⌜ r ≡ checkOf (firstFailing (inputChecks input)) ⌝ }
-{
-    if run::floats_fit(input) {
-        if (1 <= input.bound) & (input.bound <= MAX_INVENTORY_LOTS) {
-            return Check::Passes;
-        }
-        return Check::Refused(refusals::CONFIGURATION);
-    }
-    Check::Refused(elementary::OUTSIDE)
 }
 
 // The value vector at tau seconds before the end: refused by 5, then 1, then 11.
@@ -96,15 +59,4 @@ pub fn value_vector(input: RunInput) -> VectorAnswer
         }
     }
     run::run_vector(input)
-}
-
-// The first plan of the run that `value_vector` makes, before anything runs; 0 steps where no time is
-// left. Refused by 5, then 1, then 11.
-pub fn first_plan(input: RunInput) -> FirstPlan
-    ensures { λ r. ⌜ r ≡ firstPlan input ⌝ }
-{
-    match check_input(input) {
-        Check::Passes => count::plan_within(input),
-        Check::Refused(number) => FirstPlan::Refused(number),
-    }
 }

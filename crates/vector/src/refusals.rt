@@ -1,6 +1,4 @@
 // The numbers that refuse in this layer, as specs/Refusals.antt has them. 5 stands with the elementary
-// functions, 11 with the series.
+// functions, 11 with the series, 1 with the plan.
+pub use plan::refusals::CONFIGURATION;
 pub use series::refusals::NUMERICAL;
-
-// The bound is not 1 to 200.
-pub const CONFIGURATION: u8 = 1;

@@ -9,9 +9,10 @@ ghost use mathlib.Core.Bool.{true, false, not, _&&_};
 ghost use Rattle.elementary.specs.Float.{_⊕_, _⊘_, 0ᶠ, 1ᶠ, finite, positive};
 ghost use Rattle.elementary.specs.Elementary.{LN, orNan};
 ghost use Rattle.operator.specs.Vectors.{tab, at, fill, every, fold, larger, smaller};
-ghost use Rattle.vector.specs.Run.{boundOk, cap, run, runOn, begin, divided, rebalances};
+ghost use Rattle.plan.specs.Plan.{boundOk, cap, begin};
+ghost use Rattle.vector.specs.Run.{run, runOn, divided, rebalances};
 ghost use Rattle.operator.specs.Operator.{rows};
-ghost use Rattle.vector.specs.Values.{blankVector, vectorOf, refusedVector, vectorBy, ratesOk};
+ghost use Rattle.vector.specs.Values.{blankVector, vectorOf, refusedVector, vectorBy};
 ghost use Rattle.vector.specs.Inner.{pacedOf, askedOf, stoppedOf, refusedPace, endBy, AfterIs, BegunIs, PlanSpent, Between, weight, EndIs};
 ghost use Rattle.series.specs.Slices.{Sizes, Fit};
 ghost use Rattle.series.specs.Half.{filledOut, fullSize, fullFactors, full, Centred};
@@ -22,8 +23,8 @@ use crate::Outcome;
 use crate::RunInput;
 use crate::ValueVector;
 use crate::VectorAnswer;
-use crate::plan::Planned;
 use crate::refusals::NUMERICAL;
+use plan::Planned;
 
 // Where a run stands: the steps planned, the budget left, the time left and the time of a step;
 // whether it asks for a plan; and how it ends where no steps are planned.
@@ -135,17 +136,17 @@ fn largest(w: &[f64]) -> Top
     while i + 1 < w.len() {
         let x = w[i];
         let y = w[i + 1];
-        even = crate::reals::larger_of(even, x);
-        odd = crate::reals::larger_of(odd, y);
+        even = plan::larger_of(even, x);
+        odd = plan::larger_of(odd, y);
         first = first & (0.0 < x);
         second = second & (0.0 < y);
         i += 2;
     }
-    let both = crate::reals::larger_of(even, odd);
+    let both = plan::larger_of(even, odd);
     let all = first & second;
     if i < w.len() {
         let x = w[i];
-        return top_of(crate::reals::larger_of(both, x), all & (0.0 < x));
+        return top_of(plan::larger_of(both, x), all & (0.0 < x));
     }
     top_of(both, all)
 }
@@ -226,7 +227,7 @@ fn start(
     ensures { λ _. ⌜ Centred half (length (now (o .entry))) (now (left .exit)) (now (right .exit)) ⌝ }
 {
     if operator::set_factors(o, left, right, half) {
-        match crate::plan::plan_with(rest, diag_s, eta, left, right, budget) {
+        match plan::plan_with(rest, diag_s, eta, left, right, budget) {
             Planned::Steps(steps, dt) => {
                 operator::scale_diagonal(diag_s, dt, diag);
                 return paced(steps, budget, rest, dt);
@@ -285,9 +286,9 @@ fn run_plan(
         (runOn budget (fullFixed half n (now («diag_s» .entry)) eta) (begin (fullFixed half n (now («diag_s» .entry)) eta) budget (fill (fullSize half n) 1ᶠ) (full half n (now (o .entry))) rest))
         (full half n (now (w .exit))) (full half n (now (o .exit))) r × (weight r ≤ budget) ⌝ }
 {
-    let mut diag = zeros();
-    let mut left = zeros();
-    let mut right = zeros();
+    let mut diag = plan::zeros();
+    let mut left = plan::zeros();
+    let mut right = plan::zeros();
     let first = start(
         o,
         diag_s,
@@ -299,7 +300,7 @@ fn run_plan(
         budget,
         half,
     );
-    let mut term = zeros();
+    let mut term = plan::zeros();
     plan_steps(
         w,
         o,
@@ -334,20 +335,13 @@ fn run_plans(
     end_of(pace)
 }
 
-// A name for the array keeps its 401 entries out of the goals.
-pub(crate) fn zeros() -> [f64; MAX_DIM]
-    ensures { λ r. ⌜ r ≡ fill 401 0ᶠ ⌝ }
-{
-    [0.0; MAX_DIM]
-}
-
 // A vector of no entries: every place is 0.0.
 pub(crate) fn blank() -> ValueVector
     ensures { λ r. ⌜ r ≡ blankVector ⌝ }
 {
     ValueVector {
-        w: zeros(),
-        log_offset: zeros(),
+        w: plan::zeros(),
+        log_offset: plan::zeros(),
         n: 0,
     }
 }
@@ -360,16 +354,6 @@ pub fn refused_vector(number: u8) -> VectorAnswer
         outcome: Outcome::Refused(number),
         vector: blank(),
     }
-}
-
-// Whether alpha and eta are finite and above zero, and beta and tau are finite.
-pub(crate) fn floats_fit(input: RunInput) -> bool
-    ensures { λ r. ⌜ r ≡ ratesOk input ⌝ }
-{
-    elementary::is_positive_finite(input.alpha)
-        & elementary::is_finite(input.beta)
-        & elementary::is_positive_finite(input.eta)
-        & elementary::is_finite(input.tau)
 }
 
 // Every weight 1.0.
@@ -388,11 +372,11 @@ fn at_end(n: usize) -> ValueVector
     requires { ⌜ n ≤ 401 ⌝ }
     ensures { λ r. ⌜ r ≡ vectorOf n (fill n 1ᶠ) (fill n 0ᶠ) ⌝ }
 {
-    let mut w = zeros();
+    let mut w = plan::zeros();
     fill_ones(&mut w[..n]);
     ValueVector {
         w,
-        log_offset: zeros(),
+        log_offset: plan::zeros(),
         n,
     }
 }
@@ -417,7 +401,7 @@ fn run_rows(w: &mut [f64], o: &mut [f64], input: RunInput, n: usize, half: bool)
     requires { ⌜ RowsStand half n (input .bound) (input .alpha) (input .beta) (input .eta) ⌝ }
     ensures { λ r. ⌜ EndIs (run input) r (full half n (now (w .exit))) (full half n (now (o .exit))) ⌝ }
 {
-    let mut diag_s = zeros();
+    let mut diag_s = plan::zeros();
     if operator::fill_shifted_diagonal(
         input.alpha,
         input.beta,

@@ -4,7 +4,7 @@ use mir.Facts.{toZ-ofZ}
 use borrow.Author.Needs.{needs}
 use Rattle.elementary.specs.Checks.{passes, firstFailing}
 use Rattle.elementary.proofs.Checks.{check-passes, check-refused}
-use Rattle.vector.specs.Count.{planIf, planOver, firstPlan}
+use Rattle.plan.specs.Count.{planIf, planOver, firstPlan}
 use Rattle.distances.specs.FloatEntry.{entryChecks}
 use Rattle.distances.specs.Count.{countOver, stepCount}
 use Rattle.distances.proofs.Checked.{passed, input-passes}

@@ -3,8 +3,9 @@ use mathlib.Core.Path.{_≡_, sym, _∙_}
 use borrow.Author.Needs.{needs}
 use Rattle.elementary.specs.Checks.{passes, firstFailing}
 use Rattle.elementary.proofs.Checks.{check-passes, check-refused}
-use Rattle.vector.specs.Values.{inputChecks, vectorIf, vectorOver, valueVector}
-use Rattle.vector.proofs.Bounds.{input-passed}
+use Rattle.plan.specs.Input.{inputChecks}
+use Rattle.vector.specs.Values.{vectorIf, vectorOver, valueVector}
+use Rattle.plan.proofs.Bounds.{input-passed}
 use Rattle.vector.proofs.value_vector.Statement.{statement}
 use Rattle.vector.proofs.value_vector.Tie as tie
 

@@ -6,7 +6,7 @@ use mir.Facts.{toZ-ofZ}
 use borrow.Author.Needs.{needs}
 use Rattle.elementary.specs.Checks.{passes, verdict, firstOf, firstFailing, checkOf}
 use Rattle.elementary.proofs.Checks.{check-passes, check-refused}
-use Rattle.vector.specs.Values.{inputChecks}
+use Rattle.plan.specs.Input.{inputChecks}
 use Rattle.distances.proofs.Checked.{entry-next, scale-refused}
 use Rattle.distances.proofs.entry.check_entry.Statement.{statement}
 use Rattle.distances.proofs.entry.check_entry.Tie as tie

@@ -15,7 +15,7 @@ use Rattle.vector.specs.declared.Outcome.{Outcome}
 use Rattle.vector.specs.declared.Outcome.the-variants as Outcome
 use Rattle.distances.specs.declared.Answer.the-variants as Answer
 use Rattle.distances.specs.declared.FloatAnswer.{FloatAnswer}
-use Rattle.vector.proofs.Bounds.{bound-range}
+use Rattle.plan.proofs.Bounds.{bound-range}
 use Rattle.distances.proofs.Holdings.{place-most}
 use Rattle.distances.proofs.Checked.{vector-is}
 use Rattle.distances.proofs.entry.entry_within.Statement.{statement}

@@ -1,6 +1,6 @@
 use mathlib.Core.List.{_∷_, []}
 use borrow.Author.Needs.{needs}
-use Rattle.vector.specs.Refusals.{configuration}
+use Rattle.plan.specs.Refusals.{configuration}
 use Rattle.amounts.specs.Refusals.{limits}
 use Rattle.model.specs.Configuration.{configOk}
 use Rattle.model.proofs.Joined.{one-told, joined-told}

@@ -8,7 +8,8 @@ use borrow.Author.Needs.{needs}
 use Rattle.elementary.specs.Float.{0ᶠ, 1ᶠ}
 use Rattle.operator.specs.Vectors.{fill}
 use Rattle.vector.specs.Values.{padded, vectorOf}
-use Rattle.vector.proofs.Room.{blank-padded, blank-room, blank-length, back}
+use Rattle.plan.proofs.Room.{blank-room, blank-length}
+use Rattle.vector.proofs.Room.{blank-padded, back}
 use Rattle.vector.proofs.run.at_end.Statement.{statement}
 use Rattle.vector.proofs.run.at_end.Tie as tie
 

@@ -8,7 +8,7 @@ use native.Mathlib.Nat.{le-refl, le-trans}
 use lib.ListN.{length}
 use lib.Ieee.{Float}
 use denote.Ref.{now}
-use Rattle.vector.specs.Run.{Ended, cap, fixedOver}
+use Rattle.plan.specs.Plan.{Ended, cap, fixedOver}
 use Rattle.vector.specs.Inner.{Standing, weight}
 use Rattle.elementary.specs.Float.{_⊗_}
 use Rattle.series.specs.Series.{taylorStep}

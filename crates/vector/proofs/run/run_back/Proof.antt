@@ -12,9 +12,9 @@ use denote.Enum.Declared.{tagOf}
 use types.Run.{OneOf}
 use Rattle.elementary.specs.Float.{0ᶠ, 1ᶠ}
 use Rattle.operator.specs.Vectors.{fill}
-use Rattle.vector.specs.Run.{Ended, vector, overCap, failed}
+use Rattle.plan.specs.Plan.{Ended, vector, overCap, failed, room}
 use Rattle.operator.specs.Operator.{rows}
-use Rattle.vector.specs.Values.{room, padded, blankVector, refusedVector, vectorBy}
+use Rattle.vector.specs.Values.{padded, blankVector, refusedVector, vectorBy}
 use Rattle.vector.specs.Inner.{EndIs}
 use Rattle.series.specs.Half.{fullSize}
 use Rattle.vector.specs.declared.ValueVector.{ValueVector}

@@ -6,7 +6,7 @@ use lib.ListN.{length, take, drop}
 use lib.Ieee.{Float}
 use Rattle.elementary.specs.Float.{0ᶠ}
 use Rattle.operator.specs.Vectors.{fill}
-use Rattle.vector.proofs.Room.{blank-room, blank-length, part-back, part-room}
+use Rattle.plan.proofs.Room.{blank-room, blank-length, part-back, part-room}
 use Rattle.vector.proofs.RunLaws.{planned}
 use Rattle.vector.proofs.run.run_plan.Statement.{statement}
 use Rattle.vector.proofs.run.run_plan.Tie as tie

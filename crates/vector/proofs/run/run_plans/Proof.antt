@@ -4,7 +4,8 @@ use lib.ListN.{length, length-replicate}
 use native.Mathlib.Omega.{arith}
 use Rattle.elementary.specs.Float.{1ᶠ}
 use Rattle.operator.specs.Vectors.{fill}
-use Rattle.vector.specs.Run.{cap, begin, runOn}
+use Rattle.plan.specs.Plan.{cap, begin}
+use Rattle.vector.specs.Run.{runOn}
 use Rattle.vector.specs.Inner.{Between, weight}
 use Rattle.series.specs.Half.{fullSize, full}
 use Rattle.vector.specs.Half.{fullFixed}

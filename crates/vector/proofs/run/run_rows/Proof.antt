@@ -8,9 +8,9 @@ use Rattle.elementary.specs.Float.{0ᶠ, finite}
 use Rattle.operator.specs.Vectors.{tab, at, every}
 use Rattle.operator.specs.Operator.{diagonalAt}
 use Rattle.operator.proofs.Slices.{diagonal-over, diagonal-fine}
-use Rattle.vector.specs.Values.{room}
+use Rattle.plan.specs.Plan.{room}
 use Rattle.vector.specs.Inner.{EndIs}
-use Rattle.vector.proofs.Room.{blank-room, blank-length, stored-part, stored-length, stored-room}
+use Rattle.plan.proofs.Room.{blank-room, blank-length, stored-part, stored-length, stored-room}
 use Rattle.vector.proofs.FullRun.{run-full, run-full-refused}
 use Rattle.vector.proofs.run.run_rows.Statement.{statement}
 use Rattle.vector.proofs.run.run_rows.Tie as tie

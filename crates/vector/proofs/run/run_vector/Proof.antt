@@ -8,12 +8,13 @@ use lib.Ieee.{lt}
 use Rattle.elementary.specs.Float.{0ᶠ, 1ᶠ}
 use Rattle.operator.specs.Vectors.{fill}
 use Rattle.operator.specs.Operator.{rows}
-use Rattle.vector.specs.Run.{fixed, runFor, run, runFrom}
+use Rattle.plan.specs.Plan.{fixed}
+use Rattle.vector.specs.Run.{run, runFrom}
 use Rattle.vector.specs.Values.{vectorOf, vectorBy}
-use Rattle.vector.specs.declared.RunInput.{RunInput}
+use Rattle.plan.specs.declared.RunInput.{RunInput}
 use Rattle.vector.specs.declared.ValueVector.{ValueVector}
 use Rattle.vector.specs.declared.Outcome.the-variants as Outcome
-use Rattle.vector.proofs.Bounds.{bound-range}
+use Rattle.plan.proofs.Bounds.{bound-range}
 use Rattle.vector.proofs.Stands.{all-stand, half-stands}
 use Rattle.vector.proofs.run.run_vector.Statement.{statement}
 use Rattle.vector.proofs.run.run_vector.Tie as tie

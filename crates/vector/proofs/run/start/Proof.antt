@@ -9,7 +9,7 @@ use Rattle.operator.specs.Vectors.{tab}
 use Rattle.operator.specs.Operator.{leftAt}
 use Rattle.operator.specs.Slices.{rightBy, bothFine}
 use Rattle.operator.proofs.Slices.{scaled-over, left-over, right-over, factors-over}
-use Rattle.vector.specs.declared.plan.Planned.the-variants as Planned
+use Rattle.plan.specs.declared.plan.Planned.the-variants as Planned
 use Rattle.series.proofs.Full.{centred-factors}
 use Rattle.vector.proofs.FullRun.{begun-full, not-begun-full}
 use Rattle.vector.proofs.run.start.Statement.{statement}
@@ -31,10 +31,7 @@ set-factors-requires : tie.Need-set-factors-requires
 set-factors-requires c κs = tt
 
 plan-with-requires : tie.Need-plan-with-requires
-plan-with-requires c κs =
-    let s = c .before .before .before .before .before .before .before .before .before .before .before .before .before .before .before .pre .1 in
-    let k = c .before .before .before .before .before .before .before .set-factors .kept in
-    (k .1 .0 ∙ s .right-n ∙ sym (s .diag-n), k .1 .1 .0 ∙ s .term-n ∙ sym (s .diag-n))
+plan-with-requires c κs = tt
 
 enum-known-steps : tie.Need-enum-known-steps
 enum-known-steps c = search needs
@@ -59,8 +56,8 @@ returns c =
     let f = made (c .before .before .before .before .before .before .before .before .before .before .before .before .before .before .before .before) in
     let s = c .before .before .before .before .before .before .before .before .before .before .before .before .before .before .before .before .before .before .before .before .before .before .before .before in
     let n = s .pre .1 .diag-n in (
-      begun-full (s .args .half) _ _ _ _ _ _ _ _ (s .pre .0 .0) (s .pre .0 .1) _ (f .0) (f .1) (f .2) _ _ (c .before .before .before .before .before .before .before .before .before .before .before .if1 .taken) (Planned.Steps _ _)
-          (sym (c .before .before .before .before .before .before .steps .given .1) ∙ rw n at (c .before .before .before .before .before .before .before .before .plan-with .ensures)) (rw n at (scaled-over _ _ _ _ (s .pre .1 .left-n ∙ sym n) (c .before .before .before .scale-diagonal .ensures))) (c .paced .ensures),
+      begun-full (s .args .half) _ _ _ _ _ _ _ _ (s .pre .0 .0) (s .pre .0 .1) _ (f .0) (f .1) (f .2) _ _ n (c .before .before .before .before .before .before .before .before .before .before .before .if1 .taken) (Planned.Steps _ _)
+          (sym (c .before .before .before .before .before .before .steps .given .1) ∙ c .before .before .before .before .before .before .before .before .plan-with .ensures) (rw n at (scaled-over _ _ _ _ (s .pre .1 .left-n ∙ sym n) (c .before .before .before .scale-diagonal .ensures))) (c .paced .ensures),
       centred-factors (s .args .half) _ _ _ _ (omega (arith, s .pre .0 .0)) (f .0) (f .1),
     )
 
@@ -80,8 +77,8 @@ returns-2 : tie.Need-returns-2
 returns-2 c =
     let f = made (c .before .before .before .before .before .before .before .before .before .before .before .before) in
     let s = c .before .before .before .before .before .before .before .before .before .before .before .before .before .before .before .before .before .before .before .before in (
-      begun-full (s .args .half) _ _ _ _ _ _ _ _ (s .pre .0 .0) (s .pre .0 .1) _ (f .0) (f .1) (f .2) _ _ (c .before .before .before .before .before .before .before .if1 .taken) (Planned.OverCap _)
-          (sym (c .before .before .need .given .1) ∙ rw (s .pre .1 .diag-n) at (c .before .before .before .before .plan-with .ensures)) tt (c .over-cap .ensures),
+      begun-full (s .args .half) _ _ _ _ _ _ _ _ (s .pre .0 .0) (s .pre .0 .1) _ (f .0) (f .1) (f .2) _ _ (s .pre .1 .diag-n) (c .before .before .before .before .before .before .before .if1 .taken) (Planned.OverCap _)
+          (sym (c .before .before .need .given .1) ∙ c .before .before .before .before .plan-with .ensures) tt (c .over-cap .ensures),
       centred-factors (s .args .half) _ _ _ _ (omega (arith, s .pre .0 .0)) (f .0) (f .1),
     )
 
@@ -102,7 +99,7 @@ returns-3 c =
     let f = made (c .before .before .before .before .before .before) in
     let s = c .before .before .before .before .before .before .before .before .before .before .before .before .before .before in (
       ⊎-elim
-          (λ t. begun-full (s .args .half) _ _ _ _ _ _ _ _ (s .pre .0 .0) (s .pre .0 .1) _ (f .0) (f .1) (f .2) _ _ (t .0 .taken) Planned.Refused (sym (t .5 .given .1) ∙ rw (s .pre .1 .diag-n) at (t .3 .ensures)) tt (c .refused .ensures))
+          (λ t. begun-full (s .args .half) _ _ _ _ _ _ _ _ (s .pre .0 .0) (s .pre .0 .1) _ (f .0) (f .1) (f .2) _ _ (s .pre .1 .diag-n) (t .0 .taken) Planned.Refused (sym (t .5 .given .1) ∙ t .3 .ensures) tt (c .refused .ensures))
           (λ t. not-begun-full (s .args .half) _ _ _ _ _ _ _ _ (s .pre .0 .0) (s .pre .0 .1) _ (f .0) (f .1) (f .2) _ _ (t .left) (c .refused .ensures))
           (c .before .if1 .came),
       centred-factors (s .args .half) _ _ _ _ (omega (arith, s .pre .0 .0)) (f .0) (f .1),

@@ -1,0 +1,10 @@
+-- The array as it is made. Assumes nothing.
+use mathlib.Core.Path.{refl}
+use Rattle.plan.proofs.zeros.Statement.{statement}
+use Rattle.plan.proofs.zeros.Tie as tie
+
+returns : tie.Need-returns
+returns c = refl
+
+pub zeros-spec : {M : Type 1} → statement M
+zeros-spec = tie.close (tie.spec returns)

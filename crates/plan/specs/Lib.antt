@@ -1,0 +1,6 @@
+pub mod Refusals
+pub mod Plan
+pub mod Input
+pub mod Count
+pub mod Drift
+pub mod Inner
