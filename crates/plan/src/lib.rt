@@ -3,10 +3,12 @@ mod count;
 mod plan;
 mod reals;
 pub mod refusals;
+mod slices;
 
 pub use plan::Planned;
 pub use plan::plan_with;
 pub use reals::larger_of;
+pub use slices::set_plan;
 ghost use mathlib.Core.Path.{_≡_};
 ghost use Rattle.elementary.specs.Float.{0ᶠ};
 ghost use Rattle.elementary.specs.Checks.{firstFailing, checkOf};

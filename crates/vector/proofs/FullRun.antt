@@ -18,8 +18,9 @@ use Rattle.plan.specs.Plan.{failed, cap, fixedOver, begin, room, planOf, planWi
 use Rattle.vector.specs.Run.{divided, rebalances, runOn, run}
 use Rattle.vector.specs.Values.{padded}
 use Rattle.series.specs.Slices.{Fit}
-use Rattle.operator.specs.Slices.{rightBy}
-use Rattle.vector.specs.Inner.{stoppedOf, AfterBy, AfterIs, BegunIs, EndIs}
+use Rattle.operator.specs.Slices.{rightBy, factorsFit, leftOver, rightOver, bothFine}
+use Rattle.operator.proofs.Slices.{sized-both, scaled-over, left-over, right-over}
+use Rattle.vector.specs.Inner.{stoppedOf, told, AfterBy, AfterIs, BegunIs, EndIs}
 use Rattle.series.specs.Half.{filledOut, fullSize, fullFactors, full, Centred}
 use Rattle.vector.specs.Half.{fullFixed, RowsStand}
 use Rattle.plan.specs.declared.RunInput.{RunInput}
@@ -27,6 +28,7 @@ use Rattle.vector.specs.declared.Outcome.{Outcome}
 use Rattle.vector.specs.declared.Outcome.the-variants as Outcome
 use Rattle.plan.specs.declared.plan.Planned.{Planned}
 use Rattle.plan.specs.declared.plan.Planned.the-variants as Planned
+use Rattle.plan.specs.Slices.{planFrom, diagonalFor}
 use Rattle.plan.proofs.Plans.{planned-over}
 use Rattle.vector.specs.declared.run.Pace.{Pace}
 use Rattle.operator.proofs.Lists.{length-tab, tab-ext}
@@ -34,7 +36,7 @@ use Rattle.operator.proofs.Loops.{drop-fill}
 use Rattle.series.proofs.Half.{at-far}
 use Rattle.series.proofs.Full.{at-full, size-full, full-own-tab, full-with, every-with, full-fill, left-full, right-full, centred-factors, finite-full}
 use Rattle.vector.proofs.FullPlan.{divided-full, rebalances-full, norm-full}
-use Rattle.vector.proofs.RunLaws.{told, Scaled, begun, not-begun, run-later, run-refused}
+use Rattle.vector.proofs.RunLaws.{Scaled, begun, not-begun, run-later, run-refused}
 
 -- ---- a plan
 module _ (h : Bool) (n b : ℕ) (rest : Float) (o left right d : List Float) (eta : Float) (two : 2 ≤ n) (fits : b ≤ cap) (good : Bool) (el : left ≡ tab n (leftAt o)) (er : right ≡ tab n (rightBy h n o))
@@ -64,13 +66,44 @@ module _ (h : Bool) (n b : ℕ) (rest : Float) (o left right d : List Float) (et
   plan-slices : length d ≡ n → (q : Planned) → q ≡ planWith rest d eta left right b → q ≡ planOf (fixedOver n d eta) b left right rest
   plan-slices ed q e = rw ed at (planned-over rest d eta left right b (ap length el ∙ length-tab n _ ∙ sym ed) (ap length er ∙ length-tab n _ ∙ sym ed) q e)
 
-  pub begun-full : length d ≡ n → good ≡ true → (q : Planned) → q ≡ planWith rest d eta left right b → Scaled (fixedOver n d eta) diag q → a ≡ told b rest q
+  begun-full : length d ≡ n → good ≡ true → (q : Planned) → q ≡ planWith rest d eta left right b → Scaled (fixedOver n d eta) diag q → a ≡ told b rest q
       → BegunIs (fullFixed h n d eta) b rest (full h n o) (fullFactors h n left right) (fullFactors h n right left) (full h n diag) a
   begun-full ed g q e s = begun (fullFixed h n d eta) b rest (full h n o) _ _ (full h n diag) fits good left-is (ap₂ (fullFactors h n) er el ∙ right-full h n o two) good-is a g q (plan-slices ed q e ∙ plan-full) (scaled-full q s)
 
-  pub not-begun-full : good ≡ false → a ≡ stoppedOf (Outcome.Refused 11)
+  not-begun-full : good ≡ false → a ≡ stoppedOf (Outcome.Refused 11)
       → BegunIs (fullFixed h n d eta) b rest (full h n o) (fullFactors h n left right) (fullFactors h n right left) (full h n diag) a
   not-begun-full g = not-begun (fullFixed h n d eta) b rest (full h n o) _ _ (full h n diag) fits good left-is (ap₂ (fullFactors h n) er el ∙ right-full h n o two) good-is a g
+
+-- as the code makes it, in slices of n entries each
+module _ (h : Bool) (n b : ℕ) (rest : Float) (o left₀ right₀ d diag₀ : List Float) (eta : Float) (two : 2 ≤ n) (fits : b ≤ cap) (on : length o ≡ n) (dn : length d ≡ n) (ln : length left₀ ≡ n) (rn : length right₀ ≡ n) (gn : length diag₀ ≡ n)
+    (left right diag : List Float) (q : Planned) (el : left ≡ leftOver o left₀ right₀) (er : right ≡ rightOver h o left₀ right₀) (ed : diag ≡ diagonalFor q d diag₀)
+    (ep : q ≡ planFrom (factorsFit o left₀ right₀ && bothFine (length o) left right) rest d eta left right b) where
+  lefts : left ≡ tab n (leftAt o)
+  lefts = rw on at (left-over o left₀ right₀ (ln ∙ sym on) (rn ∙ sym on) left el)
+
+  rights : right ≡ tab n (rightBy h n o)
+  rights = rw on at (right-over o left₀ right₀ (ln ∙ sym on) (rn ∙ sym on) h right er)
+
+  pub centred-slices : Centred h n left right
+  centred-slices = centred-factors h n o left right (omega arith) lefts rights
+
+  scaled : (p : Planned) → diag ≡ diagonalFor p d diag₀ → Scaled (fixedOver n d eta) diag p
+  unfolding diagonalFor
+  scaled (Planned.Steps s dt) e = rw dn at (scaled-over d dt diag₀ diag (gn ∙ sym dn) e)
+  scaled (Planned.OverCap need) e = tt
+  scaled Planned.Refused e = tt
+
+  planned-fine : q ≡ planFrom (bothFine n left right) rest d eta left right b
+  planned-fine = ep ∙ rw (sized-both (length o) (length left₀) (length right₀) (ln ∙ sym on) (rn ∙ sym on), on) refl
+
+  pub begun-slices : (a : Pace) → a ≡ told b rest q → BegunIs (fullFixed h n d eta) b rest (full h n o) (fullFactors h n left right) (fullFactors h n right left) (full h n diag) a
+  unfolding planFrom
+  begun-slices a ea = go (bothFine n left right) refl planned-fine
+    where
+      go : (t : Bool) → bothFine n left right ≡ t → q ≡ planFrom t rest d eta left right b
+          → BegunIs (fullFixed h n d eta) b rest (full h n o) (fullFactors h n left right) (fullFactors h n right left) (full h n diag) a
+      go true t e = begun-full h n b rest o left right d eta two fits (bothFine n left right) lefts rights refl a diag dn t q e (scaled q ed) ea
+      go false t e = not-begun-full h n b rest o left right d eta two fits (bothFine n left right) lefts rights refl a diag t (ea ∙ ap (told b rest) e)
 
 -- ---- after a step, v being its sum
 module _ (h : Bool) (n : ℕ) (some : 1 ≤ n) (a : Pace) (v o : List Float) (r : Pace) (w′ o′ : List Float) (long : length v ≡ n) (f : Fit v) where

@@ -18,7 +18,7 @@ use Rattle.series.specs.Series.{taylorStep, operatorOver}
 use Rattle.plan.specs.Plan.{Ended, vector, overCap, failed, Fixed, Going, going, ended, cap, start, begin, fixedOver, fixed, firstIf, planBy, planOf}
 use Rattle.vector.specs.Run.{divided, floor, rebalances, rebalance, next, stepped, stepOperator, turn, runOn, run, runFrom}
 use Rattle.vector.specs.Values.{padded, vectorOf, vectorBy}
-use Rattle.vector.specs.Inner.{goingOver, pacedOf, askedOf, stoppedOf, endBy, AfterBy, AfterIs, Standing, weightBy, weight, BegunIs, PlanSpent, Between, EndIs}
+use Rattle.vector.specs.Inner.{goingOver, pacedOf, askedOf, stoppedOf, told, endBy, AfterBy, AfterIs, Standing, weightBy, weight, BegunIs, PlanSpent, Between, EndIs}
 use Rattle.series.specs.Half.{StepIs}
 use Rattle.plan.specs.declared.RunInput.{RunInput}
 use Rattle.vector.specs.declared.Outcome.{Outcome}
@@ -33,12 +33,7 @@ use Rattle.plan.proofs.Plans.{planned-some}
 never : {A : Type 0} → _≡_ {A = ℕ} 0 1 → A
 never e = absurd (omega arith)
 
--- ---- what the code answers for a plan, b being the budget left, and the diagonal that it makes for one that keeps it
-abbrev pub told : ℕ → Float → Planned → Pace
-told b rest (Planned.Steps s dt) = pacedOf s b rest dt
-told b rest (Planned.OverCap need) = stoppedOf (Outcome.OverCap need b (cap - b))
-told b rest Planned.Refused = stoppedOf (Outcome.Refused 11)
-
+-- ---- the diagonal that the code makes for a plan that keeps the budget
 abbrev pub Scaled : Fixed → List Float → Planned → Type 0
 Scaled p diag (Planned.Steps s dt) = diag ≡ tab (p .n) (λ i. at (p .diagonal) i ⊗ dt)
 Scaled p diag (Planned.OverCap need) = Unit {0}

@@ -12,6 +12,8 @@ use Rattle.plan.specs.Plan.{Ended, vector, overCap, failed, Fixed, fixedOver, G
 use Rattle.vector.specs.Run.{rebalances, runOn}
 use Rattle.vector.specs.declared.Outcome.{Outcome}
 use Rattle.vector.specs.declared.Outcome.the-variants as Outcome
+use Rattle.plan.specs.declared.plan.Planned.{Planned}
+use Rattle.plan.specs.declared.plan.Planned.the-variants as Planned
 use Rattle.vector.specs.declared.run.Pace.{Pace}
 
 abbrev pub goingOver : List Float → List Float → List Float → List Float → Float → Float → ℕ → Going
@@ -29,6 +31,12 @@ stoppedOf r = record { steps = 0; budget = 0; remaining = 0ᶠ; dt = 0ᶠ; ask =
 
 abbrev pub refusedPace : Pace
 refusedPace = stoppedOf (Outcome.Refused numerical)
+
+-- what the code answers for a plan, b being the budget left
+abbrev pub told : ℕ → Float → Planned → Pace
+told b rest (Planned.Steps s dt) = pacedOf s b rest dt
+told b rest (Planned.OverCap need) = stoppedOf (Outcome.OverCap need b (cap - b))
+told b rest Planned.Refused = refusedPace
 
 unfoldable pub endBy : ℕ → Outcome → Outcome
 endBy zero r = r

@@ -13,7 +13,7 @@ ghost use Rattle.plan.specs.Plan.{boundOk, cap, begin};
 ghost use Rattle.vector.specs.Run.{run, runOn, divided, rebalances};
 ghost use Rattle.operator.specs.Operator.{rows};
 ghost use Rattle.vector.specs.Values.{blankVector, vectorOf, refusedVector, vectorBy};
-ghost use Rattle.vector.specs.Inner.{pacedOf, askedOf, stoppedOf, refusedPace, endBy, AfterIs, BegunIs, PlanSpent, Between, weight, EndIs};
+ghost use Rattle.vector.specs.Inner.{pacedOf, askedOf, stoppedOf, refusedPace, endBy, told, AfterIs, PlanSpent, Between, weight, EndIs};
 ghost use Rattle.series.specs.Slices.{Sizes, Fit};
 ghost use Rattle.series.specs.Half.{filledOut, fullSize, fullFactors, full, Centred};
 ghost use Rattle.vector.specs.Half.{fullFixed, RowsStand};
@@ -92,6 +92,18 @@ fn over_cap(need: f64, budget: u32) -> Pace
     ensures { λ r. ⌜ r ≡ stoppedOf (Outcome.OverCap need budget (cap - budget)) ⌝ }
 {
     stopped(Outcome::OverCap(need, budget, MAX_EXPM_STEPS - budget))
+}
+
+// A plan for the rest of the time, as where a run stands.
+fn pace_of(plan: Planned, budget: u32, rest: f64) -> Pace
+    requires { ⌜ budget ≤ cap ⌝ }
+    ensures { λ r. ⌜ r ≡ told budget rest plan ⌝ }
+{
+    match plan {
+        Planned::Steps(steps, dt) => paced(steps, budget, rest, dt),
+        Planned::OverCap(need) => over_cap(need, budget),
+        Planned::Refused => refused(),
+    }
 }
 
 // How a run ends: with steps planned, its budget is spent.
@@ -208,39 +220,6 @@ fn after_step(w: &mut [f64], o: &mut [f64], pace: Pace, settled: bool) -> Pace
     refused()
 }
 
-// New factors for the offsets, a plan for the rest of the time, and its diagonal.
-fn start(
-    o: &[f64],
-    diag_s: &[f64],
-    diag: &mut [f64],
-    left: &mut [f64],
-    right: &mut [f64],
-    eta: f64,
-    rest: f64,
-    budget: u32,
-    half: bool,
-) -> Pace
-    requires { ⌜ (2 ≤ length (now o)) × (budget ≤ cap) ⌝ }
-    requires { ⌜ Sizes (length (now o)) (now «diag_s») (now diag) (now left) (now right) ⌝ }
-    ensures { λ r. ⌜ BegunIs (fullFixed half (length (now (o .entry))) (now («diag_s» .entry)) eta) budget rest (full half (length (now (o .entry))) (now (o .entry)))
-        (fullFactors half (length (now (o .entry))) (now (left .exit)) (now (right .exit))) (fullFactors half (length (now (o .entry))) (now (right .exit)) (now (left .exit))) (full half (length (now (o .entry))) (now (diag .exit))) r ⌝ }
-    ensures { λ _. ⌜ Centred half (length (now (o .entry))) (now (left .exit)) (now (right .exit)) ⌝ }
-{
-    if operator::set_factors(o, left, right, half) {
-        match plan::plan_with(rest, diag_s, eta, left, right, budget) {
-            Planned::Steps(steps, dt) => {
-                operator::scale_diagonal(diag_s, dt, diag);
-                return paced(steps, budget, rest, dt);
-            }
-            Planned::OverCap(need) => {
-                return over_cap(need, budget);
-            }
-            Planned::Refused => {}
-        }
-    }
-    refused()
-}
-
 // The steps of a plan, until there is another to make or the run is over.
 fn plan_steps(
     w: &mut [f64],
@@ -289,7 +268,7 @@ fn run_plan(
     let mut diag = plan::zeros();
     let mut left = plan::zeros();
     let mut right = plan::zeros();
-    let first = start(
+    let planned = plan::set_plan(
         o,
         diag_s,
         &mut diag[..n],
@@ -300,6 +279,7 @@ fn run_plan(
         budget,
         half,
     );
+    let first = pace_of(planned, budget, rest);
     let mut term = plan::zeros();
     plan_steps(
         w,
