@@ -6,7 +6,6 @@ pub mod refusals;
 mod slices;
 
 pub use plan::Planned;
-pub use plan::plan_with;
 pub use reals::larger_of;
 pub use slices::set_plan;
 ghost use mathlib.Core.Path.{_≡_};

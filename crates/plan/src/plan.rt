@@ -96,7 +96,7 @@ pub(crate) fn plan<'a>(
 
 // The same for a caller that holds the factors as two slices: refused where one is not as long as the
 // diagonal.
-pub fn plan_with<'a>(
+pub(crate) fn plan_with<'a>(
     tau: f64,
     diag_s: &[f64],
     eta: f64,
