@@ -10,9 +10,9 @@
 use desk::amount_at;
 use desk::config_at;
 use harness::LARGEST_BOUND;
+use harness::bits_of;
 use harness::first;
 use harness::make_room;
-use harness::pattern_of;
 use harness::put;
 use harness::put_cut;
 use harness::put_number;
@@ -46,7 +46,7 @@ const LINE: usize = 181;
 // A space and a float's 16 hex digits, in lower case.
 fn put_float(out: &mut [u8], at: usize, x: f64) -> usize {
     let mut text = [0u8; 16];
-    let k = io::hex(pattern_of(x), 16, &mut text);
+    let k = io::hex(bits_of(x), 16, &mut text);
     let next = put(out, at, b" ");
     put(out, next, &text[..k])
 }

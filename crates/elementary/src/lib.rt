@@ -8,8 +8,12 @@ mod root;
 mod split;
 
 ghost use mathlib.Core.Path.{_≡_};
+ghost use lib.Ieee.{binary64, toBits};
 ghost use Rattle.elementary.specs.Float.{finite, positive};
 ghost use Rattle.elementary.specs.Elementary.{told, orNan, LN, LN1P, EXP, SQRT, CEIL};
+
+// The bits of a NaN.
+const NAN_BITS: u64 = 0x7FF8000000000000;
 
 // The number of `Real::Refused`, which the layers above answer by.
 pub const OUTSIDE: u8 = 5;
@@ -48,6 +52,16 @@ pub fn is_positive_finite(x: f64) -> bool
     ensures { λ r. ⌜ r ≡ positive x ⌝ }
 {
     is_finite(x) & (0.0 < x)
+}
+
+// A float's bits. Those of a NaN are not determined, so one of them stands for all.
+pub fn bits_of(x: f64) -> u64
+    ensures { λ r. ⌜ r ≡ toBits binary64 x ⌝ }
+{
+    if x == x {
+        return f64::to_bits(x);
+    }
+    NAN_BITS
 }
 
 // The natural logarithm of a positive finite number.

@@ -16,7 +16,7 @@ const NAN: u64 = 0x7FF8000000000000;
 fn put_real(out: &mut [u8], at: usize, r: Real) -> usize {
     let next = harness::put(out, at, b" ");
     match r {
-        Real::Value(x) => harness::put_hex(out, next, harness::pattern_of(x)),
+        Real::Value(x) => harness::put_hex(out, next, harness::bits_of(x)),
         Real::Refused => harness::put(out, next, b"R5"),
     }
 }
@@ -24,7 +24,7 @@ fn put_real(out: &mut [u8], at: usize, r: Real) -> usize {
 // The float itself, which a NaN is by its name.
 fn put_float(out: &mut [u8], at: usize, x: f64) -> usize {
     if x == x {
-        return harness::put_hex(out, at, harness::pattern_of(x));
+        return harness::put_hex(out, at, harness::bits_of(x));
     }
     harness::put(out, at, b"NAN")
 }

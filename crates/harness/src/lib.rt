@@ -5,6 +5,7 @@ mod standard;
 mod text;
 mod word;
 
+pub use elementary::bits_of;
 pub use entry::ENTRY;
 pub use entry::Entry;
 pub use entry::entry_at;
@@ -24,7 +25,6 @@ pub use text::put_signed;
 pub use word::LARGEST_BOUND;
 pub use word::bound_of;
 pub use word::float_of;
-pub use word::pattern_of;
 pub use word::signed_of;
 pub use word::size_of;
 pub use word::word_at;

@@ -6,8 +6,8 @@ ghost use lib.Signed.{ltZ};
 ghost use lib.ListN.{length};
 ghost use lib.Ieee.{binary64, toBits};
 ghost use Rattle.harness.specs.Texts.{fits, placed, after, spaced, afterSpaced, letterR, lettered, afterLettered, capped, afterCapped, signedBy, afterSigned, glyph, hex, count};
-use crate::word::pattern_of;
 use crate::word::size_of;
+use elementary::bits_of;
 
 // Do n bytes fit from a place on?
 pub(crate) fn has_room(out: &[u8], at: usize, n: usize) -> bool
@@ -108,7 +108,7 @@ pub fn put_float(out: &mut [u8], at: usize, x: f64) -> usize
     ensures { λ r. ⌜ r ≡ afterSpaced (now (out .entry)) at (hex 16 (toBits binary64 x)) ⌝ }
 {
     let next = put(out, at, b" ");
-    put_hex(out, next, pattern_of(x))
+    put_hex(out, next, bits_of(x))
 }
 
 // `C`, the steps needed and the budget left, with a space before each.

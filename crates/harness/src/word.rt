@@ -3,7 +3,7 @@ ghost use mathlib.Core.Path.{_≡_};
 ghost use Prim.Native.Nat.{_+_, _<_, _≤_, min};
 ghost use lib.IntN.{natAbs};
 ghost use lib.ListN.{getD};
-ghost use lib.Ieee.{binary64, ofBits, toBits};
+ghost use lib.Ieee.{binary64, ofBits};
 ghost use Rattle.harness.specs.Words.{four as four·of, word, signed};
 
 // The least word whose number in two's complement is negative, and the sign's bit of a float.
@@ -13,9 +13,6 @@ const LARGEST_WORD: u64 = 0xFFFFFFFFFFFFFFFF;
 
 // The pattern of an infinity. Above it, the sign's bit taken off, are those of the NaNs.
 const INFINITY: u64 = 0x7FF0000000000000;
-
-// The NaN's pattern that stands for all.
-const NAN: u64 = 0x7FF8000000000000;
 
 // The largest bound that 32 bits hold.
 pub const LARGEST_BOUND: u64 = 0xFFFFFFFF;
@@ -94,14 +91,4 @@ pub fn float_of(bits: u64) -> f64
         return 0.0 / 0.0;
     }
     f64::from_bits(bits)
-}
-
-// The pattern of a float. The language reads no NaN's; one of them stands for all.
-pub fn pattern_of(x: f64) -> u64
-    ensures { λ r. ⌜ r ≡ toBits binary64 x ⌝ }
-{
-    if x == x {
-        return f64::to_bits(x);
-    }
-    NAN
 }

@@ -5,7 +5,6 @@ ghost use mathlib.Core.List.{[], _∷_};
 ghost use Prim.Native.Nat.{_<_, _≤_};
 ghost use lib.ListN.{length};
 ghost use lib.IntN.{natAbs};
-ghost use lib.Ieee.{binary64, toBits};
 ghost use Rattle.lines.specs.Lines.{glyph, digits, places, count, price, signed, side, hex, joined, quotesLine, capLine, refusalLine, answerLine, leastRoom, lineFor, wrote, textLeft};
 ghost use Rattle.lines.specs.Inner.{mostSide};
 ghost use Rattle.buffers.specs.Over.{over};
@@ -17,9 +16,6 @@ use quote::Price;
 
 // The least line buffer: no line is longer.
 pub const LEAST_ROOM: usize = 64;
-
-// The bits of a NaN.
-const NAN_BITS: u64 = 0x7FF8000000000000;
 
 // The bytes that a line takes, or a refusal by 8.
 pub enum LineWritten {
@@ -128,23 +124,13 @@ fn write_side(out: &mut [u8], p: Price) -> usize
     }
 }
 
-// A float's bits. Those of a NaN are not determined, so one of them stands for all.
-fn bits_of(x: f64) -> u64
-    ensures { λ r. ⌜ r ≡ toBits binary64 x ⌝ }
-{
-    if x == x {
-        return f64::to_bits(x);
-    }
-    NAN_BITS
-}
-
 // A float's 16 hex digits.
 fn write_hex(out: &mut [u8], x: f64) -> usize
     requires { ⌜ 16 ≤ length (now out) ⌝ }
     ensures { λ _. ⌜ now (out .exit) ≡ over (hex x) (now (out .entry)) ⌝ }
     ensures { λ r. ⌜ r ≡ 16 ⌝ }
 {
-    write_digits(out, 16, bits_of(x), 16);
+    write_digits(out, 16, elementary::bits_of(x), 16);
     16
 }
 

@@ -44,7 +44,7 @@ pub enum FirstPlan {
     Refused(u8),
 }
 
-// A name for the array keeps its 401 entries out of the goals.
+// A vector's array with 0.0 in every place. A name for it keeps its 401 entries out of the goals.
 pub fn zeros() -> [f64; MAX_DIM]
     ensures { λ r. ⌜ r ≡ fill room 0ᶠ ⌝ }
 {

@@ -1,7 +1,7 @@
 // Document 01's cases of the value vector that are not proved as a table: each is run, and a line
 // says what came out.
+use harness::bits_of;
 use harness::first;
-use harness::pattern_of;
 use harness::put;
 use harness::put_number;
 use vector::Outcome;
@@ -10,7 +10,7 @@ use vector::RunInput;
 // A space and a float's 16 hex digits, in lower case.
 fn put_float(out: &mut [u8], at: usize, x: f64) -> usize {
     let mut text = [0u8; 16];
-    let k = io::hex(pattern_of(x), 16, &mut text);
+    let k = io::hex(bits_of(x), 16, &mut text);
     let next = put(out, at, b" ");
     put(out, next, &text[..k])
 }

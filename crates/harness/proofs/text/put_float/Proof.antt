@@ -10,8 +10,8 @@ slice-aggregate-put c = search needs
 put-requires : tie.Need-put-requires
 put-requires c κs = search needs
 
-pattern-of-requires : tie.Need-pattern-of-requires
-pattern-of-requires c κs = search needs
+bits-of-requires : tie.Need-bits-of-requires
+bits-of-requires c κs = search needs
 
 put-hex-requires : tie.Need-put-hex-requires
 put-hex-requires c κs = search needs
@@ -24,7 +24,7 @@ unfolding spaced afterSpaced
 returns c =
     let q = c .before .before in
     let p = q .before .before .before .before .before .put .ensures in
-    rw (← p .0, ← p .1, ← (q .before .pattern-of .ensures)) (q .put-hex .ensures)
+    rw (← p .0, ← p .1, ← (q .before .bits-of .ensures)) (q .put-hex .ensures)
 
 pub put-float-spec : {M : Type 1} → statement M
-put-float-spec = tie.close (tie.spec slice-aggregate-put put-requires pattern-of-requires put-hex-requires same-length returns)
+put-float-spec = tie.close (tie.spec slice-aggregate-put put-requires bits-of-requires put-hex-requires same-length returns)

@@ -1,4 +1,4 @@
--- `lines::line::bits_of` meets its contract: the NaN alone does not equal itself. Assumes nothing.
+-- `elementary::bits_of` meets its contract: the NaN alone does not equal itself. Assumes nothing.
 use mathlib.Core.Path.{_≡_, refl, sym, ap, subst, _∙_}
 use Prim.Native.Nat.{ℕ, _*_}
 use lib.IntN.{ℤ}
@@ -7,8 +7,8 @@ use borrow.Author.Tests.{eq-eqb}
 use lib.Dec.{T}
 use lib.Ieee.{Float, nan, inf, fin, up, down, eq, isNan, binary64, toBits}
 use borrow.Author.Needs.{needs}
-use Rattle.lines.proofs.line.bits_of.Statement.{statement}
-use Rattle.lines.proofs.line.bits_of.Tie as tie
+use Rattle.elementary.proofs.bits_of.Statement.{statement}
+use Rattle.elementary.proofs.bits_of.Tie as tie
 
 equal-no-nan : (x : Float) → eq x x ≡ true → T (not (isNan x))
 unfolding eq isNan
