@@ -6,6 +6,7 @@ mod rounding;
 pub use rounding::Billionths;
 pub use rounding::to_billionths;
 ghost use mathlib.Core.Path.{_≡_};
+ghost use lib.IntN.{natAbs};
 ghost use Rattle.amounts.specs.Amounts.{amountOk, timeOk, above0, toFloat, tauOf};
 
 // The billionths of a unit.
@@ -39,6 +40,16 @@ pub fn is_positive(x: i64) -> bool
     ensures { λ r. ⌜ r ≡ above0 x ⌝ }
 {
     0 < x
+}
+
+// An amount without its sign.
+pub fn size_of(x: i64) -> u64
+    ensures { λ r. ⌜ r ≡ natAbs x ⌝ }
+{
+    if x < 0 {
+        return (-1 - x) as u64 + 1;
+    }
+    x as u64
 }
 
 // An amount as a float.

@@ -5,6 +5,7 @@ mod standard;
 mod text;
 mod word;
 
+pub use amounts::size_of;
 pub use elementary::bits_of;
 pub use entry::ENTRY;
 pub use entry::Entry;
@@ -26,5 +27,4 @@ pub use word::LARGEST_BOUND;
 pub use word::bound_of;
 pub use word::float_of;
 pub use word::signed_of;
-pub use word::size_of;
 pub use word::word_at;

@@ -6,7 +6,7 @@ ghost use lib.Signed.{ltZ};
 ghost use lib.ListN.{length};
 ghost use lib.Ieee.{binary64, toBits};
 ghost use Rattle.harness.specs.Texts.{fits, placed, after, spaced, afterSpaced, letterR, lettered, afterLettered, capped, afterCapped, signedBy, afterSigned, glyph, hex, count};
-use crate::word::size_of;
+use amounts::size_of;
 use elementary::bits_of;
 
 // Do n bytes fit from a place on?

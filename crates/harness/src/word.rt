@@ -1,7 +1,6 @@
 // Words of eight bytes, and the numbers that they stand for.
 ghost use mathlib.Core.Path.{_≡_};
 ghost use Prim.Native.Nat.{_+_, _<_, _≤_, min};
-ghost use lib.IntN.{natAbs};
 ghost use lib.ListN.{getD};
 ghost use lib.Ieee.{binary64, ofBits};
 ghost use Rattle.harness.specs.Words.{four as four·of, word, signed};
@@ -60,16 +59,6 @@ pub fn signed_of(word: u64) -> i64
         return word as i64;
     }
     -1 - ((LARGEST_WORD - word) as i64)
-}
-
-// A number without its sign.
-pub fn size_of(x: i64) -> u64
-    ensures { λ r. ⌜ r ≡ natAbs x ⌝ }
-{
-    if x < 0 {
-        return (-1 - x) as u64 + 1;
-    }
-    x as u64
 }
 
 // A bound as 32 bits hold it. One that they do not hold is beyond every bound that is taken, and so

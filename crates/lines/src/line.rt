@@ -4,11 +4,11 @@ ghost use mathlib.Core.Path.{_≡_};
 ghost use mathlib.Core.List.{[], _∷_};
 ghost use Prim.Native.Nat.{_<_, _≤_};
 ghost use lib.ListN.{length};
-ghost use lib.IntN.{natAbs};
 ghost use Rattle.lines.specs.Lines.{glyph, digits, places, count, price, signed, side, hex, joined, quotesLine, capLine, refusalLine, answerLine, leastRoom, lineFor, wrote, textLeft};
 ghost use Rattle.lines.specs.Inner.{mostSide};
 ghost use Rattle.buffers.specs.Over.{over};
 use crate::refusals::SMALL_BUFFER;
+use amounts::size_of;
 use quote::BILLION;
 use quote::ExactQuotes;
 use quote::GlftQuotes;
@@ -84,16 +84,6 @@ fn write_price(out: &mut [u8], n: u64) -> usize
     let at = k + 1;
     write_digits(&mut out[at..], 10, n, 9);
     at + 9
-}
-
-// A price without its sign.
-fn size_of(z: i64) -> u64
-    ensures { λ r. ⌜ r ≡ natAbs z ⌝ }
-{
-    if z < 0 {
-        return (-1 - z) as u64 + 1;
-    }
-    z as u64
 }
 
 // A price, with `-` before it where it is below zero.

@@ -1,4 +1,4 @@
--- `lines::line::size_of` meets its contract: minus one less a negative number is one less than its size. Assumes nothing.
+-- `amounts::size_of` meets its contract: minus one less a negative number is one less than its size. Assumes nothing.
 use Prim.Native.Nat.{suc, _-_, _^_, _<_, _≤_}
 use mathlib.Core.Path.{_≡_, sym, subst, _∙_}
 use mathlib.Core.Bool.{true, false}
@@ -11,8 +11,8 @@ use lib.Signed.{ltZ, nonNeg}
 use mir.Syntax.{w64}
 use mir.Val.{Fits, SFits, toZ, ofZ}
 use mir.Facts.{toZ-ofZ}
-use Rattle.lines.proofs.line.size_of.Statement.{statement}
-use Rattle.lines.proofs.line.size_of.Tie as tie
+use Rattle.amounts.proofs.size_of.Statement.{statement}
+use Rattle.amounts.proofs.size_of.Tie as tie
 
 -- ---- a negative number
 turned : (z : ℤ) → SFits w64 z → ltZ z (pos 0) ≡ true → (negsuc 0 -ℤ z ≡ pos (natAbs z - 1)) × (0 < natAbs z) × (natAbs z ≤ 2 ^ 63)
@@ -35,25 +35,25 @@ unsigned (pos n) h t = (tt, omega (arith, h .sfits))
 unsigned (negsuc n) h t = absurd (subst T t tt)
 
 sub-result : tie.Need-sub-result
-sub-result c = fits _ (c .before .fits .z) (c .if1 .taken)
+sub-result c = fits _ (c .before .fits .x) (c .if1 .taken)
 
 cast-result : tie.Need-cast-result
 cast-result c =
-    let k = known _ (c .before .fits .z) (c .if1 .taken) in
-    rw (less-one _ (c .before .fits .z) (c .if1 .taken)) (tt, omega (arith, k .2))
+    let k = known _ (c .before .fits .x) (c .if1 .taken) in
+    rw (less-one _ (c .before .fits .x) (c .if1 .taken)) (tt, omega (arith, k .2))
 
 add-result : tie.Need-add-result
 add-result c =
-    let k = known _ (c .before .fits .z) (c .if1 .taken) in
-    rw (less-one _ (c .before .fits .z) (c .if1 .taken)) (omega (arith, k .2))
+    let k = known _ (c .before .fits .x) (c .if1 .taken) in
+    rw (less-one _ (c .before .fits .x) (c .if1 .taken)) (omega (arith, k .2))
 
 returns : tie.Need-returns
 returns c =
-    let k = known _ (c .before .fits .z) (c .if1 .taken) in
-    rw (less-one _ (c .before .fits .z) (c .if1 .taken)) (omega (arith, k .1))
+    let k = known _ (c .before .fits .x) (c .if1 .taken) in
+    rw (less-one _ (c .before .fits .x) (c .if1 .taken)) (omega (arith, k .1))
 
 cast-result-2 : tie.Need-cast-result-2
-cast-result-2 c = rw (toZ-ofZ (c .before .fits .z)) (unsigned _ (c .before .fits .z) (rw (toZ-ofZ (c .before .fits .z)) at (c .if1 .left)))
+cast-result-2 c = rw (toZ-ofZ (c .before .fits .x)) (unsigned _ (c .before .fits .x) (rw (toZ-ofZ (c .before .fits .x)) at (c .if1 .left)))
 
 returns-2 : tie.Need-returns-2
 returns-2 c = search needs
