@@ -21,7 +21,7 @@ fn print_number(name: &[u8], number: u64) {
 // Prices are positive: `size_of` gives the same number as a u64.
 fn print_price(name: &[u8], price: Price) {
     match price {
-        Price::At(billionths) => print_number(name, harness::size_of(billionths)),
+        Price::At(billionths) => print_number(name, amounts::size_of(billionths)),
         Price::Absent => {
             print(name);
             print(b"withheld\n");
