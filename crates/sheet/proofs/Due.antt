@@ -15,9 +15,8 @@ use Rattle.record.specs.Record.{Read, taken, refused, numbers, fields, recordOf
 use Rattle.lines.specs.Lines.{refusalLine, Text, text, refusal}
 use Rattle.record.specs.declared.record.RecordAnswer.{RecordAnswer}
 use Rattle.record.specs.declared.record.RecordAnswer.the-variants as RecordAnswer
-use Rattle.sheet.specs.Sheet.{mostBytes, Step, line, end, refuse, stepBy, stepOf, stepAt, answered}
+use Rattle.sheet.specs.Sheet.{mostBytes, Step, line, end, refuse, stepBy, stepOf, stepAt}
 use Rattle.record.specs.declared.record.Record.{Record}
-use Rattle.sheet.specs.declared.line.LineAnswer.the-variants as LineAnswer
 use Rattle.sheet.proofs.Steps.{step-end, step-long, step-read}
 use Rattle.record.proofs.Left.{next-moves}
 use Rattle.record.proofs.Numbers.{numbers-stopped, stopped-number}
@@ -88,11 +87,3 @@ step-due f s at a g h = due-of (stepAt f s at a) (go (leb (length s) mostBytes) 
     go : (m : Bool) → (m ≡ true → length s ≤ mostBytes) → (m ≡ false → mostBytes < length s) → stepAt f s at a ≡ end → ⊥
     go true y n e = no-end f (length s) a (sym (step-read f s at a h (y refl)) ∙ e)
     go false y n e = let d = step-long f s at a h (n refl) in let z : _≡_ {A = ℕ} 0 1 = cc in omega arith
-
--- ---- the text, from what was answered
-pub told : (b : Bool) (x : Step) (n next : ℕ) → LineAnswer.Written n next ≡ answered b x → (t : List ℕ) × (x ≡ line t next) × (n ≡ length t)
-unfolding answered
-told false x n next e = let z : _≡_ {A = ℕ} 0 1 = cc in absurd (omega arith)
-told true (line t m) n next e = let z : m ≡ next = cc in (t, cc, cc)
-told true end n next e = let z : _≡_ {A = ℕ} 0 1 = cc in absurd (omega arith)
-told true (refuse k) n next e = let z : _≡_ {A = ℕ} 0 1 = cc in absurd (omega arith)

@@ -1,12 +1,12 @@
 -- The ladders of a sheet: each fits its buffer, and reading goes on. Assumes nothing.
 use mathlib.Core.Path.{_≡_, refl, ap, subst}
 use Prim.Native.Nat.{ℕ, _<_, _≤_}
-use native.Mathlib.Nat.{le-trans}
+use native.Mathlib.Nat.{le-refl, le-trans}
 use native.Mathlib.Omega.{arith}
 use mathlib.Core.Bool.{Bool, true, false}
 use mathlib.Core.Logic.{inl, inr}
 use mathlib.Core.List.{List}
-use borrow.Author.Tests.{leb-true, leb-false, le-leb, ne-eqb}
+use borrow.Author.Tests.{leb-true, leb-false, ne-eqb}
 use lib.IntN.{ℤ}
 use lib.ListN.{length}
 use lib.Dec.{leb, eqb, lit<}
@@ -18,7 +18,7 @@ use Rattle.elementary.specs.declared.Check.the-variants as Check
 use Rattle.lots.proofs.OneRun.{check-refusals}
 use Rattle.record.specs.Record.{configOf, readAs}
 use Rattle.record.specs.declared.record.Record.{Record}
-use Rattle.lines.specs.Lines.{refusalLine, leastRoom, hasRoom, Text, text, refusal, wrote, textLeft}
+use Rattle.lines.specs.Lines.{refusalLine, leastRoom, Text, text, refusal, wrote, textLeft}
 use Rattle.lines.specs.declared.line.LineWritten.the-variants as LineWritten
 use Rattle.lines.proofs.Widths.{refusal-most}
 use Rattle.ladders.specs.Refusals.{smallLadderBuffer}
@@ -26,12 +26,11 @@ use Rattle.ladders.specs.Ladder.{ladder, ladderRoom, mostLadder, ladderIf, ladd
 use Rattle.ladders.specs.declared.ladder.LadderAnswer.the-variants as LadderAnswer
 use Rattle.ladders.proofs.Rungs.{ladder-most}
 use Rattle.ladders.proofs.LadderLaws.{ladder-own-mirror, ladders-bounded}
-use Rattle.sheet.specs.Sheet.{line, refuse, answered}
-use Rattle.sheet.specs.Ladders.{refusedBy, ladderText, recordLadder, ladderAt, RecordLadderMirror}
+use Rattle.sheet.specs.Sheet.{line, refuse}
+use Rattle.sheet.specs.Ladders.{refusedBy, ladderText, recordLadder, wholeBy, wholeLadder, ladderAt, RecordLadderMirror}
 use Rattle.sheet.specs.Promises.{LaddersFit, LaddersMove, LaddersWritten}
-use Rattle.sheet.specs.declared.line.LineAnswer.the-variants as LineAnswer
 use Rattle.sheet.proofs.Steps.{step-written}
-use Rattle.sheet.proofs.Due.{step-due, step-kept, told}
+use Rattle.sheet.proofs.Due.{step-kept}
 
 -- ---- a record's text fits the buffer
 number-small : (mid : ℤ) (c : GLFTConfig) (vol : ℤ) (t n : ℕ) → checkCall mid c vol t ≡ Check.Refused n → n < 21
@@ -62,22 +61,25 @@ record-most room r t e h =
     let now = r .«current_time» in
     text-most (checkCall mid c vol now) (ladderRoom c) room (ladder mid c vol now) (number-most mid c vol now) (ladder-most mid c vol now) h (leb (ladderRoom c) room) (leb-true (ladderRoom c) room) t e
 
--- with the most bytes there is always a text
+-- with the most bytes there is always a text, the same for all of them
 text-whole : (x : Check) (need room : ℕ) (u : List ℕ) → ((n : ℕ) → x ≡ Check.Refused n → n < 21) → (x ≡ Check.Passes → need ≤ room)
-    → (m : Bool) → (m ≡ false → room < need) → (t : List ℕ) × (ladderText (ladderIf x m u) ≡ text t)
-unfolding ladderIf ladderText refusedBy
-text-whole (Check.Refused n) need room u few most m f = (refusalLine n, rw (ne-eqb n smallLadderBuffer (λ e. omega (arith, few n refl))))
+    → (m : Bool) → (m ≡ false → room < need) → ladderText (ladderIf x m u) ≡ text (wholeBy x u)
+unfolding ladderIf ladderText refusedBy wholeBy
+text-whole (Check.Refused n) need room u few most m f = rw (ne-eqb n smallLadderBuffer (λ e. omega (arith, few n refl)))
 text-whole Check.Passes need room u few most false f = absurd (omega (arith, most refl, f refl))
-text-whole Check.Passes need room u few most true f = (u, refl)
+text-whole Check.Passes need room u few most true f = refl
 
-record-whole : (room : ℕ) → mostLadder ≤ room → (r : Record) → (t : List ℕ) × (recordLadder room r ≡ text t)
-unfolding recordLadder ladderFor
+pub record-whole : (room : ℕ) → mostLadder ≤ room → (r : Record) → recordLadder room r ≡ text (wholeLadder r)
+unfolding recordLadder ladderFor wholeLadder
 record-whole room h r =
     let mid = r .«mid_price» in
     let c = configOf r in
     let vol = r .volatility in
     let now = r .«current_time» in
     text-whole (checkCall mid c vol now) (ladderRoom c) room (ladder mid c vol now) (number-small mid c vol now) (λ e. le-trans (ladders-bounded mid c vol now e) h) (leb (ladderRoom c) room) (leb-false (ladderRoom c) room)
+
+pub whole-most : (r : Record) → length (wholeLadder r) ≤ mostLadder
+whole-most r = record-most mostLadder r (wholeLadder r) (record-whole mostLadder (le-refl mostLadder) r) (omega arith)
 
 -- ---- at a place of a sheet
 module _ (room : ℕ) (s : List ℕ) (at : ℕ) where
@@ -94,12 +96,7 @@ module _ (room : ℕ) (s : List ℕ) (at : ℕ) where
 
   ladder-written : mostLadder ≤ room → (k : ℕ) → ladderAt room s at ≡ refuse k → ⊥
   unfolding ladderAt
-  ladder-written h k e = step-written (recordLadder room) (record-whole room h) s at (readAs true s at) k e
-
-  -- before the end there is one, with the most bytes
-  ladder-there : mostLadder ≤ room → at < length s → (t : List ℕ) × (next : ℕ) × (ladderAt room s at ≡ line t next)
-  unfolding ladderAt
-  ladder-there h l = step-due (recordLadder room) s at (readAs true s at) (ladder-written h) l
+  ladder-written h k e = step-written (recordLadder room) (λ r. (wholeLadder r, record-whole room h r)) s at (readAs true s at) k e
 
 pub ladders-fit : LaddersFit
 ladders-fit room s at t next e = ladder-kept room s at t next e .0
@@ -109,19 +106,6 @@ ladders-move room s at t next e = let k = ladder-kept room s at t next e in (k .
 
 pub ladders-written : LaddersWritten
 ladders-written room s at k h e = ladder-written room s at h k e
-
--- ---- what `next_ladder` answers: before the end, with the most bytes, a text that fits and a place further on
-pub ladder-due : (s b : List ℕ) (at : ℕ) → mostLadder ≤ length b → at < length s
-    → (n : ℕ) × (next : ℕ) × (answered (hasRoom b) (ladderAt (length b) s at) ≡ LineAnswer.Written n next)
-unfolding answered
-ladder-due s b at h l =
-    let d = ladder-there (length b) s at h l in
-    (length (d .0), d .1, rw (le-leb leastRoom (length b) (omega arith), d .2))
-
-pub ladder-told : (room : ℕ) (b : Bool) (s : List ℕ) (at n next : ℕ) → LineAnswer.Written n next ≡ answered b (ladderAt room s at) → (leastRoom ≤ room → n ≤ room) × (at < next) × (next ≤ length s)
-ladder-told room b s at n next e =
-    let k = told b (ladderAt room s at) n next e in
-    rw (k .2) (ladder-kept room s at (k .0) next (k .1))
 
 -- ---- a record's text, from what `write_ladder` answers
 pub text-written : (x : Text) (b out : List ℕ) (n : ℕ) → LadderAnswer.Written n ≡ ladderAnswer x → out ≡ textLeft x b → (LineWritten.Written n ≡ wrote (ladderText x)) × (out ≡ textLeft (ladderText x) b)

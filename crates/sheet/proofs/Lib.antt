@@ -1,11 +1,12 @@
 pub mod Steps
-pub mod TextKinds
 pub mod Due
+pub mod Ladders
+pub mod PlanLines
+pub mod Texts
 pub mod Whole
 pub mod Filling
 pub mod Fills
 pub mod Refusing
 pub mod LineRefusals
-pub mod Ladders
 pub mod LadderRefusals
 pub mod Plans

@@ -33,7 +33,7 @@ use Rattle.record.specs.declared.record.RecordAnswer.the-variants as RecordAnsw
 use Rattle.lines.proofs.Digits.{back, back-count}
 use Rattle.sheet.proofs.Steps.{line-long, line-read}
 use Rattle.record.proofs.Numbers.{stopped-number}
-use Rattle.sheet.proofs.Whole.{before-end}
+use Rattle.sheet.proofs.Texts.{line-before}
 use Rattle.record.proofs.Refusing.{record-refusals, record-skips}
 
 -- ---- a line names its number, and only a refusal's line is `R`
@@ -112,7 +112,7 @@ module _ (s : List ℕ) (at k next : ℕ) where
       stopped h (subst (Stopped (drop at s)) (same-number j k t) (record-refusals s at j .0 d)) n
 
   said : lineAt s at ≡ line (refusalLine k) next → Said s at k next
-  said e = go (leb (length s) mostBytes) (leb-true (length s) mostBytes) (leb-false (length s) mostBytes) (before-end s at (refusalLine k) next e)
+  said e = go (leb (length s) mostBytes) (leb-true (length s) mostBytes) (leb-false (length s) mostBytes) (line-before s at (refusalLine k) next e)
     where
       go : (m : Bool) → (m ≡ true → length s ≤ mostBytes) → (m ≡ false → mostBytes < length s) → at < length s → Said s at k next
       go true f g h = read-said (h, f refl) (readRecord s at) refl (sym (line-read s at h (f refl)) ∙ e)
@@ -123,7 +123,7 @@ module _ (s : List ℕ) (at k next : ℕ) where
           long (sym (same-number longSheet k t)) (g refl) n
 
 long-line : LongLine
-long-line s at next = (λ e. go (before-end s at _ next e) (said s at longSheet next e), λ h. line-long s at (h .0) (h .1) ∙ ap (line (refusalLine longSheet)) (sym (h .2)))
+long-line s at next = (λ e. go (line-before s at _ next e) (said s at longSheet next e), λ h. line-long s at (h .0) (h .1) ∙ ap (line (refusalLine longSheet)) (sym (h .2)))
   where
     go : at < length s → Said s at longSheet next → (at < length s) × (mostBytes < length s) × (next ≡ length s)
     go h (long e m n) = (h, m, n)

@@ -14,7 +14,7 @@ use Rattle.lines.specs.declared.line.LineWritten.{LineWritten}
 use Rattle.lines.proofs.Written.{line-is}
 use Rattle.record.specs.declared.record.RecordAnswer.the-variants as RecordAnswer
 use Rattle.sheet.specs.Inner.{steppedBy}
-use Rattle.sheet.specs.Sheet.{mostBytes, recordLine, lineText, Step, line, end, refuse, stepBy, stepOf, stepIf, stepAt, lineAt, answered, left}
+use Rattle.sheet.specs.Sheet.{mostBytes, lineText, Step, line, end, refuse, stepBy, stepOf, stepIf, stepAt, lineAt, answered, left}
 use Rattle.record.specs.declared.record.Record.{Record}
 use Rattle.record.specs.declared.record.RecordAnswer.{RecordAnswer}
 use Rattle.sheet.specs.declared.line.LineAnswer.the-variants as LineAnswer
@@ -33,10 +33,6 @@ module _ (f : Record → Text) (s : List ℕ) (at : ℕ) (a : RecordAnswer) wher
   step-read h k = rw (lt-ltb at (length s) h, le-leb (length s) mostBytes k)
 
 module _ (s : List ℕ) (at : ℕ) where
-  pub line-end : length s ≤ at → lineAt s at ≡ end
-  unfolding lineAt
-  line-end h = step-end lineText s at (readRecord s at) h
-
   pub line-long : at < length s → mostBytes < length s → lineAt s at ≡ line (refusalLine longSheet) (length s)
   unfolding lineAt
   line-long h k = step-long lineText s at (readRecord s at) h k
@@ -93,7 +89,3 @@ module _ (f : Record → Text) (whole : (r : Record) → (t : List ℕ) × (f r 
   pub step-written : (s : List ℕ) (at : ℕ) (a : RecordAnswer) (k : ℕ) → stepAt f s at a ≡ refuse k → ⊥
   unfolding stepAt
   step-written s at a k e = if-written _ _ _ a k e
-
-pub line-written : (s : List ℕ) (at k : ℕ) → lineAt s at ≡ refuse k → ⊥
-unfolding lineAt
-line-written s at k e = step-written lineText (λ r. (recordLine r, refl)) s at (readRecord s at) k e

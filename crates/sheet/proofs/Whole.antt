@@ -1,125 +1,103 @@
--- The promises of the sheet: numbers and holdings as stored, lines that fit and move, and the steps that make the whole. Assumes nothing.
+-- The steps make the whole: the texts of a kind, one after the other, are what is printed for the sheet, and that is bounded. Assumes nothing.
 use mathlib.Core.Path.{_≡_, refl, ap, _∙_, subst}
-use Prim.Native.Nat.{ℕ, zero, suc, _+_, _-_, _<_, _≤_}
-use native.Mathlib.Nat.{le-refl}
+use Prim.Native.Nat.{ℕ, zero, suc, _+_, _-_, _*_, _<_, _≤_}
+use native.Mathlib.Nat.{le-refl, le-trans, mul-le-mul-right, suc-mul}
 use native.Mathlib.Omega.{arith}
 use mathlib.Core.Bool.{Bool, true, false}
 use mathlib.Core.List.{List, [], _∷_, append-nil}
 use borrow.Author.Tests.{ltb-true, ltb-false, leb-true, leb-false}
-use lib.ListN.{length, drop, length-drop, drop-of-length-le}
-use lib.Dec.{ltb, leb}
-use Rattle.quote.proofs.Replies.{replies-kept}
+use lib.ListN.{length, drop, length-drop, length-append, drop-of-length-le}
+use lib.Dec.{ltb, leb, lit<}
 use Rattle.amounts.specs.Refusals.{limits}
-use Rattle.sheet.specs.Refusals.{longSheet}
-use Rattle.record.specs.Record.{Read, taken, refused, numbers, fields, recordOf, configOf, recordOk, recordIf, recordFrom, readRecord, readAs}
-use Rattle.lines.specs.Lines.{refusalLine, leastRoom, text}
-use Rattle.sheet.specs.Sheet.{mostBytes, recordLine, line, stepOf, stepAt, lineAt, answered, first, headIf, headBy, headOf, lines, printedIf, printed, lineText, stepBy}
-use Rattle.sheet.specs.Promises.{LinesFit, LinesMove, Followed, StepsMakeTheWhole}
-use Rattle.sheet.specs.Promises as Promises
+use Rattle.record.specs.Record.{Read, taken, refused, numbers, fields, recordOf, recordOk, recordIf, recordFrom, asHeld, heldAs, readAs}
 use Rattle.record.specs.declared.record.Record.{Record}
-use Rattle.sheet.specs.declared.line.LineAnswer.the-variants as LineAnswer
-use Rattle.lines.proofs.Widths.{reply-most, refusal-most}
-use Rattle.sheet.proofs.Steps.{line-end, line-long, line-read, line-written}
 use Rattle.record.proofs.Left.{next-moves, next-left}
-use Rattle.record.proofs.Flat.{as-it-is}
-use Rattle.sheet.proofs.Due.{step-due, step-before, step-kept, told}
+use Rattle.lines.specs.Lines.{refusalLine}
+use Rattle.sheet.specs.Refusals.{longSheet}
+use Rattle.sheet.specs.Sheet.{mostBytes, line, stepOf, stepBy, first, headIf, headBy, headOf, texts, printedIf, printedBy}
+use Rattle.sheet.specs.Kinds.{isFlat, roomOf, textOf, wholeText, textAt, printedAs}
+use Rattle.sheet.specs.Promises.{Followed, StepsMakeTheWhole, PrintedBounded}
+use Rattle.sheet.specs.Promises as Promises
+use Rattle.sheet.specs.declared.text.Kind.{Kind}
+use Rattle.sheet.proofs.Texts.{number-most, text-end, text-long, text-read, texts-fit, texts-move}
 
--- ---- the line at a place, by what is read there
--- a record's line, or that of refusal 2
-lineIf : Bool → Record → List ℕ
-lineIf true r = recordLine r
-lineIf false r = refusalLine limits
+-- ---- a record's text, or the line of refusal 2
+textIf : Kind → Bool → Record → List ℕ
+textIf k true r = textOf k r
+textIf k false r = refusalLine limits
 
-step-text : (t : Bool) (r : Record) (n next : ℕ) → stepOf lineText n (recordIf t r next) ≡ line (lineIf t r) next
-unfolding lineIf stepOf stepBy recordIf
-step-text true r n next = refl
-step-text false r n next = refl
+step-text : (k : Kind) (t : Bool) (r : Record) (n next : ℕ) → stepOf (wholeText k) n (recordIf t r next) ≡ line (textIf k t r) next
+unfolding textIf stepOf stepBy recordIf
+step-text k true r n next = refl
+step-text k false r n next = refl
 
-head-text : (t : Bool) (r : Record) (l : List ℕ) → headIf t r l ≡ first (lineIf t r) l
-unfolding lineIf headIf
-head-text true r l = refl
-head-text false r l = refl
+head-text : (k : Kind) (t : Bool) (r : Record) (l : List ℕ) → headIf (textOf k) t r l ≡ first (textIf k t r) l
+unfolding textIf headIf
+head-text k true r l = refl
+head-text k false r l = refl
 
--- ---- the line at a place: one is due before the end alone; it fits, and the next place is further on
-line-is : (s : List ℕ) (at : ℕ) → stepAt lineText s at (readAs false s at) ≡ lineAt s at
-unfolding lineAt
-line-is s at = ap (stepAt lineText s at) (as-it-is s at)
+-- a text that is the last
+last-text : (k : Kind) (s : List ℕ) (at : ℕ) (t : List ℕ) → textAt k s at ≡ line t (length s) → Followed k s at t
+last-text k s at t e = subst (Followed k s at) (append-nil t) (Promises.stepped e (Promises.ended (text-end k s (length s) (le-refl (length s)))))
 
-line-most : (r : Record) → length (recordLine r) ≤ leastRoom
-unfolding recordLine
-line-most r = reply-most _ (replies-kept (r .«mid_price») (r .inventory) (configOf r) (r .volatility) (r .«current_time»))
-
-module _ (s : List ℕ) (at : ℕ) where
-  abbrev Fits : List ℕ → Type 0
-  Fits t = length t ≤ leastRoom
-
-  fits : (r : Record) (t : List ℕ) → lineText r ≡ text t → Fits t
-  fits r t e = let z : recordLine r ≡ t = cc in subst Fits z (line-most r)
-
-  pub line-due : at < length s → (t : List ℕ) × (next : ℕ) × (lineAt s at ≡ line t next)
-  unfolding lineAt
-  line-due h = step-due lineText s at (readRecord s at) (line-written s at) h
-
-  pub before-end : (t : List ℕ) (next : ℕ) → lineAt s at ≡ line t next → at < length s
-  before-end t next e = step-before lineText false Fits fits refusal-most s at t next (line-is s at ∙ e)
-
-  line-kept : (t : List ℕ) (next : ℕ) → lineAt s at ≡ line t next → Fits t × (at < next) × (next ≤ length s)
-  line-kept t next e = step-kept lineText false Fits fits refusal-most s at t next (line-is s at ∙ e)
-
-pub lines-fit : LinesFit
-lines-fit s at t next e = line-kept s at t next e .0
-
-pub lines-move : LinesMove
-lines-move s at t next e = let k = line-kept s at t next e in (k .1, k .2)
-
--- both, from what `next_line` answers
-pub line-told : (b : Bool) (s : List ℕ) (at n next : ℕ) → LineAnswer.Written n next ≡ answered b (lineAt s at) → (n ≤ leastRoom) × (at < next) × (next ≤ length s)
-line-told b s at n next e =
-    let k = told b (lineAt s at) n next e in
-    rw (k .2) (line-kept s at (k .0) next (k .1))
-
--- ---- the steps make the whole
--- a line that is the last
-last-line : (s : List ℕ) (at : ℕ) (t : List ℕ) → lineAt s at ≡ line t (length s) → Followed s at t
-last-line s at t e = subst (Followed s at) (append-nil t) (Promises.stepped e (Promises.ended (line-end s (length s) (le-refl (length s)))))
-
-head-is : (l : List ℕ) → 0 < length l → headOf l ≡ headBy (numbers fields l)
+head-is : (k : Kind) (l : List ℕ) → 0 < length l → headOf (textOf k) (isFlat k) l ≡ headBy (textOf k) (heldAs (isFlat k) (numbers fields l))
 unfolding headOf
-head-is [] h = absurd (omega arith)
-head-is (b ∷ l) h = refl
+head-is k [] h = absurd (omega arith)
+head-is k (b ∷ l) h = refl
 
-module _ (s : List ℕ) (short : length s ≤ mostBytes) where
-  line-of : (at : ℕ) (x : Read (List ℕ)) → at < length s → numbers fields (drop at s) ≡ x → lineAt s at ≡ stepOf lineText (length s) (recordFrom (length s) x)
-  unfolding readRecord
-  line-of at x h e = line-read s at h short ∙ ap (λ (y : Read (List ℕ)). stepOf lineText (length s) (recordFrom (length s) y)) e
+module _ (k : Kind) (s : List ℕ) (short : length s ≤ mostBytes) where
+  -- what is printed from some bytes on, in so many turns
+  abbrev rest : ℕ → List ℕ → List ℕ
+  rest j l = texts (textOf k) (isFlat k) j (headOf (textOf k) (isFlat k) l)
+
+  text-by : (at : ℕ) (x : Read (List ℕ)) → at < length s → numbers fields (drop at s) ≡ x → textAt k s at ≡ stepOf (wholeText k) (length s) (recordFrom (length s) (heldAs (isFlat k) x))
+  unfolding readAs
+  text-by at x h e = text-read k s at h short ∙ ap (λ (y : Read (List ℕ)). stepOf (wholeText k) (length s) (recordFrom (length s) (heldAs (isFlat k) y))) e
 
   -- one record, and those after it
-  follow-one : (k at : ℕ) (x : Read (List ℕ)) → at < length s → numbers fields (drop at s) ≡ x → ((next : ℕ) → at < next → Followed s next (lines k (headOf (drop next s))))
-      → Followed s at (lines (suc k) (headBy x))
-  unfolding lines headBy recordFrom stepOf
-  follow-one k at (taken v r) h e f =
+  follow-one : (j at : ℕ) (x : Read (List ℕ)) → at < length s → numbers fields (drop at s) ≡ x → ((next : ℕ) → at < next → Followed k s next (rest j (drop next s)))
+      → Followed k s at (texts (textOf k) (isFlat k) (suc j) (headBy (textOf k) (heldAs (isFlat k) x)))
+  unfolding texts headBy recordFrom stepOf heldAs
+  follow-one j at (taken v r) h e f =
       let n = length s - length r in
-      let o = recordOk (recordOf v) in
-      let g : Followed s n (lines k (headOf r)) = rw (next-left s at v r e) at (f n (next-moves s at v r e .0)) in
-      rw (head-text o (recordOf v) r) (Promises.stepped (line-of at (taken v r) h e ∙ step-text o (recordOf v) (length s) n) g)
-  follow-one k at (refused n) h e f = last-line s at (refusalLine n) (line-of at (refused n) h e)
+      let q = recordOf (asHeld (isFlat k) v) in
+      let o = recordOk q in
+      let g : Followed k s n (rest j r) = rw (next-left s at v r e) at (f n (next-moves s at v r e .0)) in
+      rw (head-text k o q r) (Promises.stepped (text-by at (taken v r) h e ∙ step-text k o q (length s) n) g)
+  follow-one j at (refused n) h e f = last-text k s at (refusalLine n) (text-by at (refused n) h e)
 
   -- from a place on, with turns enough for the bytes left
-  follow : (k at : ℕ) → length s ≤ k + at → Followed s at (lines k (headOf (drop at s)))
-  unfolding lines headOf
-  follow zero at h = Promises.ended (line-end s at (omega arith))
-  follow (suc k) at h = go (ltb at (length s)) (ltb-true at (length s)) (ltb-false at (length s)) (λ next m. follow k next (omega arith))
+  follow : (j at : ℕ) → length s ≤ j + at → Followed k s at (rest j (drop at s))
+  unfolding texts headOf
+  follow zero at h = Promises.ended (text-end k s at (omega arith))
+  follow (suc j) at h = go (ltb at (length s)) (ltb-true at (length s)) (ltb-false at (length s)) (λ next m. follow j next (omega arith))
     where
-      go : (m : Bool) → (m ≡ true → at < length s) → (m ≡ false → length s ≤ at) → ((next : ℕ) → at < next → Followed s next (lines k (headOf (drop next s))))
-          → Followed s at (lines (suc k) (headOf (drop at s)))
+      go : (m : Bool) → (m ≡ true → at < length s) → (m ≡ false → length s ≤ at) → ((next : ℕ) → at < next → Followed k s next (rest j (drop next s)))
+          → Followed k s at (rest (suc j) (drop at s))
       go true f g r =
-          rw (head-is (drop at s) (rw (length-drop at s) (omega (arith, f refl)))) (follow-one k at (numbers fields (drop at s)) (f refl) refl r)
-      go false f g r = rw (drop-of-length-le s (g refl)) (Promises.ended (line-end s at (g refl)))
+          rw (head-is k (drop at s) (rw (length-drop at s) (omega (arith, f refl)))) (follow-one j at (numbers fields (drop at s)) (f refl) refl r)
+      go false f g r = rw (drop-of-length-le s (g refl)) (Promises.ended (text-end k s at (g refl)))
 
 pub steps-make-the-whole : StepsMakeTheWhole
-unfolding printed printedIf
-steps-make-the-whole s = go (leb (length s) mostBytes) (leb-true (length s) mostBytes) (leb-false (length s) mostBytes)
+unfolding printedAs printedBy printedIf
+steps-make-the-whole k s = go (leb (length s) mostBytes) (leb-true (length s) mostBytes) (leb-false (length s) mostBytes)
   where
-    go : (m : Bool) → (m ≡ true → length s ≤ mostBytes) → (m ≡ false → mostBytes < length s) → Followed s 0 (printedIf m s)
-    go true f g = follow s (f refl) (length s) 0 (omega arith)
-    go false f g = last-line s 0 (refusalLine longSheet) (line-long s 0 (omega (arith, g refl)) (g refl))
+    go : (m : Bool) → (m ≡ true → length s ≤ mostBytes) → (m ≡ false → mostBytes < length s) → Followed k s 0 (printedIf m (textOf k) (isFlat k) s)
+    go true f g = follow k s (f refl) (length s) 0 (omega arith)
+    go false f g = last-text k s 0 (refusalLine longSheet) (text-long k s 0 (omega (arith, g refl)) (g refl))
+
+-- ---- the bound: a text for each byte
+followed-most : {k : Kind} {s : List ℕ} {at : ℕ} {v : List ℕ} → Followed k s at v → length v ≤ (length s - at) * roomOf k
+followed-most (Promises.ended e) = omega arith
+followed-most {k} {s} {at} (Promises.stepped {next = next} {t = t} {u = u} e f) =
+    let m = texts-move k s at t next e in
+    let more : suc (length s - next) * roomOf k ≤ (length s - at) * roomOf k = mul-le-mul-right (roomOf k) (omega arith) in
+    rw (length-append t u) (omega (arith, texts-fit k s at t next e, followed-most f, suc-mul (length s - next) (roomOf k)))
+
+pub printed-bounded : PrintedBounded
+unfolding printedAs printedBy printedIf
+printed-bounded k s = go (leb (length s) mostBytes) (leb-true (length s) mostBytes) refl
+  where
+    go : (m : Bool) → (m ≡ true → length s ≤ mostBytes) → leb (length s) mostBytes ≡ m → length (printedIf (leb (length s) mostBytes) (textOf k) (isFlat k) s) ≤ mostBytes * roomOf k
+    go true f e = le-trans (followed-most (steps-make-the-whole k s)) (mul-le-mul-right (roomOf k) (omega (arith, f refl)))
+    go false f e = rw e (omega (arith, number-most k longSheet (lit< tt)))

@@ -1,6 +1,5 @@
 -- What the crate's own functions hand each other. No public contract cites this file. Definitions only.
 use Prim.Native.Nat.{ℕ}
-use mathlib.Core.Bool.{Bool, true, false}
 use mathlib.Core.List.{List}
 use Rattle.record.specs.Record.{readAs}
 use Rattle.lines.specs.Lines.{Text}
@@ -11,15 +10,10 @@ use Rattle.sheet.specs.declared.line.LineAnswer.the-variants as LineAnsw
 use Rattle.sheet.specs.Sheet.{lineText, Step, stepAt}
 use Rattle.sheet.specs.Ladders.{recordLadder}
 use Rattle.sheet.specs.Horizon.{planText}
+use Rattle.sheet.specs.Kinds.{isFlat}
 use Rattle.record.specs.declared.record.Record.{Record}
 use Rattle.sheet.specs.declared.text.Kind.{Kind}
 use Rattle.sheet.specs.declared.text.Kind.the-variants as Kind
-
--- is a record read without its holding: for its ladder alone
-unfoldable pub isFlat : Kind → Bool
-isFlat Kind.Line = false
-isFlat Kind.Ladder = true
-isFlat Kind.Plan = false
 
 -- a record's line, its ladder or its plan, for a buffer of so many bytes
 unfoldable pub recordText : Kind → ℕ → Record → Text
@@ -27,8 +21,8 @@ recordText Kind.Line room r = lineText r
 recordText Kind.Ladder room r = recordLadder room r
 recordText Kind.Plan room r = planText r
 
-abbrev pub textAt : Kind → ℕ → List ℕ → ℕ → Step
-textAt k room s at = stepAt (recordText k room) s at (readAs (isFlat k) s at)
+abbrev pub textIn : Kind → ℕ → List ℕ → ℕ → Step
+textIn k room s at = stepAt (recordText k room) s at (readAs (isFlat k) s at)
 
 -- a step's answer, by that of a writer
 unfoldable pub steppedBy : LineWritten → ℕ → LineAnswer

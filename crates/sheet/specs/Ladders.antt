@@ -9,7 +9,7 @@ use Rattle.elementary.specs.declared.Check.{Check}
 use Rattle.elementary.specs.declared.Check.the-variants as Check
 use Rattle.record.specs.Record.{configOf, readAs}
 use Rattle.ladders.specs.Refusals.{smallLadderBuffer}
-use Rattle.ladders.specs.Ladder.{ladderFor, LinesFace}
+use Rattle.ladders.specs.Ladder.{ladder, ladderFor, LinesFace}
 use Rattle.lines.specs.Lines.{refusalLine, Text, text, refusal}
 use Rattle.sheet.specs.Sheet.{Step, stepAt}
 use Rattle.record.specs.declared.record.Record.{Record}
@@ -25,6 +25,16 @@ ladderText (refusal n) = refusedBy (eqb n smallLadderBuffer) n
 
 unfoldable pub recordLadder : ℕ → Record → Text
 recordLadder room r = ladderText (ladderFor (r .«mid_price») (configOf r) (r .volatility) (r .«current_time») room)
+
+-- that of a buffer with room for any: no refusal by 21
+unfoldable pub wholeBy : Check → List ℕ → List ℕ
+wholeBy (Check.Refused n) t = refusalLine n
+wholeBy Check.Passes t = t
+
+unfoldable pub wholeLadder : Record → List ℕ
+wholeLadder r =
+    let c = configOf r in
+    wholeBy (checkCall (r .«mid_price») c (r .volatility) (r .«current_time»)) (ladder (r .«mid_price») c (r .volatility) (r .«current_time»))
 
 -- at a place, with a buffer of so many bytes
 unfoldable pub ladderAt : ℕ → List ℕ → ℕ → Step

@@ -1,13 +1,17 @@
 -- What holds of every sheet, as named statements. Each is proved once, in proofs/. Definitions only.
 use mathlib.Core.Path.{_≡_}
-use Prim.Native.Nat.{ℕ, _<_, _≤_}
+use Prim.Native.Nat.{ℕ, _*_, _<_, _≤_}
 use mathlib.Core.List.{List, [], _++_}
 use lib.ListN.{length, take}
 use Rattle.lines.specs.Lines.{leastRoom}
 use Rattle.ladders.specs.Ladder.{mostLadder}
-use Rattle.sheet.specs.Sheet.{line, end, refuse, lineAt, printed}
+use Rattle.sheet.specs.Sheet.{mostBytes, line, end, refuse, lineAt, printed}
 use Rattle.sheet.specs.Ladders.{ladderAt}
-use Rattle.sheet.specs.Fill.{filled, leftIn}
+use Rattle.sheet.specs.Horizon.{planAt}
+use Rattle.sheet.specs.Kinds.{roomOf, textAt, printedAs}
+use Rattle.sheet.specs.Fill.{filledAs, leftAs}
+use Rattle.sheet.specs.declared.text.Kind.{Kind}
+use Rattle.sheet.specs.declared.text.Kind.the-variants as Kind
 use Rattle.sheet.specs.declared.fill.FillAnswer.the-variants as FillAnswer
 
 -- ---- a line fits the least line buffer, whatever the sheet and the place
@@ -29,32 +33,54 @@ LaddersMove = (room : ℕ) (s : List ℕ) (at : ℕ) (t : List ℕ) (next : ℕ)
 abbrev pub LaddersWritten : Type 0
 LaddersWritten = (room : ℕ) (s : List ℕ) (at k : ℕ) → mostLadder ≤ room → ladderAt room s at ≡ refuse k → ⊥
 
--- ---- the steps make the whole: lines taken one after the other from a place until the end, and their bytes
-pub data Followed (s : List ℕ) : ℕ → List ℕ → Type 0 where
-  ended : {at : ℕ} → lineAt s at ≡ end → Followed s at []
-  stepped : {at next : ℕ} {t u : List ℕ} → lineAt s at ≡ line t next → Followed s next u → Followed s at (t ++ u)
+-- ---- texts of a kind: the line, the ladder and the plan at a place, with the room for any; and the lines of a whole sheet
+pub record TextsStand : Type 0 where
+  pub lines : (s : List ℕ) (at : ℕ) → textAt Kind.Line s at ≡ lineAt s at
+  pub ladders : (room : ℕ) (s : List ℕ) (at : ℕ) → mostLadder ≤ room → textAt Kind.Ladder s at ≡ ladderAt room s at
+  pub plans : (s : List ℕ) (at : ℕ) → textAt Kind.Plan s at ≡ planAt s at
+  pub whole : (s : List ℕ) → printedAs Kind.Line s ≡ printed s
+
+-- each fits the room of its kind, reading goes on, and stays within the sheet; before the end there is one
+abbrev pub TextsFit : Type 0
+TextsFit = (k : Kind) (s : List ℕ) (at : ℕ) (t : List ℕ) (next : ℕ) → textAt k s at ≡ line t next → length t ≤ roomOf k
+
+abbrev pub TextsMove : Type 0
+TextsMove = (k : Kind) (s : List ℕ) (at : ℕ) (t : List ℕ) (next : ℕ) → textAt k s at ≡ line t next → (at < next) × (next ≤ length s)
+
+abbrev pub TextsDue : Type 0
+TextsDue = (k : Kind) (s : List ℕ) (at : ℕ) → at < length s → (t : List ℕ) × (next : ℕ) × (textAt k s at ≡ line t next)
+
+-- ---- the steps make the whole: texts taken one after the other from a place until the end, and their bytes
+pub data Followed (k : Kind) (s : List ℕ) : ℕ → List ℕ → Type 0 where
+  ended : {at : ℕ} → textAt k s at ≡ end → Followed k s at []
+  stepped : {at next : ℕ} {t u : List ℕ} → textAt k s at ≡ line t next → Followed k s next u → Followed k s at (t ++ u)
 
 abbrev pub StepsMakeTheWhole : Type 0
-StepsMakeTheWhole = (s : List ℕ) → Followed s 0 (printed s)
+StepsMakeTheWhole = (k : Kind) (s : List ℕ) → Followed k s 0 (printedAs k s)
 
--- ---- whole lines: a fill stays within its buffer; before the end it goes on, and stays within the sheet; from the end on it fills nothing and stays
+-- what is printed for any sheet is no longer than the room for a text, for each byte of the longest sheet
+abbrev pub PrintedBounded : Type 0
+PrintedBounded = (k : Kind) (s : List ℕ) → length (printedAs k s) ≤ mostBytes * roomOf k
+
+-- ---- whole texts: a fill stays within its buffer; before the end it goes on, and stays within the sheet; from the end on it fills nothing and stays
 abbrev pub FillsFit : Type 0
-FillsFit = (s : List ℕ) (at : ℕ) (b : List ℕ) (n next : ℕ) → filled s at b ≡ FillAnswer.Filled n next → n ≤ length b
+FillsFit = (k : Kind) (s : List ℕ) (at : ℕ) (b : List ℕ) (n next : ℕ) → filledAs k s at b ≡ FillAnswer.Filled n next → n ≤ length b
 
 abbrev pub FillsMove : Type 0
-FillsMove = (s : List ℕ) (at : ℕ) (b : List ℕ) (n next : ℕ) → filled s at b ≡ FillAnswer.Filled n next → at < length s → (at < next) × (next ≤ length s)
+FillsMove = (k : Kind) (s : List ℕ) (at : ℕ) (b : List ℕ) (n next : ℕ) → filledAs k s at b ≡ FillAnswer.Filled n next → at < length s → (at < next) × (next ≤ length s)
 
 abbrev pub FillsEnd : Type 0
-FillsEnd = (s : List ℕ) (at : ℕ) (b : List ℕ) (n next : ℕ) → filled s at b ≡ FillAnswer.Filled n next → length s ≤ at → (n ≡ 0) × (next ≡ at)
+FillsEnd = (k : Kind) (s : List ℕ) (at : ℕ) (b : List ℕ) (n next : ℕ) → filledAs k s at b ≡ FillAnswer.Filled n next → length s ≤ at → (n ≡ 0) × (next ≡ at)
 
 -- ---- the fills make the whole: fills one after the other from a place until the end, each into a buffer of its own size, and the bytes that they hand on
-pub data Fills (s : List ℕ) : ℕ → List ℕ → Type 0 where
-  finished : {at : ℕ} → length s ≤ at → Fills s at []
-  onward : {at next : ℕ} {u : List ℕ} (b : List ℕ) (n : ℕ) → at < length s → filled s at b ≡ FillAnswer.Filled n next → Fills s next u → Fills s at (take n (leftIn s at b) ++ u)
+pub data Fills (k : Kind) (s : List ℕ) : ℕ → List ℕ → Type 0 where
+  finished : {at : ℕ} → length s ≤ at → Fills k s at []
+  onward : {at next : ℕ} {u : List ℕ} (b : List ℕ) (n : ℕ) → at < length s → filledAs k s at b ≡ FillAnswer.Filled n next → Fills k s next u
+      → Fills k s at (take n (leftAs k s at b) ++ u)
 
 abbrev pub FillsMakeTheWhole : Type 0
-FillsMakeTheWhole = (s t : List ℕ) → Fills s 0 t → t ≡ printed s
+FillsMakeTheWhole = (k : Kind) (s t : List ℕ) → Fills k s 0 t → t ≡ printedAs k s
 
 -- and there are such fills, to the end, wherever a buffer has the room
 abbrev pub FillsFinish : Type 0
-FillsFinish = (s b : List ℕ) → leastRoom ≤ length b → Fills s 0 (printed s)
+FillsFinish = (k : Kind) (s b : List ℕ) → roomOf k ≤ length b → Fills k s 0 (printedAs k s)

@@ -18,7 +18,9 @@ use Rattle.sheet.specs.Refusals.{longSheet}
 use Rattle.lines.specs.Lines.{refusalLine, leastRoom, hasRoom}
 use Rattle.sheet.specs.Sheet.{mostBytes, line, lineAt, answered, left}
 use Rattle.sheet.specs.Ladders.{ladderAt}
-use Rattle.sheet.specs.Fill.{filled}
+use Rattle.sheet.specs.Kinds.{roomOf}
+use Rattle.sheet.specs.Fill.{filledAs, leftAs, filled}
+use Rattle.sheet.specs.declared.text.Kind.{Kind}
 use Rattle.sheet.specs.declared.line.LineAnswer.the-variants as LineAnswer
 use Rattle.sheet.specs.declared.fill.FillAnswer.the-variants as FillAnswer
 
@@ -31,6 +33,12 @@ abbrev pub BufferRefusals : Type 0
 BufferRefusals = (s : List ℕ) (at : ℕ) (b : List ℕ) (k : ℕ)
     → ((answered (hasRoom b) (lineAt s at) ≡ LineAnswer.Refused k) ↔ ((k ≡ smallBuffer) × (length b < leastRoom)))
     × ((filled s at b ≡ FillAnswer.Refused k) ↔ ((k ≡ smallBuffer) × (length b < leastRoom)))
+
+-- of whole texts: 8 likewise; then 21, where the buffer has less than the room for any text of the kind; and a refusal leaves the buffer as it was
+abbrev pub FillRefusals : Type 0
+FillRefusals = (k : Kind) (s : List ℕ) (at : ℕ) (b : List ℕ) (n : ℕ)
+    → ((filledAs k s at b ≡ FillAnswer.Refused n) ↔ (((n ≡ smallBuffer) × (length b < leastRoom)) ⊎ ((n ≡ smallLadderBuffer) × (leastRoom ≤ length b) × (length b < roomOf k))))
+    × (filledAs k s at b ≡ FillAnswer.Refused n → leftAs k s at b ≡ b)
 
 -- ==== of ladders: 8 likewise; then 21, where a record is read whose ladder, which 2, 1 and 3 do not refuse, wants more room; and a refusal leaves the buffer as it was
 abbrev pub ShortLadder : List ℕ → ℕ → ℕ → Type 0

@@ -1,4 +1,4 @@
--- Document 01, module 6: a sheet's lines, one by one and as a whole. Definitions only.
+-- Document 01, module 6: a sheet's lines and other texts, one by one and as a whole. Definitions only.
 use Prim.Native.Nat.{ℕ, zero, suc}
 use mathlib.Core.Bool.{Bool, true, false}
 use mathlib.Core.List.{List, [], _∷_, _++_}
@@ -8,7 +8,7 @@ use Rattle.amounts.specs.Refusals.{limits}
 use Rattle.quote.specs.Quotes.{exactQuotes}
 use Rattle.lines.specs.Refusals.{smallBuffer}
 use Rattle.sheet.specs.Refusals.{longSheet}
-use Rattle.record.specs.Record.{Read, taken, refused, numbers, fields, recordOf, configOf, recordOk, readRecord}
+use Rattle.record.specs.Record.{Read, taken, refused, numbers, fields, recordOf, configOf, recordOk, readRecord, heldAs}
 use Rattle.lines.specs.Lines.{answerLine, refusalLine, Text, text, refusal}
 use Rattle.buffers.specs.Over.{over}
 use Rattle.record.specs.declared.record.Record.{Record}
@@ -71,36 +71,40 @@ left true (line t next) b = over t b
 left true end b = b
 left true (refuse n) b = b
 
--- ---- what is printed for a whole sheet
--- what the head of some bytes prints: nothing, a line with the bytes left, or the last line
+-- ---- what is printed for a whole sheet, with f for the text of a record, which is read with its holding or, flat, without
+-- what the head of some bytes prints: nothing, a text with the bytes left, or the last line
 pub data Head : Type 0 where
   none : Head
   first : List ℕ → List ℕ → Head
   last : List ℕ → Head
 
-unfoldable pub headIf : Bool → Record → List ℕ → Head
-headIf true r l = first (recordLine r) l
-headIf false r l = first (refusalLine limits) l
+unfoldable pub headIf : (Record → List ℕ) → Bool → Record → List ℕ → Head
+headIf f true r l = first (f r) l
+headIf f false r l = first (refusalLine limits) l
 
-unfoldable pub headBy : Read (List ℕ) → Head
-headBy (taken v rest) = let r = recordOf v in headIf (recordOk r) r rest
-headBy (refused n) = last (refusalLine n)
+unfoldable pub headBy : (Record → List ℕ) → Read (List ℕ) → Head
+headBy f (taken v rest) = let r = recordOf v in headIf f (recordOk r) r rest
+headBy f (refused n) = last (refusalLine n)
 
-unfoldable pub headOf : List ℕ → Head
-headOf [] = none
-headOf (b ∷ l) = headBy (numbers fields (b ∷ l))
+unfoldable pub headOf : (Record → List ℕ) → Bool → List ℕ → Head
+headOf f flat [] = none
+headOf f flat (b ∷ l) = headBy f (heldAs flat (numbers fields (b ∷ l)))
 
--- the lines in order; a record takes a byte at least, so as many turns as bytes are enough
-unfoldable pub lines : ℕ → Head → List ℕ
-lines zero h = []
-lines (suc k) none = []
-lines (suc k) (last t) = t
-lines (suc k) (first t l) = t ++ lines k (headOf l)
+-- the texts in order; a record takes a byte at least, so as many turns as bytes are enough
+unfoldable pub texts : (Record → List ℕ) → Bool → ℕ → Head → List ℕ
+texts f flat zero h = []
+texts f flat (suc k) none = []
+texts f flat (suc k) (last t) = t
+texts f flat (suc k) (first t l) = t ++ texts f flat k (headOf f flat l)
 
 -- is the sheet no longer than the longest
-unfoldable pub printedIf : Bool → List ℕ → List ℕ
-printedIf true s = lines (length s) (headOf s)
-printedIf false s = refusalLine longSheet
+unfoldable pub printedIf : Bool → (Record → List ℕ) → Bool → List ℕ → List ℕ
+printedIf true f flat s = texts f flat (length s) (headOf f flat s)
+printedIf false f flat s = refusalLine longSheet
 
-unfoldable pub printed : List ℕ → List ℕ
-printed s = printedIf (leb (length s) mostBytes) s
+unfoldable pub printedBy : (Record → List ℕ) → Bool → List ℕ → List ℕ
+printedBy f flat s = printedIf (leb (length s) mostBytes) f flat s
+
+-- the lines
+abbrev pub printed : List ℕ → List ℕ
+printed s = printedBy recordLine false s

@@ -8,6 +8,7 @@ mod text;
 
 pub use fill::FillAnswer;
 pub use fill::fill_lines;
+pub use fill::fill_texts;
 pub use horizon::next_plan;
 pub use ladder::next_ladder;
 pub use ladders::LadderAnswer;
@@ -24,3 +25,4 @@ pub use record::SaveAnswer;
 pub use record::config_of;
 pub use record::read_record;
 pub use record::save_record;
+pub use text::Kind;

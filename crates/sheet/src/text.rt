@@ -4,7 +4,8 @@ ghost use Prim.Native.Nat.{_≤_};
 ghost use lib.ListN.{length};
 ghost use Rattle.lines.specs.Lines.{leastRoom, hasRoom, wrote, textLeft};
 ghost use Rattle.sheet.specs.Sheet.{answered, left};
-ghost use Rattle.sheet.specs.Inner.{isFlat, recordText, textAt, steppedBy};
+ghost use Rattle.sheet.specs.Kinds.{isFlat};
+ghost use Rattle.sheet.specs.Inner.{recordText, textIn, steppedBy};
 use crate::horizon::write_record_plan;
 use crate::ladder::write_record_ladder;
 use crate::line::LineAnswer;
@@ -20,7 +21,7 @@ use record::RecordAnswer;
 use record::read_as;
 
 // The kinds of text.
-pub(crate) enum Kind {
+pub enum Kind {
     Line,
     Ladder,
     Plan,
@@ -63,8 +64,8 @@ fn stepped(written: LineWritten, next: usize) -> LineAnswer
 // Writes what stands for the record at a place of a sheet, a text of some kind: refused by 8 and 21,
 // which leaves the buffer as it is.
 pub(crate) fn next_text(sheet: &[u8], at: usize, out: &mut [u8], kind: Kind) -> LineAnswer
-    ensures { λ r. ⌜ r ≡ answered (hasRoom (now (out .entry))) (textAt kind (length (now (out .entry))) (now (sheet .entry)) at) ⌝ }
-    ensures { λ _. ⌜ now (out .exit) ≡ left (hasRoom (now (out .entry))) (textAt kind (length (now (out .entry))) (now (sheet .entry)) at) (now (out .entry)) ⌝ }
+    ensures { λ r. ⌜ r ≡ answered (hasRoom (now (out .entry))) (textIn kind (length (now (out .entry))) (now (sheet .entry)) at) ⌝ }
+    ensures { λ _. ⌜ now (out .exit) ≡ left (hasRoom (now (out .entry))) (textIn kind (length (now (out .entry))) (now (sheet .entry)) at) (now (out .entry)) ⌝ }
 {
     if out.len() < LEAST_ROOM {
         return LineAnswer::Refused(SMALL_BUFFER);

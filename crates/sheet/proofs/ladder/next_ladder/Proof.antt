@@ -4,7 +4,7 @@ use denote.Ref.{now}
 use borrow.Author.Needs.{needs}
 use Rattle.sheet.specs.Sheet.{Step, answered, left}
 use Rattle.lines.specs.Lines.{hasRoom}
-use Rattle.sheet.proofs.TextKinds.{as-ladder}
+use Rattle.sheet.proofs.Texts.{as-ladder}
 use Rattle.sheet.proofs.ladder.next_ladder.Statement.{statement}
 use Rattle.sheet.proofs.ladder.next_ladder.Tie as tie
 

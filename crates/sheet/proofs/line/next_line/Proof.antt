@@ -4,7 +4,7 @@ use denote.Ref.{now}
 use borrow.Author.Needs.{needs}
 use Rattle.sheet.specs.Sheet.{Step, answered, left}
 use Rattle.lines.specs.Lines.{hasRoom}
-use Rattle.sheet.proofs.TextKinds.{as-line}
+use Rattle.sheet.proofs.Texts.{as-line}
 use Rattle.sheet.proofs.line.next_line.Statement.{statement}
 use Rattle.sheet.proofs.line.next_line.Tie as tie
 

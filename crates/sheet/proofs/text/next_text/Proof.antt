@@ -5,7 +5,7 @@ use denote.Ref.{now}
 use Rattle.lines.specs.Lines.{refusalLine}
 use Rattle.sheet.specs.Refusals.{longSheet}
 use Rattle.sheet.specs.Sheet.{stepOf}
-use Rattle.sheet.specs.Inner.{recordText, textAt}
+use Rattle.sheet.specs.Inner.{recordText, textIn}
 use Rattle.sheet.proofs.Steps.{step-end, step-long, step-read, no-room, no-line, one-text, one-line}
 use borrow.Author.Needs.{needs}
 use Rattle.sheet.proofs.text.next_text.Statement.{statement}
@@ -13,7 +13,7 @@ use Rattle.sheet.proofs.text.next_text.Tie as tie
 
 -- the step there, by the record that is read
 step-there : (c : tie.After-read-as) → let a = c .before .before .before .before .before .before .before .args in
-    textAt (a .kind) (length (now (a .out))) (now (a .sheet)) (a .at) ≡ stepOf (recordText (a .kind) (length (now (a .out)))) (length (now (a .sheet))) (c .read-as .result)
+    textIn (a .kind) (length (now (a .out))) (now (a .sheet)) (a .at) ≡ stepOf (recordText (a .kind) (length (now (a .out)))) (length (now (a .sheet))) (c .read-as .result)
 step-there c =
     let f = c .before in
     let e = f .before in
@@ -39,7 +39,7 @@ returns-3 c =
     let w = c .before .before .before in
     let e = w .before .before in
     let a = e .before .before .before .before .before .args in
-    let z = one-line (textAt (a .kind) (length (now (a .out))) (now (a .sheet)) (a .at)) (refusalLine longSheet) _ (now (a .out)) _ _ (e .before .before .if1 .left) (step-long _ _ _ _ (e .before .if2 .left) (e .if3 .taken)) (w .write-refusal .ensures .0) (w .write-refusal .ensures .1) in
+    let z = one-line (textIn (a .kind) (length (now (a .out))) (now (a .sheet)) (a .at)) (refusalLine longSheet) _ (now (a .out)) _ _ (e .before .before .if1 .left) (step-long _ _ _ _ (e .before .if2 .left) (e .if3 .taken)) (w .write-refusal .ensures .0) (w .write-refusal .ensures .1) in
     (c .stepped .ensures ∙ z .0, z .1)
 
 is-flat-requires : tie.Need-is-flat-requires
