@@ -2,8 +2,9 @@
 // other: the good part of a damaged sheet. Input that cannot be read, or output that cannot be written, is told on
 // standard error.
 ghost use mathlib.Core.Path.{_≡_};
-ghost use Prim.Native.Nat.{_+_, _≤_};
+ghost use Prim.Native.Nat.{_+_, _<_, _≤_};
 ghost use lib.ListN.{length, take};
+ghost use Rattle.feed.specs.Feed.{Fed};
 ghost use Rattle.record.specs.Record.{readRecord};
 ghost use Rattle.buffers.specs.Over.{over};
 ghost use Rattle.sheet.specs.Sheet.{mostBytes};
@@ -18,6 +19,9 @@ use sheet::SaveAnswer;
 
 // What is kept is no longer than the sheet, and behind it there is room for any record.
 const ROOM: usize = MOST_BYTES + RECORD_ROOM;
+
+// One byte more than the longest sheet, which tells one that is longer.
+const INPUT: usize = MOST_BYTES + 1;
 
 // The bytes that were put into the buffer, and the place where reading goes on.
 struct Kept {
@@ -77,10 +81,23 @@ fn blank() -> [u8; ROOM]
     [0; ROOM]
 }
 
+fn blank_input() -> [u8; INPUT]
+    ensures { λ r. ⌜ mostBytes + 1 ≡ length r ⌝ }
+{
+    [0; INPUT]
+}
+
+// Reads a sheet into a buffer that tells one that is too long.
+fn read(input: &mut [u8]) -> Feed
+    requires { ⌜ mostBytes < length (now input) ⌝ }
+    ensures { λ r. ⌜ Fed (length (now (input .entry))) r ⌝ }
+{
+    feed::read_sheet(input)
+}
+
 fn main() {
-    // One byte more than the longest sheet tells one that is longer.
-    let mut input = [0u8; MOST_BYTES + 1];
-    match feed::read_sheet(&mut input) {
+    let mut input = blank_input();
+    match read(&mut input) {
         Feed::Bytes(n) => {
             if !write_kept(first(&input, n)) {
                 os::fail(b"resave: standard output");
