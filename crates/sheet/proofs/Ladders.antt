@@ -10,7 +10,6 @@ use borrow.Author.Tests.{leb-true, leb-false, ne-eqb}
 use lib.IntN.{ℤ}
 use lib.ListN.{length}
 use lib.Dec.{leb, eqb, lit<}
-use Rattle.amounts.specs.Refusals.{limits}
 use Rattle.model.specs.Model.{checkCall}
 use Rattle.model.specs.declared.GLFTConfig.{GLFTConfig}
 use Rattle.elementary.specs.declared.Check.{Check}

@@ -1,5 +1,5 @@
 -- `sheet::fill::fill_texts` meets its contract. The loop's invariant: the bytes passed are the texts so far. The measure is what is left of the sheet, which each text makes less. Assumes nothing.
-use mathlib.Core.Path.{_≡_, sym, _∙_}
+use mathlib.Core.Path.{sym, _∙_}
 use Prim.Native.Nat.{_+_, _-_, _<_, _≤_}
 use native.Mathlib.Omega.{arith}
 use lib.ListN.{length}
