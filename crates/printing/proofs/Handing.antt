@@ -16,7 +16,10 @@ use Rattle.sheet.specs.declared.fill.FillAnswer.the-variants.{Filled}
 use Rattle.sheet.proofs.Texts.{room-most}
 use Rattle.sheet.proofs.Whole.{steps-make-the-whole, printed-bounded}
 use Rattle.sheet.proofs.Fills.{fill-first, nothing-left}
-use Rattle.printing.specs.Printing.{Next, Counted, OfSomeSheet}
+use Rattle.printing.specs.Printing.{Next, HandedOn, Counted, OfSomeSheet}
+use Rattle.printing.specs.declared.output.Done.{Done}
+use Rattle.printing.specs.declared.output.Handed.{Handed}
+use Rattle.printing.specs.declared.output.Handed.the-variants.{On, Failed}
 use Rattle.printing.specs.declared.Printed.{Printed}
 use Rattle.printing.specs.declared.Printed.the-variants.{All, NotRead, NotWritten}
 
@@ -27,28 +30,27 @@ next-most k s done t h =
     let some = ap length (h .1) ∙ length-take (length t) (drop done all) in
     omega (arith, h .0, some, min-le-right (length t) (length (drop done all)), length-drop done all, printed-bounded k s, mul-le-mul-left mostBytes (room-most k))
 
--- how many, from what was answered
-pub counted : (m n : ℕ) (r : Printed) → r ≡ All n → Counted m r → n ≡ m
-unfolding Counted
-counted m n (All k) e h = let z : k ≡ n = cc in sym z ∙ h
-counted m n NotRead e h = absurd h
-counted m n NotWritten e h = let z : _≡_ {A = ℕ} 0 1 = cc in absurd (omega arith)
+-- how many are done, from what was answered
+pub handed-on : (m : ℕ) (d : Done) (r : Handed) → r ≡ On d → HandedOn m r → d .count ≡ m
+unfolding HandedOn
+handed-on m d (On x) e h = let z : x ≡ d = cc in ap (λ (y : Done). y .count) (sym z) ∙ h
+handed-on m d Failed e h = let z : _≡_ {A = ℕ} 0 1 = cc in absurd (omega arith)
 
 -- ---- so many bytes are handed on, and what is left of all follows from a place on
-pub record Handed (k : Kind) (s : List ℕ) (at done : ℕ) : Type 0 where
+pub record Handing (k : Kind) (s : List ℕ) (at done : ℕ) : Type 0 where
   pub within : done ≤ length (printedAs k s)
   pub left : Followed k s at (drop done (printedAs k s))
 
-pub handed-none : (k : Kind) (s : List ℕ) → Handed k s 0 0
-handed-none k s = record { within = omega arith; left = steps-make-the-whole k s }
+pub handing-none : (k : Kind) (s : List ℕ) → Handing k s 0 0
+handing-none k s = record { within = omega arith; left = steps-make-the-whole k s }
 
-module _ (k : Kind) (s : List ℕ) (at done : ℕ) (h : Handed k s at done) where
+module _ (k : Kind) (s : List ℕ) (at done : ℕ) (h : Handing k s at done) where
   abbrev all : List ℕ
   all = printedAs k s
 
   -- the texts of a fill come next
-  pub handed-next : (b text : List ℕ) (n next : ℕ) → filledAs k s at b ≡ Filled n next → text ≡ take n (leftAs k s at b) → Next k s done text × Handed k s next (done + length text)
-  handed-next b text n next e t =
+  pub handing-next : (b text : List ℕ) (n next : ℕ) → filledAs k s at b ≡ Filled n next → text ≡ take n (leftAs k s at b) → Next k s done text × Handing k s next (done + length text)
+  handing-next b text n next e t =
       let f = fill-first k s at b n next (drop done all) e (h .left) in
       let u = f .0 in
       let v : drop done all ≡ text ++ u = f .1 ∙ ap (λ (x : List ℕ). x ++ u) (sym t) in
@@ -59,8 +61,8 @@ module _ (k : Kind) (s : List ℕ) (at done : ℕ) (h : Handed k s at done) wher
       )
 
   -- from the end of the sheet on, all is handed on
-  pub handed-all : length s ≤ at → done ≡ length all
-  handed-all g =
+  pub handing-all : length s ≤ at → done ≡ length all
+  handing-all g =
       let z = ap length (nothing-left k s at (drop done all) g (h .left)) in
       omega (arith, h .within, length-drop done all, z)
 

@@ -6,12 +6,19 @@ use lib.ListN.{length, take, drop}
 use Rattle.sheet.specs.Sheet.{mostBytes}
 use Rattle.sheet.specs.Kinds.{printedAs}
 use Rattle.sheet.specs.declared.text.Kind.{Kind}
+use Rattle.printing.specs.declared.output.Handed.{Handed}
+use Rattle.printing.specs.declared.output.Handed.the-variants.{On, Failed}
 use Rattle.printing.specs.declared.Printed.{Printed}
 use Rattle.printing.specs.declared.Printed.the-variants.{All, NotRead, NotWritten}
 
 -- a text is what comes next of all that is printed for a sheet, after so many bytes
 abbrev pub Next : Kind → List ℕ → ℕ → List ℕ → Type 0
 Next k s done t = (done ≤ length (printedAs k s)) × (t ≡ take (length t) (drop done (printedAs k s)))
+
+-- so many bytes are done then, or a write failed
+unfoldable pub HandedOn : ℕ → Handed → Type 0
+HandedOn n (On d) = d .count ≡ n
+HandedOn n Failed = Unit {0}
 
 -- so many bytes, or a write that failed
 unfoldable pub Counted : ℕ → Printed → Type 0

@@ -1,4 +1,6 @@
 // Prints a text for each record of a sheet: the one loop of the operators' programs that do so.
+mod output;
+
 ghost use mathlib.Core.Path.{_≡_};
 ghost use Prim.Native.Nat.{_+_, _<_, _≤_};
 ghost use lib.ListN.{length};
@@ -7,9 +9,13 @@ ghost use Rattle.sheet.specs.Sheet.{mostBytes};
 ghost use Rattle.sheet.specs.Kinds.{roomOf, printedAs};
 ghost use Rattle.sheet.specs.Fill.{filledAs, leftAs};
 ghost use Rattle.sheet.specs.declared.fill.FillAnswer.the-variants.{Filled};
-ghost use Rattle.printing.specs.Printing.{Next, Counted, OfSomeSheet};
+ghost use Rattle.printing.specs.Printing.{Counted, OfSomeSheet};
 use feed::Feed;
 use feed::first;
+use output::Handed;
+use output::count_of;
+use output::hand_on;
+use output::none_done;
 use sheet::FillAnswer;
 use sheet::Kind;
 
@@ -41,34 +47,22 @@ fn fill(s: &[u8], at: usize, out: &mut [u8], kind: Kind) -> Texts
     }
 }
 
-// Writes a text, which is what comes next of all that is printed for a sheet, after the bytes that are
-// done; answers how many are done then. Nothing else writes to standard output.
-fn hand_on(s: &[u8], kind: Kind, done: usize, text: &[u8]) -> Printed
-    requires { ⌜ Next kind (now s) done (now text) ⌝ }
-    ensures { λ r. ⌜ Counted (done + length (now (text .entry))) r ⌝ }
-{
-    if !io::write_all(libc::STDOUT_FILENO, text) {
-        return Printed::NotWritten;
-    }
-    Printed::All(done + text.len())
-}
-
 // Writes what is printed for a sheet, many texts with one call.
 pub fn print_texts(s: &[u8], kind: Kind) -> Printed
     ensures { λ r. ⌜ Counted (length (printedAs kind (now (s .entry)))) r ⌝ }
 {
     let mut out = io::large_buffer();
     let mut at: usize = 0;
-    let mut done: usize = 0;
+    let mut done = none_done();
     while at < s.len() {
         let texts = fill(s, at, &mut out, kind);
-        let Printed::All(n) = hand_on(s, kind, done, first(&out, texts.count)) else {
+        let Handed::On(more) = hand_on(s, kind, done, first(&out, texts.count)) else {
             return Printed::NotWritten;
         };
-        done = n;
+        done = more;
         at = texts.next;
     }
-    Printed::All(done)
+    Printed::All(count_of(done))
 }
 
 fn blank() -> [u8; ROOM]
