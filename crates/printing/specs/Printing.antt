@@ -15,12 +15,12 @@ use Rattle.printing.specs.declared.Printed.the-variants.{All, NotRead, N
 abbrev pub Next : Kind → List ℕ → ℕ → List ℕ → Type 0
 Next k s done t = (done ≤ length (printedAs k s)) × (t ≡ take (length t) (drop done (printedAs k s)))
 
--- so many bytes are done then, or a write failed
+-- so many bytes are done then, or the answer that a write failed
 unfoldable pub HandedOn : ℕ → Handed → Type 0
 HandedOn n (On d) = d .count ≡ n
 HandedOn n Failed = Unit {0}
 
--- so many bytes, or a write that failed
+-- so many bytes, or the answer that a write failed
 unfoldable pub Counted : ℕ → Printed → Type 0
 Counted n (All m) = m ≡ n
 Counted n NotRead = ⊥

@@ -4,7 +4,7 @@ use printing::Printed;
 use sheet::Kind;
 
 // This and `run` are functions of their own for speed alone: here the compiler learns the kind and drops the code of the
-// others, and in `run` it joins what has one caller left. With both in `main` a record takes 0.9 µs more.
+// others, and in `run` it joins what has one caller left. With both in `main` a record with time left takes 0.9 µs more.
 fn print_lines() -> Printed {
     printing::print_sheet(Kind::Line)
 }
