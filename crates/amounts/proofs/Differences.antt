@@ -11,15 +11,15 @@ under (pos n) = 0
 under (negsuc n) = suc n
 
 -- ---- the opposite
-pub over-neg : (z : ℤ) → over (neg_ℤ z) ≡ under z
-over-neg (pos zero) = refl
-over-neg (pos (suc n)) = refl
-over-neg (negsuc n) = refl
+pub over_neg : (z : ℤ) → over (neg_ℤ z) ≡ under z
+over_neg (pos zero) = refl
+over_neg (pos (suc n)) = refl
+over_neg (negsuc n) = refl
 
-pub under-neg : (z : ℤ) → under (neg_ℤ z) ≡ over z
-under-neg (pos zero) = refl
-under-neg (pos (suc n)) = refl
-under-neg (negsuc n) = refl
+pub under_neg : (z : ℤ) → under (neg_ℤ z) ≡ over z
+under_neg (pos zero) = refl
+under_neg (pos (suc n)) = refl
+under_neg (negsuc n) = refl
 
 -- ---- a sum
 gap : (a b : ℕ) (t : Bool) → ltb a (suc b) ≡ t
@@ -34,13 +34,13 @@ add_parts (negsuc a) (pos b) = omega (arith, gap b a (ltb b (suc a)) refl)
 add_parts (negsuc a) (negsuc b) = omega arith
 
 -- ---- a multiple
-pub over-times : (z : ℤ) (d : ℕ) → over (z *ℤ pos d) ≡ over z * d
-over-times (pos n) d = refl
-over-times (negsuc n) d = over-neg (pos (suc n * d)) ∙ omega arith
+pub over_times : (z : ℤ) (d : ℕ) → over (z *ℤ pos d) ≡ over z * d
+over_times (pos n) d = refl
+over_times (negsuc n) d = over_neg (pos (suc n * d)) ∙ omega arith
 
-pub under-times : (z : ℤ) (d : ℕ) → under (z *ℤ pos d) ≡ under z * d
-under-times (pos n) d = omega arith
-under-times (negsuc n) d = under-neg (pos (suc n * d))
+pub under_times : (z : ℤ) (d : ℕ) → under (z *ℤ pos d) ≡ under z * d
+under_times (pos n) d = omega arith
+under_times (negsuc n) d = under_neg (pos (suc n * d))
 
 -- ---- the order
 pub le_parts : (a b : ℤ) → a ≤ℤ b → over a + under b ≤ over b + under a
@@ -49,11 +49,11 @@ le_parts (pos a) (negsuc b) h = absurd h.le
 le_parts (negsuc a) (pos b) h = omega arith
 le_parts (negsuc a) (negsuc b) h = omega (arith, leb→le b a h.le)
 
-pub parts-le : (a b : ℤ) → over a + under b ≤ over b + under a → a ≤ℤ b
-parts-le (pos a) (pos b) h = record { le = le→leb a b (omega arith) }
-parts-le (pos a) (negsuc b) h = absurd (omega arith)
-parts-le (negsuc a) (pos b) h = record { le = tt }
-parts-le (negsuc a) (negsuc b) h = record { le = le→leb b a (omega arith) }
+pub parts_le : (a b : ℤ) → over a + under b ≤ over b + under a → a ≤ℤ b
+parts_le (pos a) (pos b) h = record { le = le→leb a b (omega arith) }
+parts_le (pos a) (negsuc b) h = absurd (omega arith)
+parts_le (negsuc a) (pos b) h = record { le = tt }
+parts_le (negsuc a) (negsuc b) h = record { le = le→leb b a (omega arith) }
 
 pub le_antisym : (a b : ℤ) → a ≤ℤ b → b ≤ℤ a → a ≡ b
 le_antisym (pos a) (pos b) h g = ap pos (omega (arith, le_parts (pos a) (pos b) h, le_parts (pos b) (pos a) g))

@@ -22,31 +22,31 @@ zero_bits (pos n) h = refl
 zero_bits (negsuc n) h = rw (ne_eqb (of_z w64 (negsuc n)) 0 (λ e. omega arith), ne_eqb (suc n) 0 (λ e. omega arith))
 
 -- ---- the code's whole numbers
-pub billion-is : of_bits binary64 4741671816366391296 ≡ whole (pos 1_000_000_000)
+pub billion_is : of_bits binary64 4741671816366391296 ≡ whole (pos 1_000_000_000)
 unfolding of_bits of_int
-billion-is = refl
+billion_is = refl
 
-pub thousand-is : of_bits binary64 4652007308841189376 ≡ whole (pos 1000)
+pub thousand_is : of_bits binary64 4652007308841189376 ≡ whole (pos 1000)
 unfolding of_bits of_int
-thousand-is = refl
+thousand_is = refl
 
-pub year-is : of_bits binary64 4719230590769954816 ≡ whole (pos 31_536_000)
+pub year_is : of_bits binary64 4719230590769954816 ≡ whole (pos 31_536_000)
 unfolding of_bits of_int
-year-is = refl
+year_is = refl
 
 -- ---- a quotient by a number above zero is no larger
-mag-negated : (r n : ℕ) → r ≤ suc n → mag (neg_ℤ (pos r)) ≤ n
-mag-negated zero n h = omega arith
-mag-negated (suc r) n h = omega arith
+mag_negated : (r n : ℕ) → r ≤ suc n → mag (neg_ℤ (pos r)) ≤ n
+mag_negated zero n h = omega arith
+mag_negated (suc r) n h = omega arith
 
-mag-quot : (h d : ℤ) → T (above0 d) → mag (quot_z h d) ≤ mag h
+mag_quot : (h d : ℤ) → T (above0 d) → mag (quot_z h d) ≤ mag h
 unfolding above0
-mag-quot (pos n) (pos d) k = div-le_self n d
-mag-quot (negsuc n) (pos d) k = mag-negated (suc n / d) n (div-le_self (suc n) d)
-mag-quot h (negsuc d) k = absurd k
+mag_quot (pos n) (pos d) k = div-le_self n d
+mag_quot (negsuc n) (pos d) k = mag_negated (suc n / d) n (div-le_self (suc n) d)
+mag_quot h (negsuc d) k = absurd k
 
 pub quot_fits : (h d : ℤ) → SFits w64 h → T (above0 d) → SFits w64 (quot_z h d)
-quot_fits h d f k = record { sfits = lt_of_le_of_lt (mag-quot h d k) f.sfits }
+quot_fits h d f k = record { sfits = lt_of_le_of_lt (mag_quot h d k) f.sfits }
 
 -- so that the code may divide by it
 pub divides : (h d : ℤ) → SFits w64 h → mag d < 2 ^ 63 → T (above0 d) → (0 < of_z w64 d) × SFits w64 (quot_z (to_z w64 (of_z w64 h)) (to_z w64 (of_z w64 d)))

@@ -6,27 +6,27 @@ use Rattle.elementary.specs.Float.{◌⊘◌, whole}
 abbrev pub billion : ℕ
 billion = 1_000_000_000
 
-abbrev pub amountLimit : ℕ
-amountLimit = 9_000_000_000_000_000
+abbrev pub amount_limit : ℕ
+amount_limit = 9_000_000_000_000_000
 
 -- milliseconds
-abbrev pub timeLimit : ℕ
-timeLimit = 9_000_000_000_000_000
+abbrev pub time_limit : ℕ
+time_limit = 9_000_000_000_000_000
 
-unfoldable pub amountOk : ℤ → Bool
-amountOk z = nat_le (unsigned_abs z) amountLimit
+unfoldable pub amount_ok : ℤ → Bool
+amount_ok z = nat_le (unsigned_abs z) amount_limit
 
-unfoldable pub timeOk : ℕ → Bool
-timeOk t = nat_le t timeLimit
+unfoldable pub time_ok : ℕ → Bool
+time_ok t = nat_le t time_limit
 
 unfoldable pub above0 : ℤ → Bool
 above0 z = int_lt (pos 0) z
 
 -- an amount as a float: the count, exact, divided by 10 ^ 9
-unfoldable pub toFloat : ℤ → Float
-toFloat z = whole z ⊘ whole (pos billion)
+unfoldable pub to_float : ℤ → Float
+to_float z = whole z ⊘ whole (pos billion)
 
 -- ---- times: milliseconds
 -- seconds to the end, none after it
-unfoldable pub tauOf : ℕ → ℕ → Float
-tauOf terminal current = whole (pos (terminal - current)) ⊘ whole (pos 1000)
+unfoldable pub tau_of : ℕ → ℕ → Float
+tau_of terminal current = whole (pos (terminal - current)) ⊘ whole (pos 1000)

@@ -3,16 +3,16 @@ use Rattle.std.specs.Prelude.{ℕ, ◌*◌, Bool, true, ℤ, Float}
 use Rattle.std.specs.Float.{nan, inf, fin}
 use Rattle.std.specs.Float.Ieee.{up, down}
 use Rattle.elementary.specs.WholeUp.{next}
-use Rattle.amounts.specs.Amounts.{billion, amountOk}
-use Rattle.amounts.specs.Rounding.{countIf}
+use Rattle.amounts.specs.Amounts.{billion, amount_ok}
+use Rattle.amounts.specs.Rounding.{count_if}
 use Rattle.amounts.specs.declared.rounding.Billionths.{Billionths}
 
 -- a number's billionths in size: cut, or rounded up
-unfoldable pub sizeBy : Bool → Float → ℕ
-sizeBy t nan = 0
-sizeBy t (inf s) = 0
-sizeBy t (fin s m e) = next t (m * up e * billion) (down e)
+unfoldable pub size_by : Bool → Float → ℕ
+size_by t nan = 0
+size_by t (inf s) = 0
+size_by t (fin s m e) = next t (m * up e * billion) (down e)
 
 -- a count, where it is within the limit, or 13
 unfoldable pub count_of : ℤ → Billionths
-count_of z = countIf true (amountOk z) z
+count_of z = count_if true (amount_ok z) z

@@ -5,7 +5,7 @@ use Rattle.std.specs.Float.Ieee.{up, down}
 use Rattle.elementary.specs.Float.{finite}
 use Rattle.series.specs.Refusals.{numerical}
 use Rattle.amounts.specs.Refusals.{beyond}
-use Rattle.amounts.specs.Amounts.{billion, amountOk}
+use Rattle.amounts.specs.Amounts.{billion, amount_ok}
 use Rattle.amounts.specs.declared.rounding.Billionths.{Billionths}
 use Rattle.amounts.specs.declared.rounding.Billionths.TheVariants.{Count, Refused}
 
@@ -17,13 +17,13 @@ billionths (fin false m e) = pos ((m * up e * billion + (down e - 1)) / down e)
 billionths (fin true m e) = neg_ℤ (pos (m * up e * billion / down e))
 
 -- ---- the entry: is the distance finite, or 11; is its count within the limit, or 13
-unfoldable pub countIf : Bool → Bool → ℤ → Billionths
-countIf false w z = Refused numerical
-countIf true false z = Refused beyond
-countIf true true z = Count z
+unfoldable pub count_if : Bool → Bool → ℤ → Billionths
+count_if false w z = Refused numerical
+count_if true false z = Refused beyond
+count_if true true z = Count z
 
-unfoldable pub toBillionths : Float → Billionths
-toBillionths d = countIf (finite d) (amountOk (billionths d)) (billionths d)
+unfoldable pub to_billionths : Float → Billionths
+to_billionths d = count_if (finite d) (amount_ok (billionths d)) (billionths d)
 
 -- ==== statements
 -- ±m × 2 ^ e is so many billionths over down e, exactly
@@ -48,4 +48,4 @@ WholeStays = (s : Bool) (m : ℕ) (e z : ℤ) → exactly s m e ≡ z *ℤ pos (
 -- 11 just where the distance is not finite, 13 just where it is and its count is beyond the limit
 abbrev pub CountRefusals : Type 0
 CountRefusals = (d : Float) (n : ℕ)
-    → (toBillionths d ≡ Refused n) ↔ (((n ≡ numerical) × (finite d ≡ false)) ⊎ ((n ≡ beyond) × (finite d ≡ true) × (amountOk (billionths d) ≡ false)))
+    → (to_billionths d ≡ Refused n) ↔ (((n ≡ numerical) × (finite d ≡ false)) ⊎ ((n ≡ beyond) × (finite d ≡ true) × (amount_ok (billionths d) ≡ false)))

@@ -4,7 +4,7 @@ pub mod refusals;
 mod rounding;
 
 ghost use Rattle.std.specs.Prelude.{◌≡◌, unsigned_abs};
-ghost use Rattle.amounts.specs.Amounts.{amountOk, timeOk, above0, toFloat, tauOf};
+ghost use Rattle.amounts.specs.Amounts.{amount_ok, time_ok, above0, to_float, tau_of};
 
 pub use rounding::{Billionths, to_billionths};
 
@@ -23,14 +23,14 @@ const MILLISECONDS_PER_SECOND: f64 = 1000.0;
 
 // Whether an amount is within the limit.
 pub fn amount_fits(x: i64) -> bool
-    ensures { result ≡ amountOk x }
+    ensures { result ≡ amount_ok x }
 {
     (0 - MAX_AMOUNT <= x) & (x <= MAX_AMOUNT)
 }
 
 // Whether a time is within the limit.
 pub fn time_fits(t: u64) -> bool
-    ensures { result ≡ timeOk t }
+    ensures { result ≡ time_ok t }
 {
     t <= MAX_TIME
 }
@@ -53,14 +53,14 @@ pub fn size_of(x: i64) -> u64
 
 // An amount as a float.
 pub fn to_f64(x: i64) -> f64
-    ensures { result ≡ toFloat x }
+    ensures { result ≡ to_float x }
 {
     std::num::nearest_i64_to_f64(x) / PER_UNIT
 }
 
 // The seconds to the end, zero after it.
 pub fn seconds_to_terminal(terminal: u64, current: u64) -> f64
-    ensures { result ≡ tauOf terminal current }
+    ensures { result ≡ tau_of terminal current }
 {
     let mut left: u64 = 0;
     if current < terminal {

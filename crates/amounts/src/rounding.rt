@@ -5,8 +5,8 @@ ghost use Rattle.std.specs.Float.Ieee.{neg, lt};
 ghost use Rattle.elementary.specs.Float.{positive, hex};
 ghost use Rattle.elementary.specs.WholeUp.{next};
 ghost use Rattle.amounts.specs.Amounts.{billion};
-ghost use Rattle.amounts.specs.Rounding.{billionths, toBillionths};
-ghost use Rattle.amounts.specs.Inner.{sizeBy, count_of};
+ghost use Rattle.amounts.specs.Rounding.{billionths, to_billionths};
+ghost use Rattle.amounts.specs.Inner.{size_by, count_of};
 
 use crate::{BILLION, MAX_AMOUNT, refusals};
 
@@ -71,7 +71,7 @@ fn divided(p: Wide, unit: u64, cut: bool) -> u64
 fn counted(x: f64, cut: bool) -> u64
     requires t { T (positive x) }
     requires hex_value { (lt x (hex 0x3E10000000000000) ≡ false) × (lt x (hex 0x41D0000000000000) ≡ true) }
-    ensures { result ≡ sizeBy cut x }
+    ensures { result ≡ size_by cut x }
 {
     let bits: u64 = f64::to_bits(x);
     let field = bits / HIDDEN;
@@ -86,7 +86,7 @@ fn counted(x: f64, cut: bool) -> u64
 // limit.
 fn sized(x: f64, cut: bool) -> Billionths
     requires { T (positive x) }
-    ensures { result ≡ count_of (pos (sizeBy cut x)) }
+    ensures { result ≡ count_of (pos (size_by cut x)) }
 {
     if x < LEAST {
         if cut {
@@ -130,7 +130,7 @@ fn count_of(d: f64) -> Billionths
 // The count of a distance: refused by 11 where it is not finite, by 13 where the count is beyond the
 // limit.
 pub fn to_billionths(d: f64) -> Billionths
-    ensures { result ≡ toBillionths d }
+    ensures { result ≡ to_billionths d }
 {
     if elementary::is_finite(d) {
         return count_of(d);

@@ -17,19 +17,19 @@ length_over t l h = simp (length-append, length-drop) (omega arith)
 -- ---- a buffer that came as l and has the text t at its start, up to a place
 pub record Wrote (l t out : List ℕ) (at : ℕ) : Type 0 where
   pub is : out ≡ over t l
-  pub up-to : at ≡ length t
+  pub up_to_lem : at ≡ length t
 
-pub wrote-length : (l t out : List ℕ) (at : ℕ) → Wrote l t out at → at ≤ length l → length out ≡ length l
-wrote-length l t out at w h = ap length w.is ∙ length_over t l (rw w.up-to at h)
+pub wrote_length : (l t out : List ℕ) (at : ℕ) → Wrote l t out at → at ≤ length l → length out ≡ length l
+wrote_length l t out at w h = ap length w.is ∙ length_over t l (rw w.up_to_lem at h)
 
 pub wrote_none : (l : List ℕ) → Wrote l [] l 0
 unfolding over
-wrote_none l = record { is = refl; up-to = refl }
+wrote_none l = record { is = refl; up_to_lem = refl }
 
 -- a byte after the text
-pub wrote-byte : (l t out : List ℕ) (at x : ℕ) → Wrote l t out at → at < length l → Wrote l (t ++ (x ∷ [])) (set out at x) (at + 1)
+pub wrote_byte : (l t out : List ℕ) (at x : ℕ) → Wrote l t out at → at < length l → Wrote l (t ++ (x ∷ [])) (set out at x) (at + 1)
 unfolding over
-wrote-byte l t out at x w h = record { is = rw (w.is, w.up-to) (byte t (rw w.up-to at h)); up-to = rw w.up-to (sym (more t)) }
+wrote_byte l t out at x w h = record { is = rw (w.is, w.up_to_lem) (byte t (rw w.up_to_lem at h)); up_to_lem = rw w.up_to_lem (sym (more t)) }
   where
     more : (t : List ℕ) → length (t ++ (x ∷ [])) ≡ length t + 1
     more t = length-append t (x ∷ [])
@@ -40,27 +40,27 @@ wrote-byte l t out at x w h = record { is = rw (w.is, w.up-to) (byte t (rw w.up-
         (set_at t (get_or l (length t) 0) (drop (suc (length t)) l) x (length t) refl ∙ sym (append_snoc t x (drop (suc (length t)) l)))
 
 -- a text after the text: over the part of the buffer that starts where the last one ended
-part-all : (out : List ℕ) (at : ℕ) → mid_of at (length out - at) out ≡ drop at out
-part-all out at = take_all (length out - at) (drop at out) (le_of_eq (length-drop at out))
+part_all : (out : List ℕ) (at : ℕ) → mid_of at (length out - at) out ≡ drop at out
+part_all out at = take_all (length out - at) (drop at out) (le_of_eq (length-drop at out))
 
 pub part_room : (l t out : List ℕ) (at n : ℕ) → Wrote l t out at → at + n ≤ length l → n ≤ length (mid_of at (length out - at) out)
-part_room l t out at n w h = rw (part-all out at, length-drop at out, wrote-length l t out at w (omega arith)) (omega arith)
+part_room l t out at n w h = rw (part_all out at, length-drop at out, wrote_length l t out at w (omega arith)) (omega arith)
 
-pub wrote-part : (l t u out part : List ℕ) (at n : ℕ) → Wrote l t out at → part ≡ over u (mid_of at (length out - at) out) → n ≡ length u
+pub wrote_part : (l t u out part : List ℕ) (at n : ℕ) → Wrote l t out at → part ≡ over u (mid_of at (length out - at) out) → n ≡ length u
     → Wrote l (t ++ u) (put_mid at (length out - at) out part) (at + n)
 unfolding over
-wrote-part l t u out part at n w e k =
+wrote_part l t u out part at n w e k =
     record {
       is =
-          rw (e, part-all out at, drop_of_length-le (drop at out) (le_of_eq (length-drop at out)), append-nil, w.is, w.up-to)
+          rw (e, part_all out at, drop_of_length-le (drop at out) (le_of_eq (length-drop at out)), append-nil, w.is, w.up_to_lem)
           (rw (take_at t (drop (length t) l) (length t) refl, drop_at t (drop (length t) l) (length t) refl, length-append t u, drop-drop (length u) (length t) l)
           (sym (append_assoc t u (drop (length t + length u) l))));
-      up-to = rw (w.up-to, k) (sym (length-append t u));
+      up_to_lem = rw (w.up_to_lem, k) (sym (length-append t u));
     }
 
 pub lent_length : (l t u out part : List ℕ) (at n : ℕ) → Wrote l t out at → part ≡ over u (mid_of at (length out - at) out) → n ≡ length u → at + n ≤ length l
     → length (put_mid at (length out - at) out part) ≡ length l
-lent_length l t u out part at n w e k h = wrote-length l (t ++ u) _ (at + n) (wrote-part l t u out part at n w e k) h
+lent_length l t u out part at n w e k h = wrote_length l (t ++ u) _ (at + n) (wrote_part l t u out part at n w e k) h
 
 pub wrote_as : (l t u out : List ℕ) (at : ℕ) → Wrote l t out at → t ≡ u → (out ≡ over u l) × (at ≡ length u)
-wrote_as l t u out at w e = (w.is ∙ ap (λ (v : List ℕ). over v l) e, w.up-to ∙ ap length e)
+wrote_as l t u out at w e = (w.is ∙ ap (λ (v : List ℕ). over v l) e, w.up_to_lem ∙ ap length e)

@@ -4,19 +4,19 @@ use Rattle.elementary.specs.Float.{◌⊕◌, ◌⊘◌, hex, whole, 0ᶠ, ½ᶠ
 use Rattle.elementary.specs.Elementary.{LN2}
 use Rattle.series.specs.Refusals.{numerical}
 use Rattle.operator.specs.Vectors.{fill}
-use Rattle.plan.specs.Plan.{Fixed, Turn, going, ended, vector, overCap, failed, cap, norm, firstTurn, fixed}
+use Rattle.plan.specs.Plan.{Fixed, Turn, going, ended, vector, over_cap, failed, cap, norm, first_turn, fixed}
 use Rattle.plan.specs.declared.RunInput.{RunInput}
-use Rattle.distances.specs.FloatEntry.{floatEntry}
+use Rattle.distances.specs.FloatEntry.{float_entry}
 use Rattle.distances.specs.declared.Distance.{Distance}
 use Rattle.distances.specs.declared.Distance.TheVariants as Distance
 use Rattle.vector.specs.declared.ValueVector.{ValueVector}
 use Rattle.distances.specs.declared.Answer.{Answer}
 use Rattle.distances.specs.declared.Answer.TheVariants as Answer
 use Rattle.distances.specs.declared.FloatAnswer.{FloatAnswer}
-use Rattle.model.specs.Model.{newModel, input_of}
-use Rattle.amounts.specs.Amounts.{tauOf, billion}
-use Rattle.model.specs.Configuration.{newConfig}
-use Rattle.quote.specs.Quotes.{exactQuotes, optimalQuotes, closedFormQuotes}
+use Rattle.model.specs.Model.{new_model, input_of}
+use Rattle.amounts.specs.Amounts.{tau_of, billion}
+use Rattle.model.specs.Configuration.{new_config}
+use Rattle.quote.specs.Quotes.{exact_quotes, optimal_quotes, closed_form_quotes}
 use Rattle.model.specs.declared.GLFTConfig.{GLFTConfig}
 use Rattle.model.specs.declared.ConfigAnswer.{ConfigAnswer}
 use Rattle.model.specs.declared.ConfigAnswer.TheVariants as ConfigAnswer
@@ -67,41 +67,41 @@ abbrev pub default : Case
 default = case (units 100) (units 0) (units 1) (units 1) (units 1) (units 1) 1 (units 1) 1000 1000 (units 0) (units 0)
 
 -- the default but for one number
-abbrev pub with-mid : ℤ → Case
-with-mid x = case x (units 0) (units 1) (units 1) (units 1) (units 1) 1 (units 1) 1000 1000 (units 0) (units 0)
+abbrev pub with_mid : ℤ → Case
+with_mid x = case x (units 0) (units 1) (units 1) (units 1) (units 1) 1 (units 1) 1000 1000 (units 0) (units 0)
 
-abbrev pub with-holding : ℤ → Case
-with-holding x = case (units 100) x (units 1) (units 1) (units 1) (units 1) 1 (units 1) 1000 1000 (units 0) (units 0)
+abbrev pub with_holding : ℤ → Case
+with_holding x = case (units 100) x (units 1) (units 1) (units 1) (units 1) 1 (units 1) 1000 1000 (units 0) (units 0)
 
-abbrev pub with-volatility : ℤ → Case
-with-volatility x = case (units 100) (units 0) x (units 1) (units 1) (units 1) 1 (units 1) 1000 1000 (units 0) (units 0)
+abbrev pub with_volatility : ℤ → Case
+with_volatility x = case (units 100) (units 0) x (units 1) (units 1) (units 1) 1 (units 1) 1000 1000 (units 0) (units 0)
 
-abbrev pub with-risk : ℤ → Case
-with-risk x = case (units 100) (units 0) (units 1) x (units 1) (units 1) 1 (units 1) 1000 1000 (units 0) (units 0)
+abbrev pub with_risk : ℤ → Case
+with_risk x = case (units 100) (units 0) (units 1) x (units 1) (units 1) 1 (units 1) 1000 1000 (units 0) (units 0)
 
-abbrev pub with-k : ℤ → Case
-with-k x = case (units 100) (units 0) (units 1) (units 1) x (units 1) 1 (units 1) 1000 1000 (units 0) (units 0)
+abbrev pub with_k : ℤ → Case
+with_k x = case (units 100) (units 0) (units 1) (units 1) x (units 1) 1 (units 1) 1000 1000 (units 0) (units 0)
 
-abbrev pub with-a : ℤ → Case
-with-a x = case (units 100) (units 0) (units 1) (units 1) (units 1) x 1 (units 1) 1000 1000 (units 0) (units 0)
+abbrev pub with_a : ℤ → Case
+with_a x = case (units 100) (units 0) (units 1) (units 1) (units 1) x 1 (units 1) 1000 1000 (units 0) (units 0)
 
 abbrev pub with_bound : ℕ → Case
 with_bound b = case (units 100) (units 0) (units 1) (units 1) (units 1) (units 1) b (units 1) 1000 1000 (units 0) (units 0)
 
-abbrev pub with-lot : ℤ → Case
-with-lot x = case (units 100) (units 0) (units 1) (units 1) (units 1) (units 1) 1 x 1000 1000 (units 0) (units 0)
+abbrev pub with_lot : ℤ → Case
+with_lot x = case (units 100) (units 0) (units 1) (units 1) (units 1) (units 1) 1 x 1000 1000 (units 0) (units 0)
 
-abbrev pub with-terminal : ℕ → Case
-with-terminal t = case (units 100) (units 0) (units 1) (units 1) (units 1) (units 1) 1 (units 1) t 1000 (units 0) (units 0)
+abbrev pub with_terminal : ℕ → Case
+with_terminal t = case (units 100) (units 0) (units 1) (units 1) (units 1) (units 1) 1 (units 1) t 1000 (units 0) (units 0)
 
-abbrev pub with-current : ℕ → Case
-with-current t = case (units 100) (units 0) (units 1) (units 1) (units 1) (units 1) 1 (units 1) 1000 t (units 0) (units 0)
+abbrev pub with_current : ℕ → Case
+with_current t = case (units 100) (units 0) (units 1) (units 1) (units 1) (units 1) 1 (units 1) 1000 t (units 0) (units 0)
 
-abbrev pub with-spread : ℤ → Case
-with-spread x = case (units 100) (units 0) (units 1) (units 1) (units 1) (units 1) 1 (units 1) 1000 1000 x (units 0)
+abbrev pub with_spread : ℤ → Case
+with_spread x = case (units 100) (units 0) (units 1) (units 1) (units 1) (units 1) 1 (units 1) 1000 1000 x (units 0)
 
-abbrev pub with-drift : ℤ → Case
-with-drift x = case (units 100) (units 0) (units 1) (units 1) (units 1) (units 1) 1 (units 1) 1000 1000 (units 0) x
+abbrev pub with_drift : ℤ → Case
+with_drift x = case (units 100) (units 0) (units 1) (units 1) (units 1) (units 1) 1 (units 1) 1000 1000 (units 0) x
 
 -- ---- questions and replies
 pub data Question : Type 0 where
@@ -124,61 +124,61 @@ pub data Reply : Type 0 where
   -- the norm, the steps and their length
   planned : Float → ℕ → Float → Reply
   -- steps needed, budget left and steps spent
-  over-cap : Float → ℕ → ℕ → Reply
+  over_the_cap : Float → ℕ → ℕ → Reply
 
-unfoldable pub ofConfig : ConfigAnswer → Reply
-ofConfig (ConfigAnswer.Config c) = passes
-ofConfig (ConfigAnswer.Refused r) = refused r
+unfoldable pub of_config : ConfigAnswer → Reply
+of_config (ConfigAnswer.Config c) = passes
+of_config (ConfigAnswer.Refused r) = refused r
 
 unfoldable pub of_model : ModelAnswer → Reply
 of_model (ModelAnswer.Model m q) = passes
 of_model (ModelAnswer.Refused r) = refused r
 
-unfoldable pub ofExact : ExactQuotes → Reply
-ofExact (ExactQuotes.Quotes q s) = quotes q.bid q.ask s
-ofExact (ExactQuotes.OverStepCap need b s) = over-cap need b s
-ofExact (ExactQuotes.Refused r) = refused r
+unfoldable pub of_exact : ExactQuotes → Reply
+of_exact (ExactQuotes.Quotes q s) = quotes q.bid q.ask s
+of_exact (ExactQuotes.OverStepCap need b s) = over_the_cap need b s
+of_exact (ExactQuotes.Refused r) = refused r
 
-unfoldable pub ofOptimal : OptimalQuotes → Reply
-ofOptimal (OptimalQuotes.Quotes q s) = quotes q.bid q.ask s
-ofOptimal (OptimalQuotes.Refused r) = refused r
+unfoldable pub of_optimal : OptimalQuotes → Reply
+of_optimal (OptimalQuotes.Quotes q s) = quotes q.bid q.ask s
+of_optimal (OptimalQuotes.Refused r) = refused r
 
 -- the closed form has no steps
-unfoldable pub ofClosed : ClosedFormQuotes → Reply
-ofClosed (ClosedFormQuotes.Quotes q) = quotes q.bid q.ask 0
-ofClosed (ClosedFormQuotes.Refused r) = refused r
+unfoldable pub of_closed : ClosedFormQuotes → Reply
+of_closed (ClosedFormQuotes.Quotes q) = quotes q.bid q.ask 0
+of_closed (ClosedFormQuotes.Refused r) = refused r
 
-unfoldable pub ofAnswer : Float → ValueVector → Answer → Reply
-ofAnswer base v (Answer.Distances b a s) = reckoned v.w v.log_offset v.n s base b a
-ofAnswer base v (Answer.OverCap need b s) = over-cap need b s
-ofAnswer base v (Answer.Refused r) = refused r
+unfoldable pub of_answer : Float → ValueVector → Answer → Reply
+of_answer base v (Answer.Distances b a s) = reckoned v.w v.log_offset v.n s base b a
+of_answer base v (Answer.OverCap need b s) = over_the_cap need b s
+of_answer base v (Answer.Refused r) = refused r
 
 unfoldable pub of_floats : Float → FloatAnswer → Reply
-of_floats base f = ofAnswer base f.vector f.answer
+of_floats base f = of_answer base f.vector f.answer
 
-unfoldable pub reckonedFrom : ModelAnswer → Float → Reply
-reckonedFrom (ModelAnswer.Model m q) tau = of_floats m.base (floatEntry m.k m.base (input_of m tau) q)
-reckonedFrom (ModelAnswer.Refused r) tau = refused r
+unfoldable pub reckoned_from : ModelAnswer → Float → Reply
+reckoned_from (ModelAnswer.Model m q) tau = of_floats m.base (float_entry m.k m.base (input_of m tau) q)
+reckoned_from (ModelAnswer.Refused r) tau = refused r
 
 -- a plan ends no run with a vector: the second clause is never met
-unfoldable pub ofTurn : Fixed → Turn → Reply
-ofTurn p (going g) = planned (norm p g.left g.right) g.steps g.dt
-ofTurn p (ended (vector w o s)) = passes
-ofTurn p (ended (overCap need b)) = over-cap need b (cap - b)
-ofTurn p (ended (failed s)) = refused numerical
+unfoldable pub of_turn : Fixed → Turn → Reply
+of_turn p (going g) = planned (norm p g.left g.right) g.steps g.dt
+of_turn p (ended (vector w o s)) = passes
+of_turn p (ended (over_cap need b)) = over_the_cap need b (cap - b)
+of_turn p (ended (failed s)) = refused numerical
 
 abbrev input : Float → Float → Float → ℕ → Float → RunInput
 input alpha beta eta bound tau = record { alpha = alpha; beta = beta; eta = eta; bound = bound; tau = tau }
 
 unfoldable pub reply : Question → Reply
-reply (config c) = ofConfig (newConfig c.config)
-reply (model c) = of_model (newModel c.mid c.holding c.config c.volatility)
-reply (exact c) = ofExact (exactQuotes c.mid c.holding c.config c.volatility c.current)
-reply (optimal c) = ofOptimal (optimalQuotes c.mid c.holding c.config c.volatility c.current)
-reply (closed c) = ofClosed (closedFormQuotes c.mid c.holding c.config c.volatility)
-reply (reckoning c) = reckonedFrom (newModel c.mid c.holding c.config c.volatility) (tauOf c.config.terminal_time c.current)
-reply (floats k alpha beta eta base bound tau q) = of_floats base (floatEntry k base (input alpha beta eta bound tau) q)
-reply (plan alpha beta eta bound tau) = let p = fixed (input alpha beta eta bound tau) in ofTurn p (firstTurn p tau)
+reply (config c) = of_config (new_config c.config)
+reply (model c) = of_model (new_model c.mid c.holding c.config c.volatility)
+reply (exact c) = of_exact (exact_quotes c.mid c.holding c.config c.volatility c.current)
+reply (optimal c) = of_optimal (optimal_quotes c.mid c.holding c.config c.volatility c.current)
+reply (closed c) = of_closed (closed_form_quotes c.mid c.holding c.config c.volatility)
+reply (reckoning c) = reckoned_from (new_model c.mid c.holding c.config c.volatility) (tau_of c.config.terminal_time c.current)
+reply (floats k alpha beta eta base bound tau q) = of_floats base (float_entry k base (input alpha beta eta bound tau) q)
+reply (plan alpha beta eta bound tau) = let p = fixed (input alpha beta eta bound tau) in of_turn p (first_turn p tau)
 
 -- ---- the table
 infix 70 ◌⇒◌
@@ -213,106 +213,106 @@ abbrev pub over : ℤ
 over = pos 9_000_000_000_000_001
 
 -- glft.rs, configuration. A holding at the limit passes this check, and is then too many lots.
-unfoldable pub configurationCases : List Row
-configurationCases =
+unfoldable pub configuration_cases : List Row
+configuration_cases =
     ask entries (with_bound 0) (refused 1)
     ++ ask checks (with_bound 200) passes
     ++ ask entries (with_bound 201) (refused 1)
-    ++ ask entries (with-terminal 0) (refused 1)
-    ++ ask entries (with-spread (neg_ℤ (pos 1))) (refused 1)
-    ++ ask calls (with-mid (units 0)) (refused 3)
-    ++ ask (model ∷ []) (with-mid most) passes
-    ++ ask (model ∷ []) (with-holding most) (refused 4)
-    ++ ask (model ∷ []) (with-volatility most) passes
-    ++ ask checks (with-risk most) passes
-    ++ ask checks (with-k most) passes
-    ++ ask checks (with-a most) passes
-    ++ ask checks (with-lot most) passes
-    ++ ask checks (with-spread most) passes
-    ++ ask calls (with-mid over) (refused 2)
-    ++ ask calls (with-holding over) (refused 2)
-    ++ ask calls (with-holding (neg_ℤ over)) (refused 2)
-    ++ ask calls (with-volatility over) (refused 2)
-    ++ ask entries (with-risk over) (refused 2)
-    ++ ask entries (with-k over) (refused 2)
-    ++ ask entries (with-a over) (refused 2)
-    ++ ask entries (with-lot over) (refused 2)
-    ++ ask entries (with-spread over) (refused 2)
+    ++ ask entries (with_terminal 0) (refused 1)
+    ++ ask entries (with_spread (neg_ℤ (pos 1))) (refused 1)
+    ++ ask calls (with_mid (units 0)) (refused 3)
+    ++ ask (model ∷ []) (with_mid most) passes
+    ++ ask (model ∷ []) (with_holding most) (refused 4)
+    ++ ask (model ∷ []) (with_volatility most) passes
+    ++ ask checks (with_risk most) passes
+    ++ ask checks (with_k most) passes
+    ++ ask checks (with_a most) passes
+    ++ ask checks (with_lot most) passes
+    ++ ask checks (with_spread most) passes
+    ++ ask calls (with_mid over) (refused 2)
+    ++ ask calls (with_holding over) (refused 2)
+    ++ ask calls (with_holding (neg_ℤ over)) (refused 2)
+    ++ ask calls (with_volatility over) (refused 2)
+    ++ ask entries (with_risk over) (refused 2)
+    ++ ask entries (with_k over) (refused 2)
+    ++ ask entries (with_a over) (refused 2)
+    ++ ask entries (with_lot over) (refused 2)
+    ++ ask entries (with_spread over) (refused 2)
 
 -- a price by its billionths, and none
 abbrev pub price : ℕ → Price
 price n = Price.At (pos n)
 
-abbrev pub no-price : Price
-no-price = Price.Absent
+abbrev pub no_price : Price
+no_price = Price.Absent
 
 -- glft.rs, holding
-unfoldable pub holdingCases : List Row
-holdingCases =
-    ask calls (with-holding (pos 1_500_000_000)) (refused 4)
-    ++ ask calls (with-holding (units 2)) (refused 4)
-    ++ ask exacts (with-holding (units 1)) (quotes no-price (price 100_693_147_181) 0)
-    ++ ask exacts (with-holding (neg_ℤ (units 1))) (quotes (price 99_306_852_819) no-price 0)
+unfoldable pub holding_cases : List Row
+holding_cases =
+    ask calls (with_holding (pos 1_500_000_000)) (refused 4)
+    ++ ask calls (with_holding (units 2)) (refused 4)
+    ++ ask exacts (with_holding (units 1)) (quotes no_price (price 100_693_147_181) 0)
+    ++ ask exacts (with_holding (neg_ℤ (units 1))) (quotes (price 99_306_852_819) no_price 0)
 
 -- n weights of 1.0 and n offsets of 0.0 in arrays of 401, and 0 steps
-abbrev pub at-end : ℕ → Float → Distance → Distance → Reply
-at-end n base bid ask = reckoned (fill n 1ᶠ ++ fill (401 - n) 0ᶠ) (fill 401 0ᶠ) n 0 base bid ask
+abbrev pub at_end : ℕ → Float → Distance → Distance → Reply
+at_end n base bid ask = reckoned (fill n 1ᶠ ++ fill (401 - n) 0ᶠ) (fill 401 0ᶠ) n 0 base bid ask
 
 abbrev pub by : Float → Distance
 by d = Distance.At d
 
-abbrev pub no-side : Distance
-no-side = Distance.Absent
+abbrev pub no_side : Distance
+no_side = Distance.Absent
 
 -- glft.rs, value vector. The current time at the terminal time and past it, or tau not above zero: for every model and holding this is AtTheEnd, among the
 -- promises of `distances`. The default's base distance is LN2. A tau of 5500 has no mark, and stands beside the tau that is over the cap.
-unfoldable pub vectorCases : List Row
-vectorCases =
-    reckoning default ⇒ at-end 3 LN2 (by LN2) (by LN2)
-    ∷ reckoning (with-current 1001) ⇒ at-end 3 LN2 (by LN2) (by LN2)
-    ∷ reckoning (with-current 9_000_000_000_000_000) ⇒ at-end 3 LN2 (by LN2) (by LN2)
-    ∷ reckoning (with-terminal 1) ⇒ at-end 3 LN2 (by LN2) (by LN2)
-    ∷ reckoning (with-holding (units 1)) ⇒ at-end 3 LN2 no-side (by LN2)
-    ∷ reckoning (with-holding (neg_ℤ (units 1))) ⇒ at-end 3 LN2 (by LN2) no-side
-    ∷ reckoning (with_bound 2) ⇒ at-end 5 LN2 (by LN2) (by LN2)
-    ∷ reckoning (with_bound 200) ⇒ at-end 401 LN2 (by LN2) (by LN2)
-    ∷ floats 1ᶠ 1ᶠ 0ᶠ 1ᶠ ½ᶠ 1 0ᶠ (pos 0) ⇒ at-end 3 ½ᶠ (by ½ᶠ) (by ½ᶠ)
-    ∷ floats 1ᶠ 1ᶠ 0ᶠ 1ᶠ ½ᶠ 1 (whole (neg_ℤ (pos 1))) (pos 1) ⇒ at-end 3 ½ᶠ no-side (by ½ᶠ)
-    ∷ floats 2ᶠ 1ᶠ 0ᶠ 1ᶠ 1ᶠ 200 0ᶠ (neg_ℤ (pos 200)) ⇒ at-end 401 1ᶠ (by 1ᶠ) no-side
+unfoldable pub vector_cases : List Row
+vector_cases =
+    reckoning default ⇒ at_end 3 LN2 (by LN2) (by LN2)
+    ∷ reckoning (with_current 1001) ⇒ at_end 3 LN2 (by LN2) (by LN2)
+    ∷ reckoning (with_current 9_000_000_000_000_000) ⇒ at_end 3 LN2 (by LN2) (by LN2)
+    ∷ reckoning (with_terminal 1) ⇒ at_end 3 LN2 (by LN2) (by LN2)
+    ∷ reckoning (with_holding (units 1)) ⇒ at_end 3 LN2 no_side (by LN2)
+    ∷ reckoning (with_holding (neg_ℤ (units 1))) ⇒ at_end 3 LN2 (by LN2) no_side
+    ∷ reckoning (with_bound 2) ⇒ at_end 5 LN2 (by LN2) (by LN2)
+    ∷ reckoning (with_bound 200) ⇒ at_end 401 LN2 (by LN2) (by LN2)
+    ∷ floats 1ᶠ 1ᶠ 0ᶠ 1ᶠ ½ᶠ 1 0ᶠ (pos 0) ⇒ at_end 3 ½ᶠ (by ½ᶠ) (by ½ᶠ)
+    ∷ floats 1ᶠ 1ᶠ 0ᶠ 1ᶠ ½ᶠ 1 (whole (neg_ℤ (pos 1))) (pos 1) ⇒ at_end 3 ½ᶠ no_side (by ½ᶠ)
+    ∷ floats 2ᶠ 1ᶠ 0ᶠ 1ᶠ 1ᶠ 200 0ᶠ (neg_ℤ (pos 200)) ⇒ at_end 401 1ᶠ (by 1ᶠ) no_side
     ∷ plan 1ᶠ 0ᶠ 1ᶠ 1 1ᶠ ⇒ planned (whole (pos 4)) 2 ½ᶠ
     ∷ plan 1ᶠ 0ᶠ 1ᶠ 1 (whole (pos 5500)) ⇒ planned (whole (pos 4)) 11_000 ½ᶠ
-    ∷ plan 1ᶠ 0ᶠ 1ᶠ 1 (whole (pos 5500) ⊕ ½ᶠ) ⇒ over-cap (whole (pos 11_001)) 11_000 0
-    ∷ floats 1ᶠ 1ᶠ 0ᶠ 1ᶠ 1ᶠ 1 (whole (pos 5500) ⊕ ½ᶠ) (pos 0) ⇒ over-cap (whole (pos 11_001)) 11_000 0
+    ∷ plan 1ᶠ 0ᶠ 1ᶠ 1 (whole (pos 5500) ⊕ ½ᶠ) ⇒ over_the_cap (whole (pos 11_001)) 11_000 0
+    ∷ floats 1ᶠ 1ᶠ 0ᶠ 1ᶠ 1ᶠ 1 (whole (pos 5500) ⊕ ½ᶠ) (pos 0) ⇒ over_the_cap (whole (pos 11_001)) 11_000 0
     ∷ []
 
 -- glft.rs, quotes
-unfoldable pub quoteCases : List Row
-quoteCases =
+unfoldable pub quote_cases : List Row
+quote_cases =
     ask exacts default (quotes (price 99_306_852_819) (price 100_693_147_181) 0)
-    ++ ask exacts (with-spread (units 2)) (quotes (price 99_000_000_000) (price 101_000_000_000) 0)
+    ++ ask exacts (with_spread (units 2)) (quotes (price 99_000_000_000) (price 101_000_000_000) 0)
 
 -- change request 7. A drift passes, but in a closed-form call, and at the end it moves no quote. Beta not finite is 5; where time is left, so large that the diagonal is not finite, it is 11.
 abbrev pub largest : Float
 largest = hex 0x7FEFFFFFFFFFFFFF
 
-unfoldable pub driftCases : List Row
-driftCases =
-    ask checks (with-drift most) passes
-    ++ ask checks (with-drift (neg_ℤ most)) passes
-    ++ ask entries (with-drift over) (refused 2)
-    ++ ask entries (with-drift (neg_ℤ over)) (refused 2)
-    ++ ask exacts (with-drift (units 1)) (quotes (price 99_306_852_819) (price 100_693_147_181) 0)
-    ++ ask (closed ∷ []) (with-drift (pos 1)) (refused 22)
-    ++ ask (closed ∷ []) (with-drift (neg_ℤ most)) (refused 22)
+unfoldable pub drift_cases : List Row
+drift_cases =
+    ask checks (with_drift most) passes
+    ++ ask checks (with_drift (neg_ℤ most)) passes
+    ++ ask entries (with_drift over) (refused 2)
+    ++ ask entries (with_drift (neg_ℤ over)) (refused 2)
+    ++ ask exacts (with_drift (units 1)) (quotes (price 99_306_852_819) (price 100_693_147_181) 0)
+    ++ ask (closed ∷ []) (with_drift (pos 1)) (refused 22)
+    ++ ask (closed ∷ []) (with_drift (neg_ℤ most)) (refused 22)
     ++ (floats 1ᶠ 1ᶠ (hex 0x7FF0000000000000) 1ᶠ ½ᶠ 1 0ᶠ (pos 0) ⇒ refused 5
-    ∷ floats 1ᶠ 1ᶠ largest 1ᶠ ½ᶠ 2 0ᶠ (pos 0) ⇒ at-end 5 ½ᶠ (by ½ᶠ) (by ½ᶠ)
+    ∷ floats 1ᶠ 1ᶠ largest 1ᶠ ½ᶠ 2 0ᶠ (pos 0) ⇒ at_end 5 ½ᶠ (by ½ᶠ) (by ½ᶠ)
     ∷ floats 1ᶠ 1ᶠ largest 1ᶠ ½ᶠ 2 1ᶠ (pos 0) ⇒ refused 11
     ∷ plan 1ᶠ 2ᶠ 1ᶠ 1 2ᶠ ⇒ planned (whole (pos 6)) 6 (2ᶠ ⊘ whole (pos 6))
     ∷ plan 1ᶠ (whole (neg_ℤ (pos 2))) 1ᶠ 1 2ᶠ ⇒ planned (whole (pos 6)) 6 (2ᶠ ⊘ whole (pos 6))
     ∷ [])
 
 unfoldable pub table : List Row
-table = configurationCases ++ holdingCases ++ vectorCases ++ quoteCases ++ driftCases
+table = configuration_cases ++ holding_cases ++ vector_cases ++ quote_cases ++ drift_cases
 
 -- each reply is what the definitions give
 abbrev pub Cases : Type 0

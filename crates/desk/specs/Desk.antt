@@ -4,8 +4,8 @@ use Rattle.harness.specs.Words.{word, signed}
 use Rattle.model.specs.declared.GLFTConfig.{GLFTConfig}
 
 -- a bound that 32 bits do not hold is the largest that they hold
-unfoldable pub configAt : List ℕ → ℕ → GLFTConfig
-configAt s at =
+unfoldable pub config_at : List ℕ → ℕ → GLFTConfig
+config_at s at =
     record {
       risk_aversion = signed (word s (at + 24));
       order_intensity_k = signed (word s (at + 32));

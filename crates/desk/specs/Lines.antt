@@ -3,7 +3,7 @@ use Rattle.std.specs.Prelude.{ℕ, List, [], ◌∷◌, nat_abs, Float}
 use Rattle.std.specs.Float.{binary64}
 use Rattle.std.specs.Float.Ieee.{to_bits}
 use Rattle.io.specs.Digits.{last_digits}
-use Rattle.harness.specs.Texts.{placed, after, spaced, afterSpaced, letterR, letterC, count}
+use Rattle.harness.specs.Texts.{placed, after, spaced, after_spaced, letter_r, letter_c, count}
 use Rattle.prices.specs.declared.Price.{Price}
 use Rattle.prices.specs.declared.Price.TheVariants.{At, Absent}
 use Rattle.prices.specs.declared.GlftQuotes.{GlftQuotes}
@@ -14,50 +14,50 @@ use Rattle.quote.specs.declared.ExactQuotes.TheVariants.{Quotes, OverStepCap, Re
 -- a space and a text, each where it fits, for each text in turn, and the place after them
 unfoldable pub fields : List ℕ → ℕ → List (List ℕ) → List ℕ
 fields l at [] = l
-fields l at (t ∷ ts) = fields (spaced l at t) (afterSpaced l at t) ts
+fields l at (t ∷ ts) = fields (spaced l at t) (after_spaced l at t) ts
 
-unfoldable pub afterFields : List ℕ → ℕ → List (List ℕ) → ℕ
-afterFields l at [] = at
-afterFields l at (t ∷ ts) = afterFields (spaced l at t) (afterSpaced l at t) ts
+unfoldable pub after_fields : List ℕ → ℕ → List (List ℕ) → ℕ
+after_fields l at [] = at
+after_fields l at (t ∷ ts) = after_fields (spaced l at t) (after_spaced l at t) ts
 
 -- a letter and after it fields, and the place after them
 unfoldable pub lined : List ℕ → List ℕ → ℕ → List (List ℕ) → List ℕ
 lined c l at ts = fields (placed l at c) (after l at c) ts
 
-unfoldable pub afterLined : List ℕ → List ℕ → ℕ → List (List ℕ) → ℕ
-afterLined c l at ts = afterFields (placed l at c) (after l at c) ts
+unfoldable pub after_lined : List ℕ → List ℕ → ℕ → List (List ℕ) → ℕ
+after_lined c l at ts = after_fields (placed l at c) (after l at c) ts
 
 -- ---- texts
 -- a float's pattern in 16 hex digits, in lower case
-unfoldable pub floatText : Float → List ℕ
-floatText x = last_digits 16 16 (to_bits binary64 x)
+unfoldable pub float_text : Float → List ℕ
+float_text x = last_digits 16 16 (to_bits binary64 x)
 
 -- a price's size in decimal digits, or `-` where it is absent
-unfoldable pub priceText : Price → List ℕ
-priceText (At x) = count (nat_abs x)
-priceText Absent = 45 ∷ []
+unfoldable pub price_text : Price → List ℕ
+price_text (At x) = count (nat_abs x)
+price_text Absent = 45 ∷ []
 
 -- ---- lines
-abbrev pub letterQ : List ℕ
-letterQ = 81 ∷ []
+abbrev pub letter_q : List ℕ
+letter_q = 81 ∷ []
 
 -- bid and ask; then with the steps; the steps needed, the budget left and the steps spent
-abbrev pub quoteTexts : GlftQuotes → List (List ℕ)
-quoteTexts q = priceText q.bid ∷ priceText q.ask ∷ []
+abbrev pub quote_texts : GlftQuotes → List (List ℕ)
+quote_texts q = price_text q.bid ∷ price_text q.ask ∷ []
 
-abbrev pub countedTexts : GlftQuotes → ℕ → List (List ℕ)
-countedTexts q s = priceText q.bid ∷ priceText q.ask ∷ count s ∷ []
+abbrev pub counted_texts : GlftQuotes → ℕ → List (List ℕ)
+counted_texts q s = price_text q.bid ∷ price_text q.ask ∷ count s ∷ []
 
-abbrev pub capTexts : Float → ℕ → ℕ → List (List ℕ)
-capTexts x b s = floatText x ∷ count b ∷ count s ∷ []
+abbrev pub cap_texts : Float → ℕ → ℕ → List (List ℕ)
+cap_texts x b s = float_text x ∷ count b ∷ count s ∷ []
 
 -- an exact call's letter and fields; a refusal's field is its number
-unfoldable pub exactLetter : ExactQuotes → List ℕ
-exactLetter (Quotes q s) = letterQ
-exactLetter (OverStepCap x b s) = letterC
-exactLetter (Refused n) = letterR
+unfoldable pub exact_letter : ExactQuotes → List ℕ
+exact_letter (Quotes q s) = letter_q
+exact_letter (OverStepCap x b s) = letter_c
+exact_letter (Refused n) = letter_r
 
-unfoldable pub exactTexts : ExactQuotes → List (List ℕ)
-exactTexts (Quotes q s) = countedTexts q s
-exactTexts (OverStepCap x b s) = capTexts x b s
-exactTexts (Refused n) = count n ∷ []
+unfoldable pub exact_texts : ExactQuotes → List (List ℕ)
+exact_texts (Quotes q s) = counted_texts q s
+exact_texts (OverStepCap x b s) = cap_texts x b s
+exact_texts (Refused n) = count n ∷ []

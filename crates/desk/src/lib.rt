@@ -5,7 +5,7 @@ mod line;
 
 ghost use Rattle.std.specs.Prelude.{◌≡◌, ◌+◌};
 ghost use Rattle.harness.specs.Words.{word, signed};
-ghost use Rattle.desk.specs.Desk.{configAt};
+ghost use Rattle.desk.specs.Desk.{config_at};
 
 use harness::{bound_of, signed_of, word_at};
 pub use line::{put_exact, put_float, put_quotes};
@@ -20,7 +20,7 @@ pub fn amount_at(s: &[u8], at: usize, i: usize) -> i64
 
 // The configuration of the record at a place.
 pub fn config_at(s: &[u8], at: usize) -> GLFTConfig
-    ensures { result ≡ configAt s.now at }
+    ensures { result ≡ config_at s.now at }
 {
     GLFTConfig {
         risk_aversion: amount_at(s, at, 24),

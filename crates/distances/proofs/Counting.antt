@@ -4,30 +4,30 @@ use Prim.Native.Nat.{ℕ, ◌≤◌}
 use native.Mathlib.Omega.{arith}
 use lib.IntN.{ℤ}
 use lib.Ieee.{Float}
-use Rattle.elementary.specs.Checks.{Verdict, passes, refused, firstFailing}
-use Rattle.vector.specs.Run.{Ended, vector, overCap, failed, cap, run, spent}
+use Rattle.elementary.specs.Checks.{Verdict, passes, refused, first_failing}
+use Rattle.vector.specs.Run.{Ended, vector, over_cap, failed, cap, run, spent}
 use Rattle.vector.specs.declared.ValueVector.{ValueVector}
-use Rattle.vector.proofs.Spent.{steps-within, budget-within}
-use Rattle.distances.specs.FloatEntry.{refusedEntry, withVector, answerBy, entryChecks, entryIf, entryOver, floatEntry, stepsIf, stepsOver, floatSteps}
+use Rattle.vector.proofs.Spent.{steps_within, budget_within}
+use Rattle.distances.specs.FloatEntry.{refused_entry, with_vector, answer_by, entry_checks, entry_if, entry_over, float_entry, steps_if, steps_over, float_steps}
 use Rattle.distances.specs.Promises.{Counted, StepsCounted}
 use Rattle.distances.specs.declared.Sides.{Sides}
 use Rattle.distances.specs.declared.Sides.TheVariants as Sides
 
-sides-counted : (v : ValueVector) (s : ℕ) (r : Sides) → Counted (withVector v s r).answer s
-unfolding Counted withVector refusedEntry
-sides-counted v s (Sides.Distances b a) = refl
-sides-counted v s (Sides.Refused r) = tt
+sides_counted : (v : ValueVector) (s : ℕ) (r : Sides) → Counted (with_vector v s r).answer s
+unfolding Counted with_vector refused_entry
+sides_counted v s (Sides.Distances b a) = refl
+sides_counted v s (Sides.Refused r) = tt
 
-counted : (bound : ℕ) (k base : Float) (q : ℤ) (r : Ended) → ((need : Float) (b : ℕ) → r ≡ overCap need b → b ≤ cap) → Counted (answerBy bound k base q r).answer (spent r)
-unfolding Counted answerBy refusedEntry spent
-counted bound k base q (vector w o s) h = sides-counted _ s _
-counted bound k base q (overCap need b) h = let l = h need b refl in (refl, omega (arith, l))
+counted : (bound : ℕ) (k base : Float) (q : ℤ) (r : Ended) → ((need : Float) (b : ℕ) → r ≡ over_cap need b → b ≤ cap) → Counted (answer_by bound k base q r).answer (spent r)
+unfolding Counted answer_by refused_entry spent
+counted bound k base q (vector w o s) h = sides_counted _ s _
+counted bound k base q (over_cap need b) h = let l = h need b refl in (refl, omega (arith, l))
 counted bound k base q (failed s) h = tt
 
-pub steps-counted : StepsCounted
-unfolding Counted floatEntry entryOver entryIf refusedEntry floatSteps stepsOver stepsIf
-steps-counted k base x q = go (firstFailing (entryChecks k base x q))
+pub steps_counted : StepsCounted
+unfolding Counted float_entry entry_over entry_if refused_entry float_steps steps_over steps_if
+steps_counted k base x q = go (first_failing (entry_checks k base x q))
   where
-    go : (v : Verdict) → Counted (entryIf v (answerBy x.bound k base q (run x))).answer (stepsIf v (spent (run x))) × (stepsIf v (spent (run x)) ≤ cap)
-    go passes = (counted x.bound k base q (run x) (budget-within x), steps-within x)
+    go : (v : Verdict) → Counted (entry_if v (answer_by x.bound k base q (run x))).answer (steps_if v (spent (run x))) × (steps_if v (spent (run x)) ≤ cap)
+    go passes = (counted x.bound k base q (run x) (budget_within x), steps_within x)
     go (refused n) = (tt, omega arith)

@@ -7,15 +7,15 @@ use lib.IntN.{ℤ, pos, negsuc, nat_abs, ◌+ℤ◌}
 use lib.Dec.{T, leb, eqb}
 use mir.Facts.{and_yes, leb_yes, eqb_yes}
 use borrow.Author.Tests.{le-ltb}
-use Rattle.plan.specs.Plan.{boundOk}
+use Rattle.plan.specs.Plan.{bound_ok}
 use Rattle.operator.specs.Operator.{rows}
-use Rattle.distances.specs.Distances.{place, lengthOk}
+use Rattle.distances.specs.Distances.{place, length_ok}
 
 -- ---- the length of a vector
-pub length-range : (n : ℕ) → lengthOk n ≡ true → (n / 2 ≤ 200) × (n ≡ rows (n / 2))
-unfolding lengthOk
-length-range n e =
-    let t = and_yes (boundOk (n / 2)) (eqb n (rows (n / 2))) (subst T (sym e) tt) in
+pub length_range : (n : ℕ) → length_ok n ≡ true → (n / 2 ≤ 200) × (n ≡ rows (n / 2))
+unfolding length_ok
+length_range n e =
+    let t = and_yes (bound_ok (n / 2)) (eqb n (rows (n / 2))) (subst T (sym e) tt) in
     (leb_yes (and_yes (leb 1 (n / 2)) (leb (n / 2) 200) t.0).1, eqb_yes t.1)
 
 -- ---- the place of a holding within its bound
@@ -24,7 +24,7 @@ unfolding place
 at_place (pos n) b h = refl
 at_place (negsuc n) b h = rw (le-ltb b (suc n))
 
-pub place-most : (q : ℤ) (b : ℕ) → nat_abs q ≤ b → place b q ≤ 2 * b
+pub place_most : (q : ℤ) (b : ℕ) → nat_abs q ≤ b → place b q ≤ 2 * b
 unfolding place
-place-most (pos n) b h = omega arith
-place-most (negsuc n) b h = rw (le-ltb b (suc n)) (omega arith)
+place_most (pos n) b h = omega arith
+place_most (negsuc n) b h = rw (le-ltb b (suc n)) (omega arith)

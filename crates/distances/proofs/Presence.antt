@@ -9,13 +9,13 @@ use borrow.Author.Tests.{ltb-false, leb-true, le-ltb}
 use lib.IntN.{ℤ, pos, neg_ℤ, nat_abs, ◌+ℤ◌, ◌-ℤ◌, +ℤ_invl, +ℤ-neg_ℤ_cancel}
 use lib.Dec.{ltb}
 use lib.Ieee.{Float}
-use Rattle.elementary.specs.Checks.{Verdict, passes, refused, firstFailing}
-use Rattle.vector.specs.Run.{Ended, vector, overCap, failed, run}
+use Rattle.elementary.specs.Checks.{Verdict, passes, refused, first_failing}
+use Rattle.vector.specs.Run.{Ended, vector, over_cap, failed, run}
 use Rattle.operator.specs.Operator.{rows}
-use Rattle.vector.specs.Values.{vectorOf}
+use Rattle.vector.specs.Values.{vector_of}
 use Rattle.vector.specs.declared.ValueVector.{ValueVector}
-use Rattle.distances.specs.Distances.{place, bidAt, askAt, sides, exactAt}
-use Rattle.distances.specs.FloatEntry.{refusedEntry, withVector, answerBy, entryChecks, entryIf, entryOver, floatEntry}
+use Rattle.distances.specs.Distances.{place, bid_at, ask_at, sides, exact_at}
+use Rattle.distances.specs.FloatEntry.{refused_entry, with_vector, answer_by, entry_checks, entry_if, entry_over, float_entry}
 use Rattle.distances.specs.Promises.{Withheld, FloatPresence}
 use Rattle.distances.specs.declared.Distance.{Distance}
 use Rattle.distances.specs.declared.Distance.TheVariants.{Absent}
@@ -23,58 +23,58 @@ use Rattle.distances.specs.declared.Sides.{Sides}
 use Rattle.distances.specs.declared.Sides.TheVariants as Sides
 use Rattle.distances.specs.declared.Answer.TheVariants.{Distances}
 use Rattle.distances.proofs.Checked.{passed}
-use Rattle.distances.proofs.Holdings.{at_place, place-most}
+use Rattle.distances.proofs.Holdings.{at_place, place_most}
 
 -- ---- the places
 -- another holding has another place
-place-tells : (b : ℕ) (q z : ℤ) → nat_abs q ≤ b → z +ℤ pos b ≡ pos (place b q) → q ≡ z
-place-tells b q z h e =
+place_tells : (b : ℕ) (q z : ℤ) → nat_abs q ≤ b → z +ℤ pos b ≡ pos (place b q) → q ≡ z
+place_tells b q z h e =
     sym (+ℤ-neg_ℤ_cancel q (pos b)) ∙ ap (λ (x : ℤ). x -ℤ pos b) (at_place q b h ∙ sym e) ∙ +ℤ-neg_ℤ_cancel z (pos b)
 
 last : (b : ℕ) (q : ℤ) → nat_abs q ≤ b → (ltb (suc (place b q)) (rows b) ≡ false) ↔ (q ≡ pos b)
 unfolding place
-last b q h = (λ e. place-tells b q (pos b) h (ap pos (omega (arith, place-most q b h, ltb-false (suc (place b q)) (rows b) e))), λ e. rw e (le-ltb (suc (b + b)) (rows b) (omega arith)))
+last b q h = (λ e. place_tells b q (pos b) h (ap pos (omega (arith, place_most q b h, ltb-false (suc (place b q)) (rows b) e))), λ e. rw e (le-ltb (suc (b + b)) (rows b) (omega arith)))
 
 first : (b : ℕ) (q : ℤ) → nat_abs q ≤ b → (place b q ≡ 0) ↔ (q ≡ neg_ℤ (pos b))
 unfolding place
-first b q h = (λ e. place-tells b q (neg_ℤ (pos b)) h (+ℤ_invl (pos b) ∙ ap pos (sym e)), λ e. rw (e, +ℤ_invl (pos b)))
+first b q h = (λ e. place_tells b q (neg_ℤ (pos b)) h (+ℤ_invl (pos b) ∙ ap pos (sym e)), λ e. rw (e, +ℤ_invl (pos b)))
 
 -- ---- the sides
-bid-absent : (t : Bool) (v : ValueVector) (k base : Float) (i : ℕ) → (bidAt t v k base i ≡ Absent) ↔ (t ≡ false)
-unfolding bidAt
-bid-absent false v k base i = (λ e. refl, λ e. refl)
-bid-absent true v k base i = (λ e. cc, λ e. cc)
+bid_absent : (t : Bool) (v : ValueVector) (k base : Float) (i : ℕ) → (bid_at t v k base i ≡ Absent) ↔ (t ≡ false)
+unfolding bid_at
+bid_absent false v k base i = (λ e. refl, λ e. refl)
+bid_absent true v k base i = (λ e. cc, λ e. cc)
 
-ask-absent : (v : ValueVector) (k base : Float) (i : ℕ) → (askAt v k base i ≡ Absent) ↔ (i ≡ 0)
-unfolding askAt
-ask-absent v k base zero = (λ e. refl, λ e. refl)
-ask-absent v k base (suc i) = (λ e. cc, λ e. absurd (omega arith))
+ask_absent : (v : ValueVector) (k base : Float) (i : ℕ) → (ask_at v k base i ≡ Absent) ↔ (i ≡ 0)
+unfolding ask_at
+ask_absent v k base zero = (λ e. refl, λ e. refl)
+ask_absent v k base (suc i) = (λ e. cc, λ e. absurd (omega arith))
 
 -- ---- the answers
-pub sides-are : (t : Bool) (x y b a : Distance) → sides t x y ≡ Sides.Distances b a → (x ≡ b) × (y ≡ a)
+pub sides_are : (t : Bool) (x y b a : Distance) → sides t x y ≡ Sides.Distances b a → (x ≡ b) × (y ≡ a)
 unfolding sides
-sides-are true x y b a e = (cc, cc)
-sides-are false x y b a e = (cc, cc)
+sides_are true x y b a e = (cc, cc)
+sides_are false x y b a e = (cc, cc)
 
-with-sides : (v : ValueVector) (s : ℕ) (r : Sides) (b a : Distance) (n : ℕ) → (withVector v s r).answer ≡ Distances b a n → r ≡ Sides.Distances b a
-unfolding withVector refusedEntry
-with-sides v s (Sides.Distances x y) b a n e = cc
-with-sides v s (Sides.Refused r) b a n e = cc
+with_sides : (v : ValueVector) (s : ℕ) (r : Sides) (b a : Distance) (n : ℕ) → (with_vector v s r).answer ≡ Distances b a n → r ≡ Sides.Distances b a
+unfolding with_vector refused_entry
+with_sides v s (Sides.Distances x y) b a n e = cc
+with_sides v s (Sides.Refused r) b a n e = cc
 
-run-withheld : (bound : ℕ) (k base : Float) (q : ℤ) → nat_abs q ≤ bound → (r : Ended) (b a : Distance) (s : ℕ) → (answerBy bound k base q r).answer ≡ Distances b a s → Withheld bound q b a
-unfolding answerBy refusedEntry exactAt vectorOf
-run-withheld bound k base q h (vector w o n) b a s e =
-    let v = vectorOf (rows bound) w o in
+run_withheld : (bound : ℕ) (k base : Float) (q : ℤ) → nat_abs q ≤ bound → (r : Ended) (b a : Distance) (s : ℕ) → (answer_by bound k base q r).answer ≡ Distances b a s → Withheld bound q b a
+unfolding answer_by refused_entry exact_at vector_of
+run_withheld bound k base q h (vector w o n) b a s e =
+    let v = vector_of (rows bound) w o in
     let i = place bound q in
-    let u = sides-are _ _ _ b a (with-sides v n (exactAt v k base i) b a s e) in
-    rw (← u.0, ← u.1) (Iff.trans (bid-absent _ v k base i) (last bound q h), Iff.trans (ask-absent v k base i) (first bound q h))
-run-withheld bound k base q h (overCap need l) b a s e = let z : ◌≡◌ {A = ℕ} 0 1 = cc in absurd (omega arith)
-run-withheld bound k base q h (failed n) b a s e = let z : ◌≡◌ {A = ℕ} 0 1 = cc in absurd (omega arith)
+    let u = sides_are _ _ _ b a (with_sides v n (exact_at v k base i) b a s e) in
+    rw (← u.0, ← u.1) (Iff.trans (bid_absent _ v k base i) (last bound q h), Iff.trans (ask_absent v k base i) (first bound q h))
+run_withheld bound k base q h (over_cap need l) b a s e = let z : ◌≡◌ {A = ℕ} 0 1 = cc in absurd (omega arith)
+run_withheld bound k base q h (failed n) b a s e = let z : ◌≡◌ {A = ℕ} 0 1 = cc in absurd (omega arith)
 
-pub float-presence : FloatPresence
-unfolding floatEntry entryOver entryIf refusedEntry
-float-presence k base x q b a s = go (firstFailing (entryChecks k base x q)) refl
+pub float_presence : FloatPresence
+unfolding float_entry entry_over entry_if refused_entry
+float_presence k base x q b a s = go (first_failing (entry_checks k base x q)) refl
   where
-    go : (v : Verdict) → firstFailing (entryChecks k base x q) ≡ v → (entryIf v (answerBy x.bound k base q (run x))).answer ≡ Distances b a s → Withheld x.bound q b a
-    go passes t e = run-withheld x.bound k base q (leb-true (nat_abs q) x.bound (passed k base x q t).held) (run x) b a s e
+    go : (v : Verdict) → first_failing (entry_checks k base x q) ≡ v → (entry_if v (answer_by x.bound k base q (run x))).answer ≡ Distances b a s → Withheld x.bound q b a
+    go passes t e = run_withheld x.bound k base q (leb-true (nat_abs q) x.bound (passed k base x q t).held) (run x) b a s e
     go (refused n) t e = let z : ◌≡◌ {A = ℕ} 0 1 = cc in absurd (omega arith)

@@ -8,18 +8,18 @@ use lib.IntN.{ℤ, nat_abs}
 use lib.Ieee.{Float}
 use borrow.Author.Tests.{leb-true}
 use Rattle.elementary.specs.Float.{hex}
-use Rattle.elementary.specs.Checks.{Verdict, passes, firstFailing, checkOf, Passes, none, each}
-use Rattle.elementary.proofs.Checks.{none-failing, check-passes, check-refused}
+use Rattle.elementary.specs.Checks.{Verdict, passes, first_failing, check_of, Passes, none, each}
+use Rattle.elementary.proofs.Checks.{none_failing, check_passes, check_refused}
 use Rattle.elementary.specs.declared.Check.TheVariants as Check
-use Rattle.distances.specs.Distances.{lent, place, exactAt, distanceChecks, distancesIf, exactDistances}
+use Rattle.distances.specs.Distances.{lent, place, exact_at, distance_checks, distances_if, exact_distances}
 use Rattle.operator.specs.Vectors.{at}
 use Rattle.distances.specs.Reading.{floats}
 use Rattle.distances.specs.declared.Sides.TheVariants as Sides
-use Rattle.distances.proofs.Holdings.{length-range, place-most}
+use Rattle.distances.proofs.Holdings.{length_range, place_most}
 
 -- the verdict on a read at q lots of a vector of n entries, whatever they are
-abbrev pub readVerdict : ℕ → Float → Float → ℤ → Verdict
-readVerdict n k base q = firstFailing (distanceChecks (lent n [] []) k base q)
+abbrev pub read_verdict : ℕ → Float → Float → ℤ → Verdict
+read_verdict n k base q = first_failing (distance_checks (lent n [] []) k base q)
 
 module _ (n : ℕ) (k base : Float) (q : ℤ) where
   pub record Readable : Type 0 where
@@ -27,27 +27,27 @@ module _ (n : ℕ) (k base : Float) (q : ℤ) where
     pub most : n ≤ 401
     pub held : nat_abs q ≤ n / 2
     pub inside : place (n / 2) q < n
-    pub read : (w o : List Float) → exactDistances (lent n w o) k base q ≡ exactAt (lent n w o) k base (place (n / 2) q)
+    pub read : (w o : List Float) → exact_distances (lent n w o) k base q ≡ exact_at (lent n w o) k base (place (n / 2) q)
 
-  read_is : readVerdict n k base q ≡ passes → (w o : List Float) → exactDistances (lent n w o) k base q ≡ exactAt (lent n w o) k base (place (n / 2) q)
-  unfolding exactDistances distancesIf
+  read_is : read_verdict n k base q ≡ passes → (w o : List Float) → exact_distances (lent n w o) k base q ≡ exact_at (lent n w o) k base (place (n / 2) q)
+  unfolding exact_distances distances_if
   read_is e w o = rw e
 
-  pub readable : Check.Passes ≡ checkOf (readVerdict n k base q) → Readable
-  readable h = let e = check-passes (readVerdict n k base q) h in go e ((none-failing (distanceChecks (lent n [] []) k base q)).0 e)
+  pub readable : Check.Passes ≡ check_of (read_verdict n k base q) → Readable
+  readable h = let e = check_passes (read_verdict n k base q) h in go e ((none_failing (distance_checks (lent n [] []) k base q)).0 e)
     where
-      go : readVerdict n k base q ≡ passes → Passes (distanceChecks (lent n [] []) k base q) → Readable
+      go : read_verdict n k base q ≡ passes → Passes (distance_checks (lent n [] []) k base q) → Readable
       go e (each f (each l (each b none))) =
-          let r = length-range n l in
+          let r = length_range n l in
           let t = leb-true (nat_abs q) (n / 2) b in
-          record { half = r.0; most = omega arith; held = t; inside = omega (arith, place-most q (n / 2) t); read = read_is e }
+          record { half = r.0; most = omega arith; held = t; inside = omega (arith, place_most q (n / 2) t); read = read_is e }
 
-  pub unreadable : (m : ℕ) → Check.Refused m ≡ checkOf (readVerdict n k base q) → (w o : List Float) → exactDistances (lent n w o) k base q ≡ Sides.Refused m
-  unfolding exactDistances distancesIf
-  unreadable m h w o = rw (check-refused (readVerdict n k base q) m h)
+  pub unreadable : (m : ℕ) → Check.Refused m ≡ check_of (read_verdict n k base q) → (w o : List Float) → exact_distances (lent n w o) k base q ≡ Sides.Refused m
+  unfolding exact_distances distances_if
+  unreadable m h w o = rw (check_refused (read_verdict n k base q) m h)
 
 -- ---- an entry that is lent by its bits
-pub at-floats : (l : List ℕ) (i : ℕ) → i < length l → at (floats l) i ≡ hex (get_or l i 0)
-at-floats [] i h = absurd (omega arith)
-at-floats (x ∷ l) zero h = refl
-at-floats (x ∷ l) (suc i) h = at-floats l i (omega arith)
+pub at_floats : (l : List ℕ) (i : ℕ) → i < length l → at (floats l) i ≡ hex (get_or l i 0)
+at_floats [] i h = absurd (omega arith)
+at_floats (x ∷ l) zero h = refl
+at_floats (x ∷ l) (suc i) h = at_floats l i (omega arith)

@@ -1,12 +1,12 @@
 -- Document 01, module 4, its float side: the distances at one holding, from a value vector. Definitions only.
 use Rattle.std.specs.Prelude.{ℕ, zero, suc, ◌/◌, Bool, true, false, ◌&&◌, List, [], ◌∷◌, ℤ, pos, nat_abs, ◌+ℤ◌, ltb, leb, eqb, Float}
 use Rattle.elementary.specs.Float.{◌⊕◌, ◌⊖◌, ◌⊘◌, finite, positive}
-use Rattle.elementary.specs.Elementary.{LN, outside, orNan}
-use Rattle.elementary.specs.Checks.{Verdict, passes, refused, firstFailing}
+use Rattle.elementary.specs.Elementary.{LN, outside, or_nan}
+use Rattle.elementary.specs.Checks.{Verdict, passes, refused, first_failing}
 use Rattle.vector.specs.Refusals.{configuration}
 use Rattle.series.specs.Refusals.{numerical}
 use Rattle.operator.specs.Vectors.{at}
-use Rattle.plan.specs.Plan.{boundOk}
+use Rattle.plan.specs.Plan.{bound_ok}
 use Rattle.operator.specs.Operator.{rows}
 use Rattle.vector.specs.declared.ValueVector.{ValueVector}
 use Rattle.distances.specs.Refusals.{holding}
@@ -32,16 +32,16 @@ lent n w o = record { w = w; log_offset = o; n = n }
 -- ((LN w_i - LN w_j) + (o_i - o_j)) / k + base; a NaN where LN refuses a weight
 unfoldable pub distance : ValueVector → Float → Float → ℕ → ℕ → Float
 distance v k base i j =
-    (orNan (LN (at v.w i)) ⊖ orNan (LN (at v.w j)) ⊕ (at v.log_offset i ⊖ at v.log_offset j)) ⊘ k ⊕ base
+    (or_nan (LN (at v.w i)) ⊖ or_nan (LN (at v.w j)) ⊕ (at v.log_offset i ⊖ at v.log_offset j)) ⊘ k ⊕ base
 
 -- the bid's leads one place up, where there is one; the ask's one down
-unfoldable pub bidAt : Bool → ValueVector → Float → Float → ℕ → Distance
-bidAt false v k base i = Absent
-bidAt true v k base i = At (distance v k base i (suc i))
+unfoldable pub bid_at : Bool → ValueVector → Float → Float → ℕ → Distance
+bid_at false v k base i = Absent
+bid_at true v k base i = At (distance v k base i (suc i))
 
-unfoldable pub askAt : ValueVector → Float → Float → ℕ → Distance
-askAt v k base zero = Absent
-askAt v k base (suc i) = At (distance v k base (suc i) i)
+unfoldable pub ask_at : ValueVector → Float → Float → ℕ → Distance
+ask_at v k base zero = Absent
+ask_at v k base (suc i) = At (distance v k base (suc i) i)
 
 -- no such side, or a finite distance
 unfoldable pub fine : Distance → Bool
@@ -53,24 +53,24 @@ unfoldable pub sides : Bool → Distance → Distance → Sides
 sides false b a = Sides.Refused numerical
 sides true b a = Sides.Distances b a
 
-unfoldable pub exactAt : ValueVector → Float → Float → ℕ → Sides
-exactAt v k base i =
-    let b = bidAt (ltb (suc i) v.n) v k base i in
-    let a = askAt v k base i in
+unfoldable pub exact_at : ValueVector → Float → Float → ℕ → Sides
+exact_at v k base i =
+    let b = bid_at (ltb (suc i) v.n) v k base i in
+    let a = ask_at v k base i in
     sides (fine b && fine a) b a
 
 -- ---- the distances at q from a vector, by the checks
 -- a length of 2 × bound + 1 for a bound of 1 to 200
-unfoldable pub lengthOk : ℕ → Bool
-lengthOk n = boundOk (n / 2) && eqb n (rows (n / 2))
+unfoldable pub length_ok : ℕ → Bool
+length_ok n = bound_ok (n / 2) && eqb n (rows (n / 2))
 
 -- in order: k and base finite and above zero, the length, the holding
-abbrev pub distanceChecks : ValueVector → Float → Float → ℤ → List (Bool × ℕ)
-distanceChecks v k base q = (positive k && positive base, outside) ∷ (lengthOk v.n, configuration) ∷ (within (v.n / 2) q, holding) ∷ []
+abbrev pub distance_checks : ValueVector → Float → Float → ℤ → List (Bool × ℕ)
+distance_checks v k base q = (positive k && positive base, outside) ∷ (length_ok v.n, configuration) ∷ (within (v.n / 2) q, holding) ∷ []
 
-unfoldable pub distancesIf : Verdict → Sides → Sides
-distancesIf passes s = s
-distancesIf (refused n) s = Sides.Refused n
+unfoldable pub distances_if : Verdict → Sides → Sides
+distances_if passes s = s
+distances_if (refused n) s = Sides.Refused n
 
-unfoldable pub exactDistances : ValueVector → Float → Float → ℤ → Sides
-exactDistances v k base q = distancesIf (firstFailing (distanceChecks v k base q)) (exactAt v k base (place (v.n / 2) q))
+unfoldable pub exact_distances : ValueVector → Float → Float → ℤ → Sides
+exact_distances v k base q = distances_if (first_failing (distance_checks v k base q)) (exact_at v k base (place (v.n / 2) q))

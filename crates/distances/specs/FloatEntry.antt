@@ -2,17 +2,17 @@
 use Rattle.std.specs.Prelude.{ℕ, ◌-◌, Bool, ◌&&◌, List, [], ◌∷◌, ℤ, Float}
 use Rattle.elementary.specs.Float.{positive}
 use Rattle.elementary.specs.Elementary.{outside}
-use Rattle.elementary.specs.Checks.{Verdict, passes, refused, firstFailing}
+use Rattle.elementary.specs.Checks.{Verdict, passes, refused, first_failing}
 use Rattle.vector.specs.Refusals.{configuration}
 use Rattle.series.specs.Refusals.{numerical}
-use Rattle.vector.specs.Run.{Ended, vector, overCap, failed, cap, boundOk, run, spent}
+use Rattle.vector.specs.Run.{Ended, vector, over_cap, failed, cap, bound_ok, run, spent}
 use Rattle.operator.specs.Operator.{rows}
-use Rattle.plan.specs.Input.{ratesOk}
-use Rattle.vector.specs.Values.{vectorOf, blankVector}
+use Rattle.plan.specs.Input.{rates_ok}
+use Rattle.vector.specs.Values.{vector_of, blank_vector}
 use Rattle.plan.specs.declared.RunInput.{RunInput}
 use Rattle.vector.specs.declared.ValueVector.{ValueVector}
 use Rattle.distances.specs.Refusals.{holding}
-use Rattle.distances.specs.Distances.{within, place, exactAt}
+use Rattle.distances.specs.Distances.{within, place, exact_at}
 use Rattle.distances.specs.declared.Sides.{Sides}
 use Rattle.distances.specs.declared.Sides.TheVariants as Sides
 use Rattle.distances.specs.declared.Answer.{Answer}
@@ -20,47 +20,47 @@ use Rattle.distances.specs.declared.Answer.TheVariants as Answer
 use Rattle.distances.specs.declared.FloatAnswer.{FloatAnswer}
 
 -- a refusal, by its number
-unfoldable pub refusedEntry : ℕ → FloatAnswer
-refusedEntry r = record { answer = Answer.Refused r; vector = blankVector }
+unfoldable pub refused_entry : ℕ → FloatAnswer
+refused_entry r = record { answer = Answer.Refused r; vector = blank_vector }
 
 -- the distances with the steps and the vector that gave them; under a refusal the vector is the blank one
-unfoldable pub withVector : ValueVector → ℕ → Sides → FloatAnswer
-withVector v s (Sides.Distances b a) = record { answer = Answer.Distances b a s; vector = v }
-withVector v s (Sides.Refused r) = refusedEntry r
+unfoldable pub with_vector : ValueVector → ℕ → Sides → FloatAnswer
+with_vector v s (Sides.Distances b a) = record { answer = Answer.Distances b a s; vector = v }
+with_vector v s (Sides.Refused r) = refused_entry r
 
 -- by the run's end
-unfoldable pub answerBy : ℕ → Float → Float → ℤ → Ended → FloatAnswer
-answerBy bound k base q (vector w o s) = let v = vectorOf (rows bound) w o in withVector v s (exactAt v k base (place bound q))
-answerBy bound k base q (overCap need b) = record { answer = Answer.OverCap need b (cap - b); vector = blankVector }
-answerBy bound k base q (failed s) = refusedEntry numerical
+unfoldable pub answer_by : ℕ → Float → Float → ℤ → Ended → FloatAnswer
+answer_by bound k base q (vector w o s) = let v = vector_of (rows bound) w o in with_vector v s (exact_at v k base (place bound q))
+answer_by bound k base q (over_cap need b) = record { answer = Answer.OverCap need b (cap - b); vector = blank_vector }
+answer_by bound k base q (failed s) = refused_entry numerical
 
 -- ---- the checks
 -- k, base, alpha and eta finite and above zero, beta and tau finite
-unfoldable pub floatsOk : Float → Float → RunInput → Bool
-floatsOk k base x = positive k && positive base && ratesOk x
+unfoldable pub floats_ok : Float → Float → RunInput → Bool
+floats_ok k base x = positive k && positive base && rates_ok x
 
 -- in order: the floats, the bound, the holding
-abbrev pub entryChecks : Float → Float → RunInput → ℤ → List (Bool × ℕ)
-entryChecks k base x q = (floatsOk k base x, outside) ∷ (boundOk x.bound, configuration) ∷ (within x.bound q, holding) ∷ []
+abbrev pub entry_checks : Float → Float → RunInput → ℤ → List (Bool × ℕ)
+entry_checks k base x q = (floats_ok k base x, outside) ∷ (bound_ok x.bound, configuration) ∷ (within x.bound q, holding) ∷ []
 
 -- ---- the reply, by the checks and a run's end
-unfoldable pub entryIf : Verdict → FloatAnswer → FloatAnswer
-entryIf passes a = a
-entryIf (refused n) a = refusedEntry n
+unfoldable pub entry_if : Verdict → FloatAnswer → FloatAnswer
+entry_if passes a = a
+entry_if (refused n) a = refused_entry n
 
-unfoldable pub entryOver : Ended → Float → Float → RunInput → ℤ → FloatAnswer
-entryOver e k base x q = entryIf (firstFailing (entryChecks k base x q)) (answerBy x.bound k base q e)
+unfoldable pub entry_over : Ended → Float → Float → RunInput → ℤ → FloatAnswer
+entry_over e k base x q = entry_if (first_failing (entry_checks k base x q)) (answer_by x.bound k base q e)
 
-unfoldable pub floatEntry : Float → Float → RunInput → ℤ → FloatAnswer
-floatEntry k base x q = entryOver (run x) k base x q
+unfoldable pub float_entry : Float → Float → RunInput → ℤ → FloatAnswer
+float_entry k base x q = entry_over (run x) k base x q
 
 -- ---- the finished steps of the run that the entry defines, under a refusal too: none where no run begins
-unfoldable pub stepsIf : Verdict → ℕ → ℕ
-stepsIf passes s = s
-stepsIf (refused n) s = 0
+unfoldable pub steps_if : Verdict → ℕ → ℕ
+steps_if passes s = s
+steps_if (refused n) s = 0
 
-unfoldable pub stepsOver : Ended → Float → Float → RunInput → ℤ → ℕ
-stepsOver e k base x q = stepsIf (firstFailing (entryChecks k base x q)) (spent e)
+unfoldable pub steps_over : Ended → Float → Float → RunInput → ℤ → ℕ
+steps_over e k base x q = steps_if (first_failing (entry_checks k base x q)) (spent e)
 
-unfoldable pub floatSteps : Float → Float → RunInput → ℤ → ℕ
-floatSteps k base x q = stepsOver (run x) k base x q
+unfoldable pub float_steps : Float → Float → RunInput → ℤ → ℕ
+float_steps k base x q = steps_over (run x) k base x q

@@ -4,16 +4,16 @@ use Rattle.std.specs.Float.{binary64}
 use Rattle.std.specs.Float.Ieee.{lt, fits}
 use Rattle.elementary.specs.Float.{0ᶠ, 1ᶠ}
 use Rattle.operator.specs.Vectors.{fill, Mirror}
-use Rattle.plan.specs.Plan.{cap, boundOk}
+use Rattle.plan.specs.Plan.{cap, bound_ok}
 use Rattle.operator.specs.Operator.{rows}
-use Rattle.vector.specs.Values.{vectorOf}
-use Rattle.vector.specs.Promises.{turnedInput}
+use Rattle.vector.specs.Values.{vector_of}
+use Rattle.vector.specs.Promises.{turned_input}
 use Rattle.plan.specs.declared.RunInput.{RunInput}
 use Rattle.vector.specs.declared.ValueVector.{ValueVector}
 use Rattle.vector.specs.declared.VectorAnswer.{VectorAnswer}
-use Rattle.distances.specs.Distances.{place, fine, exactDistances}
-use Rattle.distances.specs.FloatEntry.{floatsOk, floatEntry, floatSteps}
-use Rattle.distances.specs.Reading.{answerFrom}
+use Rattle.distances.specs.Distances.{place, fine, exact_distances}
+use Rattle.distances.specs.FloatEntry.{floats_ok, float_entry, float_steps}
+use Rattle.distances.specs.Reading.{answer_from}
 use Rattle.distances.specs.declared.Distance.{Distance}
 use Rattle.distances.specs.declared.Distance.TheVariants.{At, Absent}
 use Rattle.distances.specs.declared.Sides.{Sides}
@@ -28,26 +28,26 @@ Counted (OverCap need b s) n = (s ≡ n) × (s + b ≡ cap)
 Counted (Refused r) n = Unit {0}
 
 abbrev pub StepsCounted : Type 0
-StepsCounted = (k base : Float) (x : RunInput) (q : ℤ) → Counted (floatEntry k base x q).answer (floatSteps k base x q) × (floatSteps k base x q ≤ cap)
+StepsCounted = (k base : Float) (x : RunInput) (q : ℤ) → Counted (float_entry k base x q).answer (float_steps k base x q) × (float_steps k base x q ≤ cap)
 
 -- ---- at or past the end: weights of 1.0, offsets of 0.0, no step, and each present distance is the base
-unfoldable pub baseBid : Bool → Float → Distance
-baseBid true base = At base
-baseBid false base = Absent
+unfoldable pub base_bid : Bool → Float → Distance
+base_bid true base = At base
+base_bid false base = Absent
 
 abbrev pub AtTheEnd : Type 0
 AtTheEnd = (k base : Float) (x : RunInput) (q : ℤ) → T (fits binary64 base)
-    → floatsOk k base x ≡ true → boundOk x.bound ≡ true → nat_abs q ≤ x.bound → lt 0ᶠ x.tau ≡ false
-    → floatEntry k base x q
+    → floats_ok k base x ≡ true → bound_ok x.bound ≡ true → nat_abs q ≤ x.bound → lt 0ᶠ x.tau ≡ false
+    → float_entry k base x q
     ≡ record {
-      answer = Distances (baseBid (ltb (suc (place x.bound q)) (rows x.bound)) base) (baseBid (ltb 0 (place x.bound q)) base) 0;
-      vector = vectorOf (rows x.bound) (fill (rows x.bound) 1ᶠ) (fill (rows x.bound) 0ᶠ);
+      answer = Distances (base_bid (ltb (suc (place x.bound q)) (rows x.bound)) base) (base_bid (ltb 0 (place x.bound q)) base) 0;
+      vector = vector_of (rows x.bound) (fill (rows x.bound) 1ᶠ) (fill (rows x.bound) 0ᶠ);
     }
 
 -- ---- the mirror: the sides exchanged, refusals and reports as they are
-unfoldable pub exchangedSides : Sides → Sides
-exchangedSides (Sides.Distances b a) = Sides.Distances a b
-exchangedSides (Sides.Refused r) = Sides.Refused r
+unfoldable pub exchanged_sides : Sides → Sides
+exchanged_sides (Sides.Distances b a) = Sides.Distances a b
+exchanged_sides (Sides.Refused r) = Sides.Refused r
 
 unfoldable pub exchanged : Answer → Answer
 exchanged (Distances b a s) = Distances a b s
@@ -61,22 +61,22 @@ MirrorVector v v' = (v.n ≡ v'.n) × Mirror v.n v.w v'.w × Mirror v.n v.log_of
 -- the float entry at minus q and the drift turned is that at q with the sides exchanged, bit for bit, reports and refusals equal
 abbrev pub FloatMirror : Type 0
 FloatMirror = (k base : Float) (x : RunInput) (q : ℤ)
-    → ((floatEntry k base (turnedInput x) (neg_ℤ q)).answer ≡ exchanged (floatEntry k base x q).answer)
-    × MirrorVector (floatEntry k base (turnedInput x) (neg_ℤ q)).vector (floatEntry k base x q).vector
-    × (floatSteps k base (turnedInput x) (neg_ℤ q) ≡ floatSteps k base x q)
+    → ((float_entry k base (turned_input x) (neg_ℤ q)).answer ≡ exchanged (float_entry k base x q).answer)
+    × MirrorVector (float_entry k base (turned_input x) (neg_ℤ q)).vector (float_entry k base x q).vector
+    × (float_steps k base (turned_input x) (neg_ℤ q) ≡ float_steps k base x q)
 
 -- ---- presence: no bid just at the bound, no ask just at minus the bound
 abbrev pub Withheld : ℕ → ℤ → Distance → Distance → Type 0
 Withheld bound q b a = ((b ≡ Absent) ↔ (q ≡ pos bound)) × ((a ≡ Absent) ↔ (q ≡ neg_ℤ (pos bound)))
 
 abbrev pub FloatPresence : Type 0
-FloatPresence = (k base : Float) (x : RunInput) (q : ℤ) (b a : Distance) (s : ℕ) → (floatEntry k base x q).answer ≡ Distances b a s → Withheld x.bound q b a
+FloatPresence = (k base : Float) (x : RunInput) (q : ℤ) (b a : Distance) (s : ℕ) → (float_entry k base x q).answer ≡ Distances b a s → Withheld x.bound q b a
 
 -- ---- a distance that is answered is finite: by the float entry, from what `value_vector` answered, and from a vector
 abbrev pub Finite : Distance → Distance → Type 0
 Finite b a = (fine b ≡ true) × (fine a ≡ true)
 
 pub record FiniteDistances : Type 0 where
-  pub entry : (k base : Float) (x : RunInput) (q : ℤ) (b a : Distance) (s : ℕ) → (floatEntry k base x q).answer ≡ Distances b a s → Finite b a
-  pub answer : (v : VectorAnswer) (k base : Float) (q : ℤ) (b a : Distance) (s : ℕ) → answerFrom v k base q ≡ Distances b a s → Finite b a
-  pub vector : (v : ValueVector) (k base : Float) (q : ℤ) (b a : Distance) → exactDistances v k base q ≡ Sides.Distances b a → Finite b a
+  pub entry : (k base : Float) (x : RunInput) (q : ℤ) (b a : Distance) (s : ℕ) → (float_entry k base x q).answer ≡ Distances b a s → Finite b a
+  pub answer : (v : VectorAnswer) (k base : Float) (q : ℤ) (b a : Distance) (s : ℕ) → answer_from v k base q ≡ Distances b a s → Finite b a
+  pub vector : (v : ValueVector) (k base : Float) (q : ℤ) (b a : Distance) → exact_distances v k base q ≡ Sides.Distances b a → Finite b a

@@ -12,8 +12,8 @@ WeightsRead = (v : ValueVector) (k base : Float) (i j : ℕ)
 
 -- why a distance is not finite: its own weight, else its neighbour's; else the distance itself
 pub data DistanceFails (v : ValueVector) (k base : Float) (i j : ℕ) : Type 0 where
-  own-weight : positive (at v.w i) ≡ false → DistanceFails v k base i j
-  next-weight : positive (at v.w i) ≡ true → positive (at v.w j) ≡ false → DistanceFails v k base i j
+  own_weight : positive (at v.w i) ≡ false → DistanceFails v k base i j
+  next_weight : positive (at v.w i) ≡ true → positive (at v.w j) ≡ false → DistanceFails v k base i j
   itself : positive (at v.w i) ≡ true → positive (at v.w j) ≡ true → finite (distance v k base i j) ≡ false → DistanceFails v k base i j
 
 abbrev pub DistancesFail : Type 0

@@ -1,8 +1,8 @@
 // The float entry: a run, and the distances at a holding from the vector that it gives.
 ghost use Rattle.std.specs.Prelude.{◌≡◌, true, ◌≤◌, nat_abs};
-ghost use Rattle.vector.specs.Run.{boundOk, run};
-ghost use Rattle.elementary.specs.Checks.{firstFailing, checkOf};
-ghost use Rattle.distances.specs.FloatEntry.{refusedEntry, withVector, answerBy, floatsOk, entryChecks};
+ghost use Rattle.vector.specs.Run.{bound_ok, run};
+ghost use Rattle.elementary.specs.Checks.{first_failing, check_of};
+ghost use Rattle.distances.specs.FloatEntry.{refused_entry, with_vector, answer_by, floats_ok, entry_checks};
 
 use crate::refusals::HOLDING;
 use crate::{Answer, FloatAnswer, Sides};
@@ -11,7 +11,7 @@ use vector::{Outcome, RunInput, ValueVector};
 
 // Whether the numbers of a call pass: refused by 5, then 1, then 4.
 pub(crate) fn check_entry(k: f64, base: f64, input: RunInput, q: i64) -> Check
-    ensures { result ≡ checkOf (firstFailing (entryChecks k base input q)) }
+    ensures { result ≡ check_of (first_failing (entry_checks k base input q)) }
 {
     if crate::places::scale_fits(k, base) {
         match vector::check_input(input) {
@@ -30,7 +30,7 @@ pub(crate) fn check_entry(k: f64, base: f64, input: RunInput, q: i64) -> Check
 
 // A refusal, by its number, with the blank vector.
 pub(crate) fn refused_entry(number: u8) -> FloatAnswer
-    ensures { result ≡ refusedEntry number }
+    ensures { result ≡ refused_entry number }
 {
     let a = vector::refused_vector(number);
     let vector = a.vector;
@@ -42,7 +42,7 @@ pub(crate) fn refused_entry(number: u8) -> FloatAnswer
 
 // The distances with the vector and the steps that gave them: under a refusal, the blank vector.
 fn with_vector(vector: ValueVector, steps: u32, sides: Sides) -> FloatAnswer
-    ensures { result ≡ withVector vector steps sides }
+    ensures { result ≡ with_vector vector steps sides }
 {
     match sides {
         Sides::Distances(bid, ask) => FloatAnswer {
@@ -55,8 +55,8 @@ fn with_vector(vector: ValueVector, steps: u32, sides: Sides) -> FloatAnswer
 
 // The answer where the numbers pass the checks.
 pub(crate) fn entry_within(k: f64, base: f64, input: RunInput, q: i64) -> FloatAnswer
-    requires { (floatsOk k base input ≡ true) × (boundOk input.bound ≡ true) × (nat_abs q ≤ input.bound) }
-    ensures { result ≡ answerBy input.bound k base q (run input) }
+    requires { (floats_ok k base input ≡ true) × (bound_ok input.bound ≡ true) × (nat_abs q ≤ input.bound) }
+    ensures { result ≡ answer_by input.bound k base q (run input) }
 {
     let a = vector::value_vector(input);
     let outcome = a.outcome;

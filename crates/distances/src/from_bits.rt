@@ -2,7 +2,7 @@
 ghost use Rattle.std.specs.Prelude.{◌≡◌, ℕ, suc, ◌<◌, ltb};
 ghost use Rattle.operator.specs.Vectors.{at};
 ghost use Rattle.vector.specs.declared.Outcome.TheVariants as Outcome;
-ghost use Rattle.distances.specs.Distances.{lent, distance, bidAt, askAt, exactAt};
+ghost use Rattle.distances.specs.Distances.{lent, distance, bid_at, ask_at, exact_at};
 ghost use Rattle.distances.specs.Reading.{floats, read_by};
 
 use crate::{Answer, Distance, Sides};
@@ -35,7 +35,7 @@ fn distance_at<'a>(w: &'a [u64], o: &'a [u64], i: usize, j: usize, k: f64, base:
 // The bid's distance at place i of n, one place up.
 fn bid_at<'a>(w: &'a [u64], o: &'a [u64], n: usize, k: f64, base: f64, i: usize) -> Distance
     requires { i < n }
-    ensures { result ≡ bidAt (ltb (suc i) n) (lent n (floats w.now) (floats o.now)) k base i }
+    ensures { result ≡ bid_at (ltb (suc i) n) (lent n (floats w.now) (floats o.now)) k base i }
 {
     let up = i + 1;
     if up < n {
@@ -46,7 +46,7 @@ fn bid_at<'a>(w: &'a [u64], o: &'a [u64], n: usize, k: f64, base: f64, i: usize)
 
 // The ask's distance at place i, one place down, whatever the length n.
 fn ask_at<'a>(w: &'a [u64], o: &'a [u64], k: f64, base: f64, i: usize) -> Distance
-    ensures { (n : ℕ) → result ≡ askAt (lent n (floats w.now) (floats o.now)) k base i }
+    ensures { (n : ℕ) → result ≡ ask_at (lent n (floats w.now) (floats o.now)) k base i }
 {
     if 0 < i {
         let down = i - 1;
@@ -58,7 +58,7 @@ fn ask_at<'a>(w: &'a [u64], o: &'a [u64], k: f64, base: f64, i: usize) -> Distan
 // The distances at place i of n.
 fn sides_at<'a>(w: &'a [u64], o: &'a [u64], n: usize, k: f64, base: f64, i: usize) -> Sides
     requires { i < n }
-    ensures { result ≡ exactAt (lent n (floats w.now) (floats o.now)) k base i }
+    ensures { result ≡ exact_at (lent n (floats w.now) (floats o.now)) k base i }
 {
     crate::places::both(bid_at(w, o, n, k, base, i), ask_at(w, o, k, base, i))
 }

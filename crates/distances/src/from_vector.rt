@@ -1,13 +1,13 @@
 // The answer at a holding from what `value_vector` answered: one vector serves every holding.
 ghost use Rattle.std.specs.Prelude.{◌≡◌};
 ghost use Rattle.distances.specs.Distances.{lent};
-ghost use Rattle.distances.specs.Reading.{sidesWith, read_by, answerFrom};
+ghost use Rattle.distances.specs.Reading.{sides_with, read_by, answer_from};
 
 use crate::{Answer, Sides};
 use vector::{MAX_DIM, Outcome, VectorAnswer};
 
 pub(crate) fn with_steps(sides: Sides, steps: u32) -> Answer
-    ensures { result ≡ sidesWith steps sides }
+    ensures { result ≡ sides_with steps sides }
 {
     match sides {
         Sides::Distances(bid, ask) => Answer::Distances(bid, ask, steps),
@@ -41,7 +41,7 @@ pub fn answer_in<'a>(
 
 // The same from what `value_vector` answered, by value.
 pub fn answer_from(a: VectorAnswer, k: f64, base: f64, q: i64) -> Answer
-    ensures { result ≡ answerFrom a k base q }
+    ensures { result ≡ answer_from a k base q }
 {
     let outcome = a.outcome;
     let vector = a.vector;

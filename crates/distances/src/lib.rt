@@ -7,9 +7,9 @@ mod places;
 pub mod refusals;
 
 ghost use Rattle.std.specs.Prelude.{◌≡◌};
-ghost use Rattle.distances.specs.Distances.{within, fine, exactDistances};
-ghost use Rattle.distances.specs.FloatEntry.{floatEntry};
-ghost use Rattle.distances.specs.Count.{stepCount};
+ghost use Rattle.distances.specs.Distances.{within, fine, exact_distances};
+ghost use Rattle.distances.specs.FloatEntry.{float_entry};
+ghost use Rattle.distances.specs.Count.{step_count};
 
 use elementary::Check;
 pub use from_bits::answer_in_bits;
@@ -66,7 +66,7 @@ pub fn is_fine(d: Distance) -> bool
 
 // The distances at q lots from a vector: refused by 5, then 1, then 4, then 11.
 pub fn exact_distances(vector: ValueVector, k: f64, base: f64, q: i64) -> Sides
-    ensures { result ≡ exactDistances vector k base q }
+    ensures { result ≡ exact_distances vector k base q }
 {
     places::distances_in(&vector.w, &vector.log_offset, vector.n, k, base, q)
 }
@@ -74,7 +74,7 @@ pub fn exact_distances(vector: ValueVector, k: f64, base: f64, q: i64) -> Sides
 // The float entry: the value vector, the steps spent and the distances at q lots, or the cap report.
 // Refused by 5, then 1, then 4, then 11.
 pub fn float_entry(k: f64, base: f64, input: RunInput, q: i64) -> FloatAnswer
-    ensures { result ≡ floatEntry k base input q }
+    ensures { result ≡ float_entry k base input q }
 {
     match entry::check_entry(k, base, input, q) {
         Check::Passes => {}
@@ -88,7 +88,7 @@ pub fn float_entry(k: f64, base: f64, input: RunInput, q: i64) -> FloatAnswer
 // The steps of the first plan of the float entry's run, before anything runs; 0 where no time is left.
 // Refused by 5, then 1, then 4, as the float entry is, then 11.
 pub fn step_count(k: f64, base: f64, input: RunInput, q: i64) -> FirstPlan
-    ensures { result ≡ stepCount k base input q }
+    ensures { result ≡ step_count k base input q }
 {
     match entry::check_entry(k, base, input, q) {
         Check::Passes => vector::first_plan(input),

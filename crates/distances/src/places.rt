@@ -1,9 +1,9 @@
 // The distances at one place of a value vector.
 ghost use Rattle.std.specs.Prelude.{◌≡◌, ◌<◌, ◌≤◌, ◌&&◌, [], nat_abs};
 ghost use Rattle.elementary.specs.Float.{◌⊕◌, ◌⊖◌, ◌⊘◌, positive};
-ghost use Rattle.elementary.specs.Elementary.{LN, orNan};
-ghost use Rattle.elementary.specs.Checks.{firstFailing, checkOf};
-ghost use Rattle.distances.specs.Distances.{lent, lengthOk, place, fine, sides, exactAt, distanceChecks, exactDistances};
+ghost use Rattle.elementary.specs.Elementary.{LN, or_nan};
+ghost use Rattle.elementary.specs.Checks.{first_failing, check_of};
+ghost use Rattle.distances.specs.Distances.{lent, length_ok, place, fine, sides, exact_at, distance_checks, exact_distances};
 
 use crate::refusals::HOLDING;
 use crate::{Distance, Sides};
@@ -20,7 +20,7 @@ pub(crate) fn scale_fits(k: f64, base: f64) -> bool
 
 // Whether a length is 2 * bound + 1 for a bound of 1 to 200.
 pub(crate) fn length_fits(n: usize) -> bool
-    ensures { result ≡ lengthOk n }
+    ensures { result ≡ length_ok n }
 {
     let half = n / 2;
     (1 <= half) & (half <= MAX_INVENTORY_LOTS as usize) & (n % 2 == 1)
@@ -36,7 +36,7 @@ pub(crate) fn place_of(q: i64, bound: u32) -> usize
 
 // ((LN w - LN x) + (o - p)) / k + base, from an entry's weight w and offset o to its neighbour's.
 pub(crate) fn distance_between(w: f64, o: f64, x: f64, p: f64, k: f64, base: f64) -> f64
-    ensures { result ≡ (orNan (LN w) ⊖ orNan (LN x) ⊕ (o ⊖ p)) ⊘ k ⊕ base }
+    ensures { result ≡ (or_nan (LN w) ⊖ or_nan (LN x) ⊕ (o ⊖ p)) ⊘ k ⊕ base }
 {
     let a = elementary::or_nan(elementary::ln(w));
     let b = elementary::or_nan(elementary::ln(x));
@@ -64,7 +64,7 @@ pub(crate) fn sides_in<'a>(
     i: usize,
 ) -> Sides
     requires { (i < n) × (n ≤ 401) }
-    ensures { result ≡ exactAt (lent n w.now o.now) k base i }
+    ensures { result ≡ exact_at (lent n w.now o.now) k base i }
 {
     let v = w[i];
     let a = o[i];
@@ -95,7 +95,7 @@ pub(crate) fn sides_in<'a>(
 
 // Whether distances can be read at q lots of a vector of n entries: refused by 5, then 1, then 4.
 pub(crate) fn check_read(n: usize, k: f64, base: f64, q: i64) -> Check
-    ensures { result ≡ checkOf (firstFailing (distanceChecks (lent n [] []) k base q)) }
+    ensures { result ≡ check_of (first_failing (distance_checks (lent n [] []) k base q)) }
 {
     if scale_fits(k, base) {
         if length_fits(n) {
@@ -118,7 +118,7 @@ pub(crate) fn distances_in<'a>(
     base: f64,
     q: i64,
 ) -> Sides
-    ensures { result ≡ exactDistances (lent n w.now o.now) k base q }
+    ensures { result ≡ exact_distances (lent n w.now o.now) k base q }
 {
     match check_read(n, k, base, q) {
         Check::Passes => sides_in(w, o, n, k, base, place_of(q, (n / 2) as u32)),

@@ -10,26 +10,26 @@ use lib.Ieee.Scale.{overflow}
 use Rattle.elementary.proofs.Count.{size_is}
 
 -- ---- a value that is c units: its bits, and the number that `units` makes
-pub toBits-units : (f : Format) (x : Float) (c : ℕ) → HasValue x false c (2 ^ low f) → to_bits f x ≡ (size c - prec f) * hid f + c / 2 ^ (size c - prec f)
+pub to_bits_units : (f : Format) (x : Float) (c : ℕ) → HasValue x false c (2 ^ low f) → to_bits f x ≡ (size c - prec f) * hid f + c / 2 ^ (size c - prec f)
 unfolding to_bits
-toBits-units f nan c v = absurd v
-toBits-units f (inf s) c v = absurd v
-toBits-units f (fin s m e) c v =
+to_bits_units f nan c v = absurd v
+to_bits_units f (inf s) c v = absurd v
+to_bits_units f (fin s m e) c v =
     let n : m * up e * 2 ^ low f / down e ≡ c = ap (λ (z : ℕ). z / down e) v.1 ∙ mul-div_cancel c (down_pos e) in
     ap (λ (b : Bool). cond b (top f) 0 + (size (m * up e * 2 ^ low f / down e) - prec f) * hid f + m * up e * 2 ^ low f / down e / 2 ^ (size (m * up e * 2 ^ low f / down e) - prec f)) v.0
     ∙ ap (λ (z : ℕ). 0 + (size z - prec f) * hid f + z / 2 ^ (size z - prec f)) n
     ∙ ap (λ (z : ℕ). z + c / 2 ^ (size c - prec f)) (zero-add ((size c - prec f) * hid f))
 
-pub units-odd : (f : Format) (s : Bool) (q k : ℕ) → q * 2 ^ k < overflow f → units f s q k ≡ odd (suc (prec f)) s q k (low f)
+pub units_odd : (f : Format) (s : Bool) (q k : ℕ) → q * 2 ^ k < overflow f → units f s q k ≡ odd (suc (prec f)) s q k (low f)
 unfolding units
-units-odd f s q k h = go (ltb (q * 2 ^ k) (overflow f)) (lt→ltb (q * 2 ^ k) (overflow f) h)
+units_odd f s q k h = go (ltb (q * 2 ^ k) (overflow f)) (lt→ltb (q * 2 ^ k) (overflow f) h)
   where
     go : (b : Bool) → T b → cond b (odd (suc (prec f)) s q k (low f)) (inf s) ≡ odd (suc (prec f)) s q k (low f)
     go true t = refl
     go false t = absurd t
 
-pub units-fits : (f : Format) (s : Bool) (q k : ℕ) → q ≤ 2 ^ prec f → q * 2 ^ k < overflow f → T (fits f (units f s q k))
-units-fits f s q k a h = subst (λ (x : Float). T (fits f x)) (sym (units-odd f s q k h)) (odd-fits f (suc (prec f)) s q k (lt_of_le_of_lt a (pow-lt (le_refl (suc (prec f))))) a h)
+pub units_fits : (f : Format) (s : Bool) (q k : ℕ) → q ≤ 2 ^ prec f → q * 2 ^ k < overflow f → T (fits f (units f s q k))
+units_fits f s q k a h = subst (λ (x : Float). T (fits f x)) (sym (units_odd f s q k h)) (odd-fits f (suc (prec f)) s q k (lt_of_le_of_lt a (pow-lt (le_refl (suc (prec f))))) a h)
 
 -- ---- The bits of q * 2 ^ k units, for a q of h + 1 digits, or the power of two after those.
 -- d is how many digits are dropped.
@@ -76,22 +76,22 @@ pub units_small : (f : Format) (q k : ℕ) → q ≤ 2 ^ prec f → k + 2 ≤ 2 
 units_small f q k b l = lt_of_le_of_lt (mul-le-mul_right (2 ^ k) b) (lt_of_le_of_lt (le_of_eq (sym (pow-add 2 (prec f) k))) (pow-lt (room (prec f) (emax f) k (two f) l)))
 
 written : (f : Format) (q k : ℕ) → hid f ≤ q → q ≤ 2 ^ prec f → q * 2 ^ k < overflow f → to_bits f (units f false q k) ≡ k * hid f + q
-written f q k a b l = toBits-units f (units f false q k) (q * 2 ^ k) (units_val f false q k l) ∙ format f a b
+written f q k a b l = to_bits_units f (units f false q k) (q * 2 ^ k) (units_val f false q k l) ∙ format f a b
   where
     format : (f : Format) → hid f ≤ q → q ≤ 2 ^ prec f → (size (q * 2 ^ k) - prec f) * hid f + q * 2 ^ k / 2 ^ (size (q * 2 ^ k) - prec f) ≡ k * hid f + q
     format binary32 x y = field 23 q k x y
     format binary64 x y = field 52 q k x y
 
 pub bits_of : (f : Format) (q k : ℕ) → hid f ≤ q → q ≤ 2 ^ prec f → q * 2 ^ k < overflow f → of_bits f (k * hid f + q) ≡ units f false q k
-bits_of f q k a b l = ap (λ (x : ℕ). of_bits f x) (sym (written f q k a b l)) ∙ of_bits-to_bits f (units f false q k) (units-fits f false q k b l)
+bits_of f q k a b l = ap (λ (x : ℕ). of_bits f x) (sym (written f q k a b l)) ∙ of_bits-to_bits f (units f false q k) (units_fits f false q k b l)
 
-valued-no-nan : (x : Float) (s : Bool) (a c : ℕ) → HasValue x s a c → T (not (is_nan x))
+valued_no_nan : (x : Float) (s : Bool) (a c : ℕ) → HasValue x s a c → T (not (is_nan x))
 unfolding is_nan
-valued-no-nan nan s a c v = absurd v
-valued-no-nan (inf t) s a c v = tt
-valued-no-nan (fin t m e) s a c v = tt
+valued_no_nan nan s a c v = absurd v
+valued_no_nan (inf t) s a c v = tt
+valued_no_nan (fin t m e) s a c v = tt
 
-pub bits-no-nan : (f : Format) (q k : ℕ) → hid f ≤ q → q ≤ 2 ^ prec f → q * 2 ^ k < overflow f → T (not (nan_bits f (k * hid f + q)))
-bits-no-nan f q k a b l =
+pub bits_no_nan : (f : Format) (q k : ℕ) → hid f ≤ q → q ≤ 2 ^ prec f → q * 2 ^ k < overflow f → T (not (nan_bits f (k * hid f + q)))
+bits_no_nan f q k a b l =
     subst (λ (t : Bool). T (not t)) (ap is_nan (sym (bits_of f q k a b l)) ∙ sym (nan_bits_is f (k * hid f + q)))
-    (valued-no-nan (units f false q k) false (q * 2 ^ k) (2 ^ low f) (units_val f false q k l))
+    (valued_no_nan (units f false q k) false (q * 2 ^ k) (2 ^ low f) (units_val f false q k l))

@@ -17,8 +17,8 @@ use lib.Ieee.Positive.{above}
 use Rattle.elementary.specs.Float.{whole, 1ᶠ}
 
 -- ---- the fractions that a value equals
-pub own-value-f : (s : Bool) (m : ℕ) (e : ℤ) → HasValue (fin s m e) s (m * up e) (down e)
-own-value-f s m e = (refl, refl)
+pub own_value_f : (s : Bool) (m : ℕ) (e : ℤ) → HasValue (fin s m e) s (m * up e) (down e)
+own_value_f s m e = (refl, refl)
 
 -- x / p and y / q are both a / c
 cross : (x p y q a c : ℕ) → 0 < c → x * c ≡ a * p → y * c ≡ a * q → x * q ≡ y * p
@@ -36,21 +36,21 @@ rescale (fin t m e) s a c b d C h v = (
 )
 
 -- ---- a value that the format holds is written in one way: the bits written for it turn on its sign and its size alone
-bits-same : (f : Format) (x y : Float) (s : Bool) (a c : ℕ) → 0 < c → HasValue x s a c → HasValue y s a c → to_bits f x ≡ to_bits f y
+bits_same : (f : Format) (x y : Float) (s : Bool) (a c : ℕ) → 0 < c → HasValue x s a c → HasValue y s a c → to_bits f x ≡ to_bits f y
 unfolding to_bits
-bits-same f nan y s a c C v w = absurd v
-bits-same f (inf t) y s a c C v w = absurd v
-bits-same f (fin t m e) nan s a c C v w = absurd w
-bits-same f (fin t m e) (inf u) s a c C v w = absurd w
-bits-same f (fin t m e) (fin u n g) s a c C v w =
+bits_same f nan y s a c C v w = absurd v
+bits_same f (inf t) y s a c C v w = absurd v
+bits_same f (fin t m e) nan s a c C v w = absurd w
+bits_same f (fin t m e) (inf u) s a c C v w = absurd w
+bits_same f (fin t m e) (fin u n g) s a c C v w =
     let l = 2 ^ low f in
     let h : m * up e * l * down g ≡ n * up g * l * down e =
     mul_right_comm (m * up e) l (down g) ∙ ap (λ (z : ℕ). z * l) (cross (m * up e) (down e) (n * up g) (down g) a c C v.1 w.1) ∙ mul_right_comm (n * up g) (down e) l in
     let k : m * up e * l / down e ≡ n * up g * l / down g = div_same (m * up e * l) (down e) (n * up g * l) (down g) (down_pos e) (down_pos g) h in
     λ i. cond ((v.0 ∙ sym w.0) i) (top f) 0 + (size (k i) - prec f) * hid f + k i / 2 ^ (size (k i) - prec f)
 
-pub value-unique : (f : Format) (x y : Float) (s : Bool) (a c : ℕ) → 0 < c → T (fits f x) → T (fits f y) → HasValue x s a c → HasValue y s a c → x ≡ y
-value-unique f x y s a c C p q v w = sym (of_bits-to_bits f x p) ∙ ap (λ (b : ℕ). of_bits f b) (bits-same f x y s a c C v w) ∙ of_bits-to_bits f y q
+pub value_unique : (f : Format) (x y : Float) (s : Bool) (a c : ℕ) → 0 < c → T (fits f x) → T (fits f y) → HasValue x s a c → HasValue y s a c → x ≡ y
+value_unique f x y s a c C p q v w = sym (of_bits-to_bits f x p) ∙ ap (λ (b : ℕ). of_bits f b) (bits_same f x y s a c C v w) ∙ of_bits-to_bits f y q
 
 -- ---- what `fits` says of a finite value, a zero included
 pub record Held (f : Format) (m : ℕ) (e : ℤ) : Type 0 where
@@ -85,15 +85,15 @@ shift : (l : ℕ) (e : ℤ) → down e ≤ 2 ^ l → (j : ℕ) × (up e * 2 ^ l 
 shift l (pos k) h = (k + l, sym (pow-add 2 k l) ∙ sym (mul-one (2 ^ (k + l))))
 shift l (negsuc k) h = (l - suc k, one-mul (2 ^ l) ∙ ap (λ (z : ℕ). 2 ^ z) (sym (back l (suc k) (pow_le_back (suc k) l h))) ∙ pow-add 2 (l - suc k) (suc k))
 
-pub round-value : (f : Format) (x : Float) (s : Bool) (a c : ℕ) → 0 < c → T (fits f x) → HasValue x s a c → round f s a c ≡ x
-round-value f nan s a c C t v = absurd v
-round-value f (inf u) s a c C t v = absurd v
-round-value f (fin u m e) s a c C t v =
+pub round_value : (f : Format) (x : Float) (s : Bool) (a c : ℕ) → 0 < c → T (fits f x) → HasValue x s a c → round f s a c ≡ x
+round_value f nan s a c C t v = absurd v
+round_value f (inf u) s a c C t v = absurd v
+round_value f (fin u m e) s a c C t v =
     let h = held f u m e t in
     let l = 2 ^ low f in
     let k = shift (low f) e h.least in
     let units : m * up e * l ≡ m * 2 ^ k.0 * down e = mul_assoc m (up e) l ∙ ap (λ (z : ℕ). m * z) k.1 ∙ sym (mul_assoc m (2 ^ k.0) (down e)) in
-    value-unique f (round f s a c) (fin u m e) s a c C (round-fits f s a c) t
+    value_unique f (round f s a c) (fin u m e) s a c C (round-fits f s a c) t
     (round_exact f s a c m k.0 C h.digits
     (lt_of_mul-lt-mul_right (down e)
     (subst (λ (z : ℕ). z < 2 ^ (low f + suc (emax f)) * down e) units
@@ -115,18 +115,18 @@ same_test true false h k = absurd (h tt)
 same_test false true h k = absurd (k tt)
 same_test false false h k = refl
 
-ltb-lift : (a b c a' b' c' : ℕ) → 0 < c' → a * c' ≡ a' * c → b * c' ≡ b' * c → T (ltb a b) → T (ltb a' b')
-ltb-lift a b c a' b' c' C h k t =
+ltb_lift : (a b c a' b' c' : ℕ) → 0 < c' → a * c' ≡ a' * c → b * c' ≡ b' * c → T (ltb a b) → T (ltb a' b')
+ltb_lift a b c a' b' c' C h k t =
     lt→ltb a' b' (lt_of_mul-lt-mul_right c (subst (λ (z : ℕ). z < b' * c) h (subst (λ (z : ℕ). a * c' < z) k (mul-lt-mul_of_pos_right (ltb→lt a b t) C))))
 
-pub ltb-same : (a b c a' b' c' : ℕ) → 0 < c → 0 < c' → a * c' ≡ a' * c → b * c' ≡ b' * c → ltb a b ≡ ltb a' b'
-ltb-same a b c a' b' c' C C' h k = same_test (ltb a b) (ltb a' b') (ltb-lift a b c a' b' c' C' h k) (ltb-lift a' b' c' a b c C (sym h) (sym k))
+pub ltb_same : (a b c a' b' c' : ℕ) → 0 < c → 0 < c' → a * c' ≡ a' * c → b * c' ≡ b' * c → ltb a b ≡ ltb a' b'
+ltb_same a b c a' b' c' C C' h k = same_test (ltb a b) (ltb a' b') (ltb_lift a b c a' b' c' C' h k) (ltb_lift a' b' c' a b c C (sym h) (sym k))
 
-sub-mul : (a b c : ℕ) → (a - b) * c ≡ a * c - b * c
-sub-mul a b c = mul_comm (a - b) c ∙ mul-sub c a b ∙ (λ i. mul_comm c a i - mul_comm c b i)
+sub_mul : (a b c : ℕ) → (a - b) * c ≡ a * c - b * c
+sub_mul a b c = mul_comm (a - b) c ∙ mul-sub c a b ∙ (λ i. mul_comm c a i - mul_comm c b i)
 
-less-same : (a b c a' b' c' : ℕ) → a * c' ≡ a' * c → b * c' ≡ b' * c → (a - b) * c' ≡ (a' - b') * c
-less-same a b c a' b' c' h k = sub-mul a b c' ∙ (λ i. h i - k i) ∙ sym (sub-mul a' b' c)
+less_same : (a b c a' b' c' : ℕ) → a * c' ≡ a' * c → b * c' ≡ b' * c → (a - b) * c' ≡ (a' - b') * c
+less_same a b c a' b' c' h k = sub_mul a b c' ∙ (λ i. h i - k i) ∙ sym (sub_mul a' b' c)
 
 sum_same : (f : Format) (s : Bool) (a : ℕ) (t : Bool) (b c a' b' c' : ℕ) → 0 < c → 0 < c' → a * c' ≡ a' * c → b * c' ≡ b' * c → sum f s a t b c ≡ sum f s a' t b' c'
 unfolding sum
@@ -134,17 +134,17 @@ sum_same f s a t b c a' b' c' C C' h k =
     let same : (u : Bool) (x y : ℕ) → x * c' ≡ y * c → round f u x c ≡ round f u y c' = λ u x y e. round_same f u x c y c' C C' e in
     λ i.
     cond (beq s t) (same s (a + b) (a' + b') (add-mul a b c' ∙ (λ j. h j + k j) ∙ sym (add-mul a' b' c)) i)
-    (cond (ltb-same a b c a' b' c' C C' h k i) (same t (b - a) (b' - a') (less-same b a c b' a' c' k h) i)
-    ((ap (λ (u : Bool). round f (s && u) (a - b) c) (ltb-same b a c b' a' c' C C' k h) ∙ same (s && ltb b' a') (a - b) (a' - b') (less-same a b c a' b' c' h k)) i))
+    (cond (ltb_same a b c a' b' c' C C' h k i) (same t (b - a) (b' - a') (less_same b a c b' a' c' k h) i)
+    ((ap (λ (u : Bool). round f (s && u) (a - b) c) (ltb_same b a c b' a' c' C C' k h) ∙ same (s && ltb b' a') (a - b) (a' - b') (less_same a b c a' b' c' h k)) i))
 
 -- over a common denominator
-pub add-over : (f : Format) (x y : Float) (s : Bool) (a : ℕ) (t : Bool) (b c : ℕ) → 0 < c → HasValue x s a c → HasValue y t b c → add f x y ≡ sum f s a t b c
+pub add_over : (f : Format) (x y : Float) (s : Bool) (a : ℕ) (t : Bool) (b c : ℕ) → 0 < c → HasValue x s a c → HasValue y t b c → add f x y ≡ sum f s a t b c
 unfolding add
-add-over f nan y s a t b c C v w = absurd v
-add-over f (inf u) y s a t b c C v w = absurd v
-add-over f (fin u m e) nan s a t b c C v w = absurd w
-add-over f (fin u m e) (inf q) s a t b c C v w = absurd w
-add-over f (fin u m e) (fin q n g) s a t b c C v w =
+add_over f nan y s a t b c C v w = absurd v
+add_over f (inf u) y s a t b c C v w = absurd v
+add_over f (fin u m e) nan s a t b c C v w = absurd w
+add_over f (fin u m e) (inf q) s a t b c C v w = absurd w
+add_over f (fin u m e) (fin q n g) s a t b c C v w =
     (λ i. sum f (v.0 i) (m * up e * down g) (w.0 i) (n * up g * down e) (down e * down g))
     ∙ sum_same f s (m * up e * down g) t (n * up g * down e) (down e * down g) a b c (mul-pos (down_pos e) (down_pos g)) C
     (mul_right_comm (m * up e) (down g) c ∙ ap (λ (z : ℕ). z * down g) v.1 ∙ mul_assoc a (down e) (down g))
@@ -156,17 +156,17 @@ neg_value nan s a c v = v
 neg_value (inf t) s a c v = v
 neg_value (fin t m e) s a c v = (ap not v.0, v.1)
 
-pub sub-over : (f : Format) (x y : Float) (s : Bool) (a : ℕ) (t : Bool) (b c : ℕ) → 0 < c → HasValue x s a c → HasValue y t b c → sub f x y ≡ sum f s a (not t) b c
+pub sub_over : (f : Format) (x y : Float) (s : Bool) (a : ℕ) (t : Bool) (b c : ℕ) → 0 < c → HasValue x s a c → HasValue y t b c → sub f x y ≡ sum f s a (not t) b c
 unfolding sub
-sub-over f x y s a t b c C v w = add-over f x (neg y) s a (not t) b c C v (neg_value y t b c w)
+sub_over f x y s a t b c C v w = add_over f x (neg y) s a (not t) b c C v (neg_value y t b c w)
 
-pub mul-over : (f : Format) (x y : Float) (s : Bool) (a c : ℕ) (t : Bool) (b d : ℕ) → 0 < c → 0 < d → HasValue x s a c → HasValue y t b d → mul f x y ≡ round f (unlike s t) (a * b) (c * d)
+pub mul_over : (f : Format) (x y : Float) (s : Bool) (a c : ℕ) (t : Bool) (b d : ℕ) → 0 < c → 0 < d → HasValue x s a c → HasValue y t b d → mul f x y ≡ round f (unlike s t) (a * b) (c * d)
 unfolding mul
-mul-over f nan y s a c t b d C D v w = absurd v
-mul-over f (inf u) y s a c t b d C D v w = absurd v
-mul-over f (fin u m e) nan s a c t b d C D v w = absurd w
-mul-over f (fin u m e) (inf q) s a c t b d C D v w = absurd w
-mul-over f (fin u m e) (fin q n g) s a c t b d C D v w =
+mul_over f nan y s a c t b d C D v w = absurd v
+mul_over f (inf u) y s a c t b d C D v w = absurd v
+mul_over f (fin u m e) nan s a c t b d C D v w = absurd w
+mul_over f (fin u m e) (inf q) s a c t b d C D v w = absurd w
+mul_over f (fin u m e) (fin q n g) s a c t b d C D v w =
     (λ i. round f (unlike (v.0 i) (w.0 i)) (m * up e * (n * up g)) (down e * down g))
     ∙ round_same f (unlike s t) (m * up e * (n * up g)) (down e * down g) (a * b) (c * d) (mul-pos (down_pos e) (down_pos g)) (mul-pos C D)
     (mul-mul-mul_comm (m * up e) (n * up g) c d ∙ (λ i. v.1 i * w.1 i) ∙ mul-mul-mul_comm a (down e) b (down g))
@@ -186,35 +186,35 @@ minus_is a (suc b) = go (leb (suc b) a) (ltb a (suc b)) (leb→le (suc b) a) (lt
     go false true h k h' k' = refl
     go false false h k h' k' = absurd (not-le_of_lt (h' tt) (k' tt))
 
-pub minus-zero : (n : ℕ) → neg_ℤ (pos n) ≡ minus 0 n
-minus-zero n = sym (minus_is 0 n ∙ +ℤ_idl (neg_ℤ (pos n)))
+pub minus_zero_lem : (n : ℕ) → neg_ℤ (pos n) ≡ minus 0 n
+minus_zero_lem n = sym (minus_is 0 n ∙ +ℤ_idl (neg_ℤ (pos n)))
 
-pub minus-suc : (z l : ℕ) → minus z l +ℤ pos 1 ≡ minus (suc z) l
-minus-suc z l = +ℤ_one (minus z l) ∙ ap suc_ℤ (minus_is z l) ∙ sym (suc_ℤ-+ℤ (pos z) (neg_ℤ (pos l))) ∙ sym (minus_is (suc z) l)
+pub minus_suc : (z l : ℕ) → minus z l +ℤ pos 1 ≡ minus (suc z) l
+minus_suc z l = +ℤ_one (minus z l) ∙ ap suc_ℤ (minus_is z l) ∙ sym (suc_ℤ-+ℤ (pos z) (neg_ℤ (pos l))) ∙ sym (minus_is (suc z) l)
 
 -- ---- whole numbers up to 2 ^ prec are exact as floats, so what an operation makes of two of them is its whole result, rounded
 abbrev pub negative : ℤ → Bool
 negative (pos n) = false
 negative (negsuc n) = true
 
-pub whole-value : (f : Format) (z : ℤ) → nat_abs z ≤ 2 ^ prec f → HasValue (of_int f z) (negative z) (nat_abs z) 1
+pub whole_value : (f : Format) (z : ℤ) → nat_abs z ≤ 2 ^ prec f → HasValue (of_int f z) (negative z) (nat_abs z) 1
 unfolding of_int
-whole-value f (pos n) h = round_whole f false n h
-whole-value f (negsuc n) h = round_whole f true (suc n) h
+whole_value f (pos n) h = round_whole f false n h
+whole_value f (negsuc n) h = round_whole f true (suc n) h
 
 -- by the tests of `sum` and of `sub_ℕ`
-less-at : (f : Format) (a b : ℕ) (p : Bool) → (T p → a < b) → cond p (round f true (b - a) 1) (round f false (a - b) 1) ≡ of_int f (cond p (negsuc (b - suc a)) (pos (a - b)))
+less_at : (f : Format) (a b : ℕ) (p : Bool) → (T p → a < b) → cond p (round f true (b - a) 1) (round f false (a - b) 1) ≡ of_int f (cond p (negsuc (b - suc a)) (pos (a - b)))
 unfolding of_int
-less-at f a b true h = ap (λ (n : ℕ). round f true n 1) (one_less a b (h tt))
-less-at f a b false h = refl
+less_at f a b true h = ap (λ (n : ℕ). round f true n 1) (one_less a b (h tt))
+less_at f a b false h = refl
 
-more-at : (f : Format) (a b : ℕ) (p q : Bool) → (T p → a < b) → (T q → b < a) → (T (not p) → b ≤ a) → (T (not q) → a ≤ b)
+more_at : (f : Format) (a b : ℕ) (p q : Bool) → (T p → a < b) → (T q → b < a) → (T (not p) → b ≤ a) → (T (not q) → a ≤ b)
     → cond p (round f false (b - a) 1) (round f q (a - b) 1) ≡ of_int f (cond q (negsuc (a - suc b)) (pos (b - a)))
 unfolding of_int
-more-at f a b true true h k h' k' = absurd (not-le_of_lt (h tt) (le_of_lt (k tt)))
-more-at f a b true false h k h' k' = refl
-more-at f a b false true h k h' k' = ap (λ (n : ℕ). round f true n 1) (one_less b a (k tt))
-more-at f a b false false h k h' k' = ap (λ (n : ℕ). round f false n 1) (none (h' tt) (k' tt))
+more_at f a b true true h k h' k' = absurd (not-le_of_lt (h tt) (le_of_lt (k tt)))
+more_at f a b true false h k h' k' = refl
+more_at f a b false true h k h' k' = ap (λ (n : ℕ). round f true n 1) (one_less b a (k tt))
+more_at f a b false false h k h' k' = ap (λ (n : ℕ). round f false n 1) (none (h' tt) (k' tt))
   where
     none : b ≤ a → a ≤ b → a - b ≡ b - a
     none x y = omega arith
@@ -222,72 +222,72 @@ more-at f a b false false h k h' k' = ap (λ (n : ℕ). round f false n 1) (none
 whole_sum : (f : Format) (y z : ℤ) → sum f (negative y) (nat_abs y) (negative z) (nat_abs z) 1 ≡ of_int f (y +ℤ z)
 unfolding sum of_int
 whole_sum f (pos a) (pos b) = refl
-whole_sum f (pos a) (negsuc b) = less-at f a (suc b) (ltb a (suc b)) (ltb→lt a (suc b))
-whole_sum f (negsuc a) (pos b) = more-at f (suc a) b (ltb (suc a) b) (ltb b (suc a)) (ltb→lt (suc a) b) (ltb→lt b (suc a)) (nltb→le (suc a) b) (nltb→le b (suc a))
+whole_sum f (pos a) (negsuc b) = less_at f a (suc b) (ltb a (suc b)) (ltb→lt a (suc b))
+whole_sum f (negsuc a) (pos b) = more_at f (suc a) b (ltb (suc a) b) (ltb b (suc a)) (ltb→lt (suc a) b) (ltb→lt b (suc a)) (nltb→le (suc a) b) (nltb→le b (suc a))
 whole_sum f (negsuc a) (negsuc b) = ap (λ (n : ℕ). round f true n 1) (suc-add a (suc b) ∙ ap suc (add-suc a b))
 
-whole-less : (f : Format) (y z : ℤ) → sum f (negative y) (nat_abs y) (not (negative z)) (nat_abs z) 1 ≡ of_int f (y -ℤ z)
+whole_less : (f : Format) (y z : ℤ) → sum f (negative y) (nat_abs y) (not (negative z)) (nat_abs z) 1 ≡ of_int f (y -ℤ z)
 unfolding sum of_int
-whole-less f (pos a) (pos zero) =
+whole_less f (pos a) (pos zero) =
     ap (λ (p : Bool). cond p (round f true (0 - a) 1) (round f false (a - 0) 1)) (leb-suc-zero a) ∙ ap (λ (n : ℕ). round f false n 1) (sub-zero a ∙ sym (add-zero a))
-whole-less f (negsuc a) (pos zero) = ap (λ (n : ℕ). round f true n 1) (add-zero (suc a)) ∙ ap (λ (z : ℤ). of_int f z) (sym (+ℤ_idr (negsuc a)))
-whole-less f y (pos (suc b)) = whole_sum f y (negsuc b)
-whole-less f y (negsuc b) = whole_sum f y (pos (suc b))
+whole_less f (negsuc a) (pos zero) = ap (λ (n : ℕ). round f true n 1) (add-zero (suc a)) ∙ ap (λ (z : ℤ). of_int f z) (sym (+ℤ_idr (negsuc a)))
+whole_less f y (pos (suc b)) = whole_sum f y (negsuc b)
+whole_less f y (negsuc b) = whole_sum f y (pos (suc b))
 
-pub add-ints : (f : Format) (y z : ℤ) → nat_abs y ≤ 2 ^ prec f → nat_abs z ≤ 2 ^ prec f → add f (of_int f y) (of_int f z) ≡ of_int f (y +ℤ z)
-add-ints f y z h k =
-    add-over f (of_int f y) (of_int f z) (negative y) (nat_abs y) (negative z) (nat_abs z) 1 (zero-lt-suc 0) (whole-value f y h) (whole-value f z k) ∙ whole_sum f y z
+pub add_ints : (f : Format) (y z : ℤ) → nat_abs y ≤ 2 ^ prec f → nat_abs z ≤ 2 ^ prec f → add f (of_int f y) (of_int f z) ≡ of_int f (y +ℤ z)
+add_ints f y z h k =
+    add_over f (of_int f y) (of_int f z) (negative y) (nat_abs y) (negative z) (nat_abs z) 1 (zero-lt-suc 0) (whole_value f y h) (whole_value f z k) ∙ whole_sum f y z
 
-pub sub-ints : (f : Format) (y z : ℤ) → nat_abs y ≤ 2 ^ prec f → nat_abs z ≤ 2 ^ prec f → sub f (of_int f y) (of_int f z) ≡ of_int f (y -ℤ z)
-sub-ints f y z h k =
-    sub-over f (of_int f y) (of_int f z) (negative y) (nat_abs y) (negative z) (nat_abs z) 1 (zero-lt-suc 0) (whole-value f y h) (whole-value f z k) ∙ whole-less f y z
+pub sub_ints : (f : Format) (y z : ℤ) → nat_abs y ≤ 2 ^ prec f → nat_abs z ≤ 2 ^ prec f → sub f (of_int f y) (of_int f z) ≡ of_int f (y -ℤ z)
+sub_ints f y z h k =
+    sub_over f (of_int f y) (of_int f z) (negative y) (nat_abs y) (negative z) (nat_abs z) 1 (zero-lt-suc 0) (whole_value f y h) (whole_value f z k) ∙ whole_less f y z
 
 -- the natural numbers among them
-pub add-whole : (f : Format) (a b : ℕ) → a + b ≤ 2 ^ prec f → add f (of_int f (pos a)) (of_int f (pos b)) ≡ of_int f (pos (a + b))
-add-whole f a b h = add-ints f (pos a) (pos b) (le_trans (le-add_right a b) h) (le_trans (le-add_left b a) h)
+pub add_whole : (f : Format) (a b : ℕ) → a + b ≤ 2 ^ prec f → add f (of_int f (pos a)) (of_int f (pos b)) ≡ of_int f (pos (a + b))
+add_whole f a b h = add_ints f (pos a) (pos b) (le_trans (le-add_right a b) h) (le_trans (le-add_left b a) h)
 
-pub sub-whole : (f : Format) (a b : ℕ) → a ≤ 2 ^ prec f → b ≤ 2 ^ prec f → sub f (of_int f (pos a)) (of_int f (pos b)) ≡ of_int f (minus a b)
-sub-whole f a b h k = sub-ints f (pos a) (pos b) h k ∙ ap (λ (z : ℤ). of_int f z) (sym (minus_is a b))
+pub sub_whole : (f : Format) (a b : ℕ) → a ≤ 2 ^ prec f → b ≤ 2 ^ prec f → sub f (of_int f (pos a)) (of_int f (pos b)) ≡ of_int f (minus a b)
+sub_whole f a b h k = sub_ints f (pos a) (pos b) h k ∙ ap (λ (z : ℤ). of_int f z) (sym (minus_is a b))
 
-pub mul-whole : (f : Format) (a b : ℕ) → a ≤ 2 ^ prec f → b ≤ 2 ^ prec f → mul f (of_int f (pos a)) (of_int f (pos b)) ≡ of_int f (pos (a * b))
+pub mul_whole : (f : Format) (a b : ℕ) → a ≤ 2 ^ prec f → b ≤ 2 ^ prec f → mul f (of_int f (pos a)) (of_int f (pos b)) ≡ of_int f (pos (a * b))
 unfolding of_int
-mul-whole f a b h k = mul-over f (of_int f (pos a)) (of_int f (pos b)) false a 1 false b 1 (zero-lt-suc 0) (zero-lt-suc 0) (whole-value f (pos a) h) (whole-value f (pos b) k)
+mul_whole f a b h k = mul_over f (of_int f (pos a)) (of_int f (pos b)) false a 1 false b 1 (zero-lt-suc 0) (zero-lt-suc 0) (whole_value f (pos a) h) (whole_value f (pos b) k)
 
 -- a product with an a above 0, since 0 times a number below 0 is -0
-below-zero : (f : Format) (n : ℕ) → 0 < n → round f true n 1 ≡ of_int f (neg_ℤ (pos n))
+below_zero : (f : Format) (n : ℕ) → 0 < n → round f true n 1 ≡ of_int f (neg_ℤ (pos n))
 unfolding of_int
-below-zero f zero h = absurd (lt_irrefl 0 h)
-below-zero f (suc n) h = refl
+below_zero f zero h = absurd (lt_irrefl 0 h)
+below_zero f (suc n) h = refl
 
-pub mul-int : (f : Format) (a : ℕ) (z : ℤ) → 0 < a → a ≤ 2 ^ prec f → nat_abs z ≤ 2 ^ prec f → mul f (of_int f (pos a)) (of_int f z) ≡ of_int f (pos a *ℤ z)
-mul-int f a (pos b) A h k = mul-whole f a b h k
-mul-int f a (negsuc b) A h k =
-    mul-over f (of_int f (pos a)) (of_int f (negsuc b)) false a 1 true (suc b) 1 (zero-lt-suc 0) (zero-lt-suc 0) (whole-value f (pos a) h) (whole-value f (negsuc b) k)
-    ∙ below-zero f (a * suc b) (mul-pos A (zero-lt-suc b))
+pub mul_int : (f : Format) (a : ℕ) (z : ℤ) → 0 < a → a ≤ 2 ^ prec f → nat_abs z ≤ 2 ^ prec f → mul f (of_int f (pos a)) (of_int f z) ≡ of_int f (pos a *ℤ z)
+mul_int f a (pos b) A h k = mul_whole f a b h k
+mul_int f a (negsuc b) A h k =
+    mul_over f (of_int f (pos a)) (of_int f (negsuc b)) false a 1 true (suc b) 1 (zero-lt-suc 0) (zero-lt-suc 0) (whole_value f (pos a) h) (whole_value f (negsuc b) k)
+    ∙ below_zero f (a * suc b) (mul-pos A (zero-lt-suc b))
 
 -- ---- the odd numbers 2 q + 1 and 2 q - 1
-size-neg : (n : ℕ) → nat_abs (neg_ℤ (pos n)) ≡ n
-size-neg zero = refl
-size-neg (suc n) = refl
+size_neg : (n : ℕ) → nat_abs (neg_ℤ (pos n)) ≡ n
+size_neg zero = refl
+size_neg (suc n) = refl
 
-size-twice : (q : ℤ) → nat_abs (pos 2 *ℤ q) ≡ 2 * nat_abs q
-size-twice (pos n) = refl
-size-twice (negsuc n) = size-neg (2 * suc n)
+size_twice : (q : ℤ) → nat_abs (pos 2 *ℤ q) ≡ 2 * nat_abs q
+size_twice (pos n) = refl
+size_twice (negsuc n) = size_neg (2 * suc n)
 
-half-bound : (n p : ℕ) → 2 * n ≤ p → n ≤ p
-half-bound n p h = omega arith
+half_bound : (n p : ℕ) → 2 * n ≤ p → n ≤ p
+half_bound n p h = omega arith
 
-two-whole : (f : Format) → 2 ≤ 2 ^ prec f
-two-whole f = pow_mono (two-le_pos (prec f) (two f))
+two_whole : (f : Format) → 2 ≤ 2 ^ prec f
+two_whole f = pow_mono (two-le_pos (prec f) (two f))
 
 twice : (f : Format) (q : ℤ) → 2 * nat_abs q ≤ 2 ^ prec f → mul f (of_int f (pos 2)) (of_int f q) ≡ of_int f (pos 2 *ℤ q)
-twice f q h = mul-int f 2 q (zero-lt-suc 1) (two-whole f) (half-bound (nat_abs q) (2 ^ prec f) h)
+twice f q h = mul_int f 2 q (zero-lt-suc 1) (two_whole f) (half_bound (nat_abs q) (2 ^ prec f) h)
 
-pub twice-and-one : (f : Format) (q : ℤ) → 2 * nat_abs q ≤ 2 ^ prec f → add f (mul f (of_int f (pos 2)) (of_int f q)) (of_int f (pos 1)) ≡ of_int f (pos 2 *ℤ q +ℤ pos 1)
-twice-and-one f q h = ap (λ (x : Float). add f x (of_int f (pos 1))) (twice f q h) ∙ add-ints f (pos 2 *ℤ q) (pos 1) (le_trans (le_of_eq (size-twice q)) h) (pow_pos (prec f))
+pub twice_and_one : (f : Format) (q : ℤ) → 2 * nat_abs q ≤ 2 ^ prec f → add f (mul f (of_int f (pos 2)) (of_int f q)) (of_int f (pos 1)) ≡ of_int f (pos 2 *ℤ q +ℤ pos 1)
+twice_and_one f q h = ap (λ (x : Float). add f x (of_int f (pos 1))) (twice f q h) ∙ add_ints f (pos 2 *ℤ q) (pos 1) (le_trans (le_of_eq (size_twice q)) h) (pow_pos (prec f))
 
-pub twice-less-one : (f : Format) (q : ℤ) → 2 * nat_abs q ≤ 2 ^ prec f → sub f (mul f (of_int f (pos 2)) (of_int f q)) (of_int f (pos 1)) ≡ of_int f (pos 2 *ℤ q -ℤ pos 1)
-twice-less-one f q h = ap (λ (x : Float). sub f x (of_int f (pos 1))) (twice f q h) ∙ sub-ints f (pos 2 *ℤ q) (pos 1) (le_trans (le_of_eq (size-twice q)) h) (pow_pos (prec f))
+pub twice_less_one : (f : Format) (q : ℤ) → 2 * nat_abs q ≤ 2 ^ prec f → sub f (mul f (of_int f (pos 2)) (of_int f q)) (of_int f (pos 1)) ≡ of_int f (pos 2 *ℤ q -ℤ pos 1)
+twice_less_one f q h = ap (λ (x : Float). sub f x (of_int f (pos 1))) (twice f q h) ∙ sub_ints f (pos 2 *ℤ q) (pos 1) (le_trans (le_of_eq (size_twice q)) h) (pow_pos (prec f))
 
 -- ---- zero and one
 pub zero_is : (f : Format) → of_bits f 0 ≡ fin false 0 (pos 0)
@@ -295,40 +295,40 @@ unfolding of_bits
 zero_is binary32 = refl
 zero_is binary64 = refl
 
-pub one-is : (f : Format) → of_int f (pos 1) ≡ fin false 1 (pos 0)
+pub one_is : (f : Format) → of_int f (pos 1) ≡ fin false 1 (pos 0)
 unfolding of_int
-one-is binary32 = refl
-one-is binary64 = refl
+one_is binary32 = refl
+one_is binary64 = refl
 
 -- by its bits, and as a whole number
-pub one-whole : 1ᶠ ≡ whole (pos 1)
+pub one_whole : 1ᶠ ≡ whole (pos 1)
 unfolding of_bits of_int
-one-whole = refl
+one_whole = refl
 
 -- -0, which +0 added to it turns into +0
-abbrev pub minusZero : Float → Bool
-minusZero nan = false
-minusZero (inf s) = false
-minusZero (fin false m e) = false
-minusZero (fin true m e) = eqb m 0
+abbrev pub minus_zero : Float → Bool
+minus_zero nan = false
+minus_zero (inf s) = false
+minus_zero (fin false m e) = false
+minus_zero (fin true m e) = eqb m 0
 
-pub zero-value : (f : Format) (c : ℕ) → HasValue (of_bits f 0) false 0 c
-zero-value f c = subst (λ (x : Float). HasValue x false 0 c) (sym (zero_is f)) (refl, zero-mul c ∙ sym (zero-mul 1))
+pub zero_value : (f : Format) (c : ℕ) → HasValue (of_bits f 0) false 0 c
+zero_value f c = subst (λ (x : Float). HasValue x false 0 c) (sym (zero_is f)) (refl, zero-mul c ∙ sym (zero-mul 1))
 
-pub round-own : (f : Format) (s : Bool) (m : ℕ) (e : ℤ) → T (fits f (fin s m e)) → round f s (m * up e) (down e) ≡ fin s m e
-round-own f s m e t = round-value f (fin s m e) s (m * up e) (down e) (down_pos e) t (own-value-f s m e)
+pub round_own : (f : Format) (s : Bool) (m : ℕ) (e : ℤ) → T (fits f (fin s m e)) → round f s (m * up e) (down e) ≡ fin s m e
+round_own f s m e t = round_value f (fin s m e) s (m * up e) (down e) (down_pos e) t (own_value_f s m e)
 
 -- n / d with the sign s, and +0 before it or after it, or -0 after it
-zero-sum : (f : Format) (s : Bool) (n d : ℕ) → (T s → 0 < n) → sum f false 0 s n d ≡ round f s n d
+zero_sum : (f : Format) (s : Bool) (n d : ℕ) → (T s → 0 < n) → sum f false 0 s n d ≡ round f s n d
 unfolding sum
-zero-sum f false n d h = ap (λ (z : ℕ). round f false z d) (zero-add n)
-zero-sum f true n d h =
+zero_sum f false n d h = ap (λ (z : ℕ). round f false z d) (zero-add n)
+zero_sum f true n d h =
     ap (λ (p : Bool). cond p (round f true (n - 0) d) (round f false (0 - n) d)) (is_true (ltb 0 n) (lt→ltb 0 n (h tt))) ∙ ap (λ (z : ℕ). round f true z d) (sub-zero n)
 
-pub sum-zero : (f : Format) (s : Bool) (n d : ℕ) → (T s → 0 < n) → sum f s n false 0 d ≡ round f s n d
+pub sum_zero : (f : Format) (s : Bool) (n d : ℕ) → (T s → 0 < n) → sum f s n false 0 d ≡ round f s n d
 unfolding sum
-sum-zero f false n d h = ap (λ (z : ℕ). round f false z d) (add-zero n)
-sum-zero f true n d h =
+sum_zero f false n d h = ap (λ (z : ℕ). round f false z d) (add-zero n)
+sum_zero f true n d h =
     ap (λ (p : Bool). cond p (round f false (0 - n) d) (round f (ltb 0 n) (n - 0) d)) (leb-suc-zero n)
     ∙ ap (λ (p : Bool). round f p (n - 0) d) (is_true (ltb 0 n) (lt→ltb 0 n (h tt)))
     ∙ ap (λ (z : ℕ). round f true z d) (sub-zero n)
@@ -338,55 +338,55 @@ unfolding sum
 less_zero f true n d = ap (λ (z : ℕ). round f true z d) (add-zero n)
 less_zero f false n d = ap (λ (p : Bool). cond p (round f true (0 - n) d) (round f false (n - 0) d)) (leb-suc-zero n) ∙ ap (λ (z : ℕ). round f false z d) (sub-zero n)
 
-some : (s : Bool) (m : ℕ) (e : ℤ) → T (not (minusZero (fin s m e))) → T s → 0 < m * up e
+some : (s : Bool) (m : ℕ) (e : ℤ) → T (not (minus_zero (fin s m e))) → T s → 0 < m * up e
 some false m e n t = absurd t
 some true zero e n t = absurd n
 some true (suc m) e n t = mul-pos (zero-lt-suc m) (up_pos e)
 
-pub zero-add-f : (f : Format) (x : Float) → T (fits f x) → T (not (minusZero x)) → add f (of_bits f 0) x ≡ x
+pub zero_add_f : (f : Format) (x : Float) → T (fits f x) → T (not (minus_zero x)) → add f (of_bits f 0) x ≡ x
 unfolding add
-zero-add-f f nan t n = ap (λ (z : Float). add f z nan) (zero_is f)
-zero-add-f f (inf s) t n = ap (λ (z : Float). add f z (inf s)) (zero_is f)
-zero-add-f f (fin s m e) t n =
-    add-over f (of_bits f 0) (fin s m e) false 0 s (m * up e) (down e) (down_pos e) (zero-value f (down e)) (own-value-f s m e)
-    ∙ zero-sum f s (m * up e) (down e) (some s m e n)
-    ∙ round-own f s m e t
+zero_add_f f nan t n = ap (λ (z : Float). add f z nan) (zero_is f)
+zero_add_f f (inf s) t n = ap (λ (z : Float). add f z (inf s)) (zero_is f)
+zero_add_f f (fin s m e) t n =
+    add_over f (of_bits f 0) (fin s m e) false 0 s (m * up e) (down e) (down_pos e) (zero_value f (down e)) (own_value_f s m e)
+    ∙ zero_sum f s (m * up e) (down e) (some s m e n)
+    ∙ round_own f s m e t
 
-pub add-zero-f : (f : Format) (x : Float) → T (fits f x) → T (not (minusZero x)) → add f x (of_bits f 0) ≡ x
+pub add_zero_f : (f : Format) (x : Float) → T (fits f x) → T (not (minus_zero x)) → add f x (of_bits f 0) ≡ x
 unfolding add
-add-zero-f f nan t n = refl
-add-zero-f f (inf s) t n = ap (λ (z : Float). add f (inf s) z) (zero_is f)
-add-zero-f f (fin s m e) t n =
-    add-over f (fin s m e) (of_bits f 0) s (m * up e) false 0 (down e) (down_pos e) (own-value-f s m e) (zero-value f (down e))
-    ∙ sum-zero f s (m * up e) (down e) (some s m e n)
-    ∙ round-own f s m e t
+add_zero_f f nan t n = refl
+add_zero_f f (inf s) t n = ap (λ (z : Float). add f (inf s) z) (zero_is f)
+add_zero_f f (fin s m e) t n =
+    add_over f (fin s m e) (of_bits f 0) s (m * up e) false 0 (down e) (down_pos e) (own_value_f s m e) (zero_value f (down e))
+    ∙ sum_zero f s (m * up e) (down e) (some s m e n)
+    ∙ round_own f s m e t
 
-pub sub-zero-f : (f : Format) (x : Float) → T (fits f x) → sub f x (of_bits f 0) ≡ x
+pub sub_zero_f : (f : Format) (x : Float) → T (fits f x) → sub f x (of_bits f 0) ≡ x
 unfolding sub
-sub-zero-f f nan t = refl
-sub-zero-f f (inf s) t = ap (λ (z : Float). sub f (inf s) z) (zero_is f)
-sub-zero-f f (fin s m e) t =
-    sub-over f (fin s m e) (of_bits f 0) s (m * up e) false 0 (down e) (down_pos e) (own-value-f s m e) (zero-value f (down e))
+sub_zero_f f nan t = refl
+sub_zero_f f (inf s) t = ap (λ (z : Float). sub f (inf s) z) (zero_is f)
+sub_zero_f f (fin s m e) t =
+    sub_over f (fin s m e) (of_bits f 0) s (m * up e) false 0 (down e) (down_pos e) (own_value_f s m e) (zero_value f (down e))
     ∙ less_zero f s (m * up e) (down e)
-    ∙ round-own f s m e t
+    ∙ round_own f s m e t
 
 like : (s : Bool) → unlike s false ≡ s
 like true = refl
 like false = refl
 
-pub mul-one-f : (f : Format) (x : Float) → T (fits f x) → mul f x (of_int f (pos 1)) ≡ x
+pub mul_one_f : (f : Format) (x : Float) → T (fits f x) → mul f x (of_int f (pos 1)) ≡ x
 unfolding mul
-mul-one-f f nan t = refl
-mul-one-f f (inf s) t = ap (λ (z : Float). mul f (inf s) z) (one-is f) ∙ ap inf (like s)
-mul-one-f f (fin s m e) t =
-    ap (λ (z : Float). mul f (fin s m e) z) (one-is f)
+mul_one_f f nan t = refl
+mul_one_f f (inf s) t = ap (λ (z : Float). mul f (inf s) z) (one_is f) ∙ ap inf (like s)
+mul_one_f f (fin s m e) t =
+    ap (λ (z : Float). mul f (fin s m e) z) (one_is f)
     ∙ (λ i. round f (like s i) (mul-one (m * up e) i) (mul-one (down e) i))
-    ∙ round-own f s m e t
+    ∙ round_own f s m e t
 
 -- what equals one, however it is written
 is_one : (f : Format) (s : Bool) (m : ℕ) (e : ℤ) → eq (fin s m e) (of_int f (pos 1)) ≡ true → HasValue (fin s m e) false 1 1
 unfolding eq
-is_one f s m e h = go s (subst T (sym (ap (eq (fin s m e)) (sym (one-is f)) ∙ h)) tt)
+is_one f s m e h = go s (subst T (sym (ap (eq (fin s m e)) (sym (one_is f)) ∙ h)) tt)
   where
     go : (s : Bool) → T (eqb (m * up e * 1) (1 * 1 * down e) && (beq s false || eqb (m * up e * 1) 0)) → HasValue (fin s m e) false 1 1
     go false t = (refl, eqb→eq (m * up e * 1) (1 * 1 * down e) (and_l (eqb (m * up e * 1) (1 * 1 * down e)) true t))
@@ -395,44 +395,44 @@ is_one f s m e h = go s (subst T (sym (ap (eq (fin s m e)) (sym (one-is f)) ∙ 
         let b : m * up e * 1 ≡ 0 = eqb→eq (m * up e * 1) 0 (and_r (eqb (m * up e * 1) (1 * 1 * down e)) (eqb (m * up e * 1) 0) t) in
         absurd (omega (arith, down_pos e))
 
-unlike-false : (t : Bool) → unlike false t ≡ t
-unlike-false true = refl
-unlike-false false = refl
+unlike_false : (t : Bool) → unlike false t ≡ t
+unlike_false true = refl
+unlike_false false = refl
 
-pub one-mul-f : (f : Format) (x y : Float) → eq x (of_int f (pos 1)) ≡ true → T (fits f y) → mul f x y ≡ y
+pub one_mul_f : (f : Format) (x y : Float) → eq x (of_int f (pos 1)) ≡ true → T (fits f y) → mul f x y ≡ y
 unfolding mul eq
-one-mul-f f nan y h t = absurd (false≢true h)
-one-mul-f f (inf s) y h t = absurd (false≢true (sym (ap (eq (inf s)) (one-is f)) ∙ h))
-one-mul-f f (fin s m e) nan h t = refl
-one-mul-f f (fin s zero e) (inf u) h t = let v = (is_one f s 0 e h).1 in absurd (omega (arith, down_pos e))
-one-mul-f f (fin s (suc m) e) (inf u) h t = ap (λ (b : Bool). cond b nan (inf (unlike s u))) (eqb-suc-zero m) ∙ (λ i. inf (unlike ((is_one f s (suc m) e h).0 i) u)) ∙ ap inf (unlike-false u)
-one-mul-f f (fin s m e) (fin u n d) h t =
-    mul-over f (fin s m e) (fin u n d) false 1 1 u (n * up d) (down d) (omega arith) (down_pos d) (is_one f s m e h) (own-value-f u n d)
-    ∙ (λ i. round f (unlike-false u i) (one-mul (n * up d) i) (one-mul (down d) i))
-    ∙ round-own f u n d t
+one_mul_f f nan y h t = absurd (false≢true h)
+one_mul_f f (inf s) y h t = absurd (false≢true (sym (ap (eq (inf s)) (one_is f)) ∙ h))
+one_mul_f f (fin s m e) nan h t = refl
+one_mul_f f (fin s zero e) (inf u) h t = let v = (is_one f s 0 e h).1 in absurd (omega (arith, down_pos e))
+one_mul_f f (fin s (suc m) e) (inf u) h t = ap (λ (b : Bool). cond b nan (inf (unlike s u))) (eqb-suc-zero m) ∙ (λ i. inf (unlike ((is_one f s (suc m) e h).0 i) u)) ∙ ap inf (unlike_false u)
+one_mul_f f (fin s m e) (fin u n d) h t =
+    mul_over f (fin s m e) (fin u n d) false 1 1 u (n * up d) (down d) (omega arith) (down_pos d) (is_one f s m e h) (own_value_f u n d)
+    ∙ (λ i. round f (unlike_false u i) (one-mul (n * up d) i) (one-mul (down d) i))
+    ∙ round_own f u n d t
 
-pub div-one-f : (f : Format) (x : Float) → T (fits f x) → div f x (of_int f (pos 1)) ≡ x
+pub div_one_f : (f : Format) (x : Float) → T (fits f x) → div f x (of_int f (pos 1)) ≡ x
 unfolding div
-div-one-f f nan t = refl
-div-one-f f (inf s) t = ap (λ (z : Float). div f (inf s) z) (one-is f) ∙ ap inf (like s)
-div-one-f f (fin s m e) t =
-    ap (λ (z : Float). div f (fin s m e) z) (one-is f)
+div_one_f f nan t = refl
+div_one_f f (inf s) t = ap (λ (z : Float). div f (inf s) z) (one_is f) ∙ ap inf (like s)
+div_one_f f (fin s m e) t =
+    ap (λ (z : Float). div f (fin s m e) z) (one_is f)
     ∙ (λ i. round f (like s i) (mul-one (m * up e) i) (one-mul (down e) i))
-    ∙ round-own f s m e t
+    ∙ round_own f s m e t
 
 -- +0 divided by what is above zero, an infinity included
-zero-over : (f : Format) (x : Float) → T (above x) → div f (fin false 0 (pos 0)) x ≡ of_bits f 0
+zero_over : (f : Format) (x : Float) → T (above x) → div f (fin false 0 (pos 0)) x ≡ of_bits f 0
 unfolding div
-zero-over f nan a = absurd a
-zero-over f (inf true) a = absurd a
-zero-over f (inf false) a = sym (zero_is f)
-zero-over f (fin true m e) a = absurd a
-zero-over f (fin false zero e) a = absurd a
-zero-over f (fin false (suc m) e) a =
+zero_over f nan a = absurd a
+zero_over f (inf true) a = absurd a
+zero_over f (inf false) a = sym (zero_is f)
+zero_over f (fin true m e) a = absurd a
+zero_over f (fin false zero e) a = absurd a
+zero_over f (fin false (suc m) e) a =
     let d = suc m * up e * 1 in
     ap (λ (p : Bool). cond p nan (round f false (0 * down e) d)) (eqb-suc-zero m)
     ∙ ap (λ (n : ℕ). round f false n d) (zero-mul (down e))
-    ∙ round-value f (of_bits f 0) false 0 d (mul-pos (mul-pos (zero-lt-suc m) (up_pos e)) (zero-lt-suc 0)) (of_bits-fits f 0) (zero-value f d)
+    ∙ round_value f (of_bits f 0) false 0 d (mul-pos (mul-pos (zero-lt-suc m) (up_pos e)) (zero-lt-suc 0)) (of_bits-fits f 0) (zero_value f d)
 
-pub zero-div : (f : Format) (x : Float) → T (above x) → div f (of_bits f 0) x ≡ of_bits f 0
-zero-div f x a = ap (λ (z : Float). div f z x) (zero_is f) ∙ zero-over f x a
+pub zero_div : (f : Format) (x : Float) → T (above x) → div f (of_bits f 0) x ≡ of_bits f 0
+zero_div f x a = ap (λ (z : Float). div f z x) (zero_is f) ∙ zero_over f x a

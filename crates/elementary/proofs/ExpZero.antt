@@ -4,8 +4,8 @@ use lib.Ieee.{Float, fin, binary64, up, down, add, sub, mul, div, lt, eq, of_int
 use lib.Ieee.Fits.{mul-fits, sub-fits}
 use Rattle.elementary.specs.Float.{◌⊕◌, ◌⊖◌, ◌⊗◌, whole, 0ᶠ, ½ᶠ, 1ᶠ, finite}
 use Rattle.elementary.specs.Reply.{value, given}
-use Rattle.elementary.specs.Elementary.{LOG2E, horner, factorials, expSum, expN, expRest, power2, expBy, expOf, EXP}
-use Rattle.elementary.proofs.Zeros.{Zero, zero_of, zero_test, zero-times, zero-less, zero_held}
+use Rattle.elementary.specs.Elementary.{LOG2E, horner, factorials, exp_sum, exp_n, exp_rest, power2, exp_by, exp_of, EXP}
+use Rattle.elementary.proofs.Zeros.{Zero, zero_of, zero_test, zero_times, zero_less, zero_held}
 
 -- it is not above 709, and not below -708
 high : (s : Bool) (e : ℤ) → lt (whole (pos 709)) (fin s 0 e) ≡ false
@@ -26,24 +26,24 @@ half true false = refl
 half false true = refl
 half false false = refl
 
-count-zero : {x : Float} → Zero x → expN x ≡ pos 0
-unfolding expN finite of_bits
-count-zero {x} z = let (s, y) = zero_held binary64 (zero-times binary64 LOG2E z tt) (mul-fits binary64 x LOG2E) in rw y (half s (lt x 0ᶠ))
+count_zero : {x : Float} → Zero x → exp_n x ≡ pos 0
+unfolding exp_n finite of_bits
+count_zero {x} z = let (s, y) = zero_held binary64 (zero_times binary64 LOG2E z tt) (mul-fits binary64 x LOG2E) in rw y (half s (lt x 0ᶠ))
 
 -- r is a zero, so that the sum is its first term
-rest-zero : {x : Float} → Zero x → (s : Bool) × (expRest x (whole (pos 0)) ≡ fin s 0 (pos 0))
-unfolding expRest mul of_int of_bits
-rest-zero {x} z = let n = zero_of false (pos 0) in zero_held binary64 (zero-less binary64 (zero-less binary64 z n) n) (sub-fits binary64 _ _)
+rest_zero : {x : Float} → Zero x → (s : Bool) × (exp_rest x (whole (pos 0)) ≡ fin s 0 (pos 0))
+unfolding exp_rest mul of_int of_bits
+rest_zero {x} z = let n = zero_of false (pos 0) in zero_held binary64 (zero_less binary64 (zero_less binary64 z n) n) (sub-fits binary64 _ _)
 
-first-term : (s : Bool) → expSum (fin s 0 (pos 0)) ⊗ power2 (pos 0) ≡ 1ᶠ
-unfolding horner factorials expSum add mul div of_int of_bits
-first-term true = refl
-first-term false = refl
+first_term : (s : Bool) → exp_sum (fin s 0 (pos 0)) ⊗ power2 (pos 0) ≡ 1ᶠ
+unfolding horner factorials exp_sum add mul div of_int of_bits
+first_term true = refl
+first_term false = refl
 
-pub exp-of-zero : {x : Float} → Zero x → EXP x ≡ value 1ᶠ
-unfolding finite given expBy expOf EXP
-exp-of-zero (zero_of s e) = let z = zero_of s e in let (t, r) = rest-zero z in rw (high s e, low s e, count-zero z, r) (ap value (first-term t))
+pub exp_of_zero : {x : Float} → Zero x → EXP x ≡ value 1ᶠ
+unfolding finite given exp_by exp_of EXP
+exp_of_zero (zero_of s e) = let z = zero_of s e in let (t, r) = rest_zero z in rw (high s e, low s e, count_zero z, r) (ap value (first_term t))
 
 -- by the test
-pub exp-at-zero : (x : Float) → eq x 0ᶠ ≡ true → EXP x ≡ value 1ᶠ
-exp-at-zero x h = exp-of-zero (zero_test binary64 x h)
+pub exp_at_zero : (x : Float) → eq x 0ᶠ ≡ true → EXP x ≡ value 1ᶠ
+exp_at_zero x h = exp_of_zero (zero_test binary64 x h)

@@ -11,11 +11,11 @@ between (pos n) (suc b) = refl
 between (negsuc n) zero = rw leb-suc-zero
 between (negsuc n) (suc b) = rw (leb-suc-suc, and-true)
 
-pub within-is : (q : ℤ) (b : ℕ) → (le_z (pos 0 -ℤ pos b) q && le_z q (pos b)) ≡ leb (nat_abs q) b
-within-is q b = rw (+ℤ_idl (neg_ℤ (pos b))) (between q b)
+pub within_is : (q : ℤ) (b : ℕ) → (le_z (pos 0 -ℤ pos b) q && le_z q (pos b)) ≡ leb (nat_abs q) b
+within_is q b = rw (+ℤ_idl (neg_ℤ (pos b))) (between q b)
 
-pub minus-mag : (b : ℕ) → mag (pos 0 -ℤ pos b) ≤ b
-minus-mag b = rw (+ℤ_idl (neg_ℤ (pos b))) (go b)
+pub minus_mag : (b : ℕ) → mag (pos 0 -ℤ pos b) ≤ b
+minus_mag b = rw (+ℤ_idl (neg_ℤ (pos b))) (go b)
   where
     go : (b : ℕ) → mag (neg_ℤ (pos b)) ≤ b
     go zero = omega arith

@@ -7,10 +7,10 @@ use lib.Ieee.Exact.{HasValue, round_exact, units_val}
 use lib.Ieee.Positive.{value_pos, positive_of_value}
 use Rattle.elementary.specs.Float.{count, finite, positive, hex, ◌⊗◌}
 use Rattle.elementary.specs.Inner.{leading, SplitOf}
-use Rattle.elementary.proofs.Count.{size-pos, size-gt, leading_low, leading-high, leading-cut, leading-shift, size-shift, count-value, count-of, count-exact, twice-pred, count-top, lt-count, positive-is}
+use Rattle.elementary.proofs.Count.{size_pos, size_gt, leading_low, leading_high, leading_cut, leading_shift, size_shift, count_value, count_of_lem, count_exact, twice_pred, count_top, lt_count, positive_is}
 use Rattle.elementary.specs.Elementary.{mantissa}
-use Rattle.elementary.proofs.Exact.{rescale, round-value}
-use Rattle.elementary.proofs.Bits.{toBits-units, bits_of, units-fits}
+use Rattle.elementary.proofs.Exact.{rescale, round_value}
+use Rattle.elementary.proofs.Bits.{to_bits_units, bits_of, units_fits}
 
 -- ---- the two fields of a pattern with the leading digit added in
 fields : (k l : ℕ) → 2 ^ 52 ≤ l → l < 2 ^ 53 → ((k * 2 ^ 52 + l) % 2 ^ 52 + 2 ^ 52 ≡ l) × ((k * 2 ^ 52 + l) / 2 ^ 52 + 52 ≡ k + 53)
@@ -22,35 +22,35 @@ restore z h = omega arith
 some : (z : ℕ) → 53 ≤ z → 0 < z
 some z h = omega arith
 
-pub normal-parts : (x : Float) → T (fits binary64 x) → T (positive x) → 53 ≤ size (count binary64 x) → SplitOf (count binary64 x) (to_bits binary64 x % 2 ^ 52 + 2 ^ 52) (to_bits binary64 x / 2 ^ 52 + 52)
+pub normal_parts : (x : Float) → T (fits binary64 x) → T (positive x) → 53 ≤ size (count binary64 x) → SplitOf (count binary64 x) (to_bits binary64 x % 2 ^ 52 + 2 ^ 52) (to_bits binary64 x / 2 ^ 52 + 52)
 unfolding positive finite lt of_bits
-normal-parts nan t p h = absurd p
-normal-parts (inf s) t p h = absurd p
-normal-parts (fin true m e) t p h = absurd p
-normal-parts (fin false m e) t p h =
+normal_parts nan t p h = absurd p
+normal_parts (inf s) t p h = absurd p
+normal_parts (fin true m e) t p h = absurd p
+normal_parts (fin false m e) t p h =
     let n = count binary64 (fin false m e) in
     let k = size n - 53 in
     let n_pos : 0 < n = size_reaches n 0 (some (size n) h) in
-    let bits : to_bits binary64 (fin false m e) ≡ k * 2 ^ 52 + leading n = toBits-units binary64 (fin false m e) n (count-value binary64 false m e t) ∙ ap (λ (x : ℕ). k * 2 ^ 52 + x) (leading-cut n h) in
-    let two = fields k (leading n) (leading_low n n_pos) (leading-high n) in
+    let bits : to_bits binary64 (fin false m e) ≡ k * 2 ^ 52 + leading n = to_bits_units binary64 (fin false m e) n (count_value binary64 false m e t) ∙ ap (λ (x : ℕ). k * 2 ^ 52 + x) (leading_cut n h) in
+    let two = fields k (leading n) (leading_low n n_pos) (leading_high n) in
     let digits : to_bits binary64 (fin false m e) % 2 ^ 52 + 2 ^ 52 ≡ leading n = ap (λ (b : ℕ). b % 2 ^ 52 + 2 ^ 52) bits ∙ two.0 in
     let sized : to_bits binary64 (fin false m e) / 2 ^ 52 + 52 ≡ size n = ap (λ (b : ℕ). b / 2 ^ 52 + 52) bits ∙ two.1 ∙ restore (size n) h in
     record {
       leads = digits;
       sized = sized;
       low = subst (λ (y : ℕ). 2 ^ 52 ≤ y) (sym digits) (leading_low n n_pos);
-      high = subst (λ (y : ℕ). y < 2 ^ 53) (sym digits) (leading-high n);
+      high = subst (λ (y : ℕ). y < 2 ^ 53) (sym digits) (leading_high n);
       some = subst (λ (y : ℕ). 1 ≤ y) (sym sized) (some (size n) h);
-      most = subst (λ (y : ℕ). y ≤ 2098) (sym sized) (size-le n 2098 (count-top binary64 (fin false m e) t));
+      most = subst (λ (y : ℕ). y ≤ 2098) (sym sized) (size-le n 2098 (count_top binary64 (fin false m e) t));
     }
 
 -- ---- below the smallest normal number, 2 ^ -1022, which is 2 ^ 52 units
-pub below-least : (x : Float) → T (fits binary64 x) → T (positive x) → lt x (hex 0x10000000000000) ≡ ltb (count binary64 x) (2 ^ 52)
+pub below_least : (x : Float) → T (fits binary64 x) → T (positive x) → lt x (hex 0x10000000000000) ≡ ltb (count binary64 x) (2 ^ 52)
 unfolding positive finite lt of_bits fits count
-below-least nan t p = absurd p
-below-least (inf s) t p = absurd p
-below-least (fin true m e) t p = absurd p
-below-least (fin false m e) t p = lt-count binary64 m e 1 (negsuc 1021) t tt
+below_least nan t p = absurd p
+below_least (inf s) t p = absurd p
+below_least (fin true m e) t p = absurd p
+below_least (fin false m e) t p = lt_count binary64 m e 1 (negsuc 1021) t tt
 
 -- ---- such a number times 2 ^ 54 is exact
 raised : (n : ℕ) → n < 2 ^ 52 → n * 2 ^ 54 < 2 ^ 1074
@@ -63,20 +63,20 @@ scaled_value : (m : ℕ) (e : ℤ) → T (fits binary64 (fin false m e)) → cou
 unfolding mul of_bits
 scaled_value m e t h =
     let n = count binary64 (fin false m e) in
-    let same = times m (up e) n (down e) (count-value binary64 false m e t).1 in
+    let same = times m (up e) n (down e) (count_value binary64 false m e t).1 in
     rescale (round binary64 false (m * up e * (1 * 2 ^ 54)) (down e * 1)) false (m * up e * (1 * 2 ^ 54)) (down e * 1) (n * 2 ^ 54) (2 ^ 1074) (mul-pos (down_pos e) (zero-lt-suc 0)) same
     (round_exact binary64 false (m * up e * (1 * 2 ^ 54)) (down e * 1) n 54 (mul-pos (down_pos e) (zero-lt-suc 0)) (lt_of_lt_of_le h (lit≤ tt)) (lt_of_lt_of_le (raised n h) (lit≤ tt)) same)
 
 -- ---- a positive float is its count of units, and that is above zero
-pub own-count : (x : Float) → T (fits binary64 x) → T (positive x) → HasValue x false (count binary64 x) (2 ^ 1074)
+pub own_count : (x : Float) → T (fits binary64 x) → T (positive x) → HasValue x false (count binary64 x) (2 ^ 1074)
 unfolding positive finite lt of_bits
-own-count nan t p = absurd p
-own-count (inf s) t p = absurd p
-own-count (fin true m e) t p = absurd p
-own-count (fin false m e) t p = count-value binary64 false m e t
+own_count nan t p = absurd p
+own_count (inf s) t p = absurd p
+own_count (fin true m e) t p = absurd p
+own_count (fin false m e) t p = count_value binary64 false m e t
 
-pub count-pos : (x : Float) → T (fits binary64 x) → T (positive x) → 0 < count binary64 x
-count-pos x t p = value_pos x (count binary64 x) (2 ^ 1074) (subst T (positive-is x) p) (pow_pos 1074) (own-count x t p)
+pub count_pos : (x : Float) → T (fits binary64 x) → T (positive x) → 0 < count binary64 x
+count_pos x t p = value_pos x (count binary64 x) (2 ^ 1074) (subst T (positive_is x) p) (pow_pos 1074) (own_count x t p)
 
 -- ---- a subnormal number's parts, by way of the number times 2 ^ 54
 scaled : (x : Float) → T (fits binary64 x) → T (positive x) → count binary64 x < 2 ^ 52 → HasValue (x ⊗ hex 0x4350000000000000) false (count binary64 x * 2 ^ 54) (2 ^ 1074)
@@ -87,49 +87,49 @@ scaled (fin true m e) t p h = absurd p
 scaled (fin false m e) t p h = scaled_value m e t h
 
 pub subnormal : (x : Float) → T (fits binary64 x) → T (positive x) → lt x (hex 0x10000000000000) ≡ true → count binary64 x < 2 ^ 52
-subnormal x t p h = ltb-true (count binary64 x) (2 ^ 52) (sym (below-least x t p) ∙ h)
+subnormal x t p h = ltb-true (count binary64 x) (2 ^ 52) (sym (below_least x t p) ∙ h)
 
 module _ (x : Float) (t : T (fits binary64 x)) (p : T (positive x)) (h : lt x (hex 0x10000000000000) ≡ true) where
-  pub scaled-positive : T (positive (x ⊗ hex 0x4350000000000000))
-  scaled-positive =
+  pub scaled_positive : T (positive (x ⊗ hex 0x4350000000000000))
+  scaled_positive =
       let n = count binary64 x in
-      subst T (sym (positive-is (x ⊗ hex 0x4350000000000000)))
-      (positive_of_value (x ⊗ hex 0x4350000000000000) (n * 2 ^ 54) (2 ^ 1074) (scaled x t p (subnormal x t p h)) (mul-pos (count-pos x t p) (pow_pos 54)))
+      subst T (sym (positive_is (x ⊗ hex 0x4350000000000000)))
+      (positive_of_value (x ⊗ hex 0x4350000000000000) (n * 2 ^ 54) (2 ^ 1074) (scaled x t p (subnormal x t p h)) (mul-pos (count_pos x t p) (pow_pos 54)))
 
-  pub scaled-count : count binary64 (x ⊗ hex 0x4350000000000000) ≡ count binary64 x * 2 ^ 54
-  scaled-count =
+  pub scaled_count : count binary64 (x ⊗ hex 0x4350000000000000) ≡ count binary64 x * 2 ^ 54
+  scaled_count =
       let n = count binary64 x in
-      count-of binary64 (x ⊗ hex 0x4350000000000000) false (n * 2 ^ 54) (2 ^ 1074) (pow_pos 1074) (scaled x t p (subnormal x t p h)) ∙ mul-div_cancel (n * 2 ^ 54) (pow_pos 1074)
+      count_of_lem binary64 (x ⊗ hex 0x4350000000000000) false (n * 2 ^ 54) (2 ^ 1074) (pow_pos 1074) (scaled x t p (subnormal x t p h)) ∙ mul-div_cancel (n * 2 ^ 54) (pow_pos 1074)
 
-  scaled-size : size (count binary64 (x ⊗ hex 0x4350000000000000)) ≡ size (count binary64 x) + 54
-  scaled-size = ap size scaled-count ∙ size-shift (count binary64 x) 54 (count-pos x t p)
+  scaled_size : size (count binary64 (x ⊗ hex 0x4350000000000000)) ≡ size (count binary64 x) + 54
+  scaled_size = ap size scaled_count ∙ size_shift (count binary64 x) 54 (count_pos x t p)
 
-  pub scaled-enough : 54 ≤ size (count binary64 (x ⊗ hex 0x4350000000000000))
-  scaled-enough = le_trans (le-add_left 54 (size (count binary64 x))) (le_of_eq (sym scaled-size))
+  pub scaled_enough : 54 ≤ size (count binary64 (x ⊗ hex 0x4350000000000000))
+  scaled_enough = le_trans (le-add_left 54 (size (count binary64 x))) (le_of_eq (sym scaled_size))
 
-  pub scaled-parts : (d z : ℕ) → SplitOf (count binary64 (x ⊗ hex 0x4350000000000000)) d z → SplitOf (count binary64 x) d (z - 54)
-  scaled-parts d z s =
+  pub scaled_parts : (d z : ℕ) → SplitOf (count binary64 (x ⊗ hex 0x4350000000000000)) d z → SplitOf (count binary64 x) d (z - 54)
+  scaled_parts d z s =
       let n = count binary64 x in
-      let is : z - 54 ≡ size n = ap (λ (y : ℕ). y - 54) (s.sized ∙ scaled-size) ∙ add-sub_cancel (size n) 54 in
+      let is : z - 54 ≡ size n = ap (λ (y : ℕ). y - 54) (s.sized ∙ scaled_size) ∙ add-sub_cancel (size n) 54 in
       record {
-        leads = s.leads ∙ ap (λ (y : ℕ). leading y) scaled-count ∙ leading-shift n 54 (count-pos x t p);
+        leads = s.leads ∙ ap (λ (y : ℕ). leading y) scaled_count ∙ leading_shift n 54 (count_pos x t p);
         sized = is;
         low = s.low;
         high = s.high;
-        some = subst (λ (y : ℕ). 1 ≤ y) (sym is) (size-pos n (count-pos x t p));
+        some = subst (λ (y : ℕ). 1 ≤ y) (sym is) (size_pos n (count_pos x t p));
         most = le_trans (sub-le z 54) s.most;
       }
 
 -- any other has 53 digits at least
 pub normal : (x : Float) → T (fits binary64 x) → T (positive x) → lt x (hex 0x10000000000000) ≡ false → 53 ≤ size (count binary64 x)
-normal x t p h = size-gt (count binary64 x) 52 (ltb-false (count binary64 x) (2 ^ 52) (sym (below-least x t p) ∙ h))
+normal x t p h = size_gt (count binary64 x) 52 (ltb-false (count binary64 x) (2 ^ 52) (sym (below_least x t p) ∙ h))
 
 -- ---- a positive number is no NaN, so its bits can be read
-pub positive-no-nan : (x : Float) → T (positive x) → T (not (is_nan x))
+pub positive_no_nan : (x : Float) → T (positive x) → T (not (is_nan x))
 unfolding positive finite is_nan
-positive-no-nan nan p = absurd p
-positive-no-nan (inf s) p = tt
-positive-no-nan (fin s m e) p = tt
+positive_no_nan nan p = absurd p
+positive_no_nan (inf s) p = tt
+positive_no_nan (fin s m e) p = tt
 
 -- ---- the parts of LN's argument
 rearrange : (l n w : ℕ) → l * (2 * w) ≡ n * 2 ^ 53 → l * 2 ^ 1022 * w ≡ n * 2 ^ 1074
@@ -143,27 +143,27 @@ rearrange l n w h =
 
 -- the leading digits at the exponent of 1 are n / 2 ^ (z - 1)
 module _ (x : Float) (t : T (fits binary64 x)) (p : T (positive x)) where
-  lead-small : leading (count binary64 x) * 2 ^ 1022 < 2 ^ 2098
-  lead-small = lt_of_le_of_lt (mul-le-mul_right (2 ^ 1022) (le_of_lt (leading-high (count binary64 x)))) (lit< tt)
+  lead_small : leading (count binary64 x) * 2 ^ 1022 < 2 ^ 2098
+  lead_small = lt_of_le_of_lt (mul-le-mul_right (2 ^ 1022) (le_of_lt (leading_high (count binary64 x)))) (lit< tt)
 
-  lead-value : HasValue (units binary64 false (leading (count binary64 x)) 1022) false (count binary64 x) (2 ^ (size (count binary64 x) - 1))
-  lead-value =
+  lead_value : HasValue (units binary64 false (leading (count binary64 x)) 1022) false (count binary64 x) (2 ^ (size (count binary64 x) - 1))
+  lead_value =
       let n = count binary64 x in
       let l = leading n in
       let w = 2 ^ (size n - 1) in
       rescale (units binary64 false l 1022) false (l * 2 ^ 1022) (2 ^ 1074) n w (pow_pos 1074)
-      (rearrange l n w (ap (λ (y : ℕ). l * y) (sym (twice-pred (size n) (size-pos n (count-pos x t p)))) ∙ count-exact x t))
-      (units_val binary64 false l 1022 lead-small)
+      (rearrange l n w (ap (λ (y : ℕ). l * y) (sym (twice_pred (size n) (size_pos n (count_pos x t p)))) ∙ count_exact x t))
+      (units_val binary64 false l 1022 lead_small)
 
   -- so they are f
   lead_is : units binary64 false (leading (count binary64 x)) 1022 ≡ mantissa x
   unfolding mantissa
   lead_is =
       let n = count binary64 x in
-      sym (round-value binary64 (units binary64 false (leading n) 1022) false n (2 ^ (size n - 1)) (pow_pos (size n - 1)) (units-fits binary64 false (leading n) 1022 (le_of_lt (leading-high n)) lead-small) lead-value)
+      sym (round_value binary64 (units binary64 false (leading n) 1022) false n (2 ^ (size n - 1)) (pow_pos (size n - 1)) (units_fits binary64 false (leading n) 1022 (le_of_lt (leading_high n)) lead_small) lead_value)
 
-  pub mantissa-value : HasValue (mantissa x) false (count binary64 x) (2 ^ (size (count binary64 x) - 1))
-  mantissa-value = subst (λ (y : Float). HasValue y false (count binary64 x) (2 ^ (size (count binary64 x) - 1))) lead_is lead-value
+  pub mantissa_value : HasValue (mantissa x) false (count binary64 x) (2 ^ (size (count binary64 x) - 1))
+  mantissa_value = subst (λ (y : Float). HasValue y false (count binary64 x) (2 ^ (size (count binary64 x) - 1))) lead_is lead_value
 
-  pub mantissa-bits : of_bits binary64 (1022 * 2 ^ 52 + leading (count binary64 x)) ≡ mantissa x
-  mantissa-bits = let n = count binary64 x in bits_of binary64 (leading n) 1022 (leading_low n (count-pos x t p)) (le_of_lt (leading-high n)) lead-small ∙ lead_is
+  pub mantissa_bits : of_bits binary64 (1022 * 2 ^ 52 + leading (count binary64 x)) ≡ mantissa x
+  mantissa_bits = let n = count binary64 x in bits_of binary64 (leading n) 1022 (leading_low n (count_pos x t p)) (le_of_lt (leading_high n)) lead_small ∙ lead_is

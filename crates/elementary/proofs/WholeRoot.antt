@@ -9,11 +9,11 @@ use Rattle.elementary.specs.Inner.{RootOf}
 abbrev pub Whole : ℕ → ℕ → Type 0
 Whole n r = (r * r ≤ n) × (n < (r + 1) * (r + 1))
 
-pub isqrt-whole : (k n : ℕ) → n < 4 ^ k → Whole n (isqrt k n)
+pub isqrt_whole : (k n : ℕ) → n < 4 ^ k → Whole n (isqrt k n)
 unfolding isqrt
-isqrt-whole zero n h = omega arith
-isqrt-whole (suc k) n h =
-    go (isqrt k (n / 4)) (isqrt-whole k (n / 4) ((div-lt_iff_lt-mul (zero-lt-suc 3)).1 (subst (λ (x : ℕ). n < x) (pow-suc 4 k) h)))
+isqrt_whole zero n h = omega arith
+isqrt_whole (suc k) n h =
+    go (isqrt k (n / 4)) (isqrt_whole k (n / 4) ((div-lt_iff_lt-mul (zero-lt-suc 3)).1 (subst (λ (x : ℕ). n < x) (pow-suc 4 k) h)))
   where
     go : (s : ℕ) → Whole (n / 4) s → Whole n (cond (leb ((2 * s + 1) * (2 * s + 1)) n) (2 * s + 1) (2 * s))
     go s w = pick (leb ((2 * s + 1) * (2 * s + 1)) n) (leb→le ((2 * s + 1) * (2 * s + 1)) n) (nleb→lt ((2 * s + 1) * (2 * s + 1)) n)
@@ -22,22 +22,22 @@ isqrt-whole (suc k) n h =
         pick true l g = (l tt, omega arith)
         pick false l g = (omega arith, g tt)
 
-pub rootOf-whole : (n r rest : ℕ) → RootOf n r rest → Whole n r
-rootOf-whole n r rest w = omega arith
+pub root_of_whole : (n r rest : ℕ) → RootOf n r rest → Whole n r
+root_of_whole n r rest w = omega arith
 
 -- ---- no other number is
-pub root-lt : (n r t : ℕ) → r * r ≤ n → n < t * t → r < t
-root-lt n r t a b = lt_of_not-le (λ (h : t ≤ r). not-le_of_lt b (le_trans (mul-le-mul h h) a))
+pub root_lt : (n r t : ℕ) → r * r ≤ n → n < t * t → r < t
+root_lt n r t a b = lt_of_not-le (λ (h : t ≤ r). not-le_of_lt b (le_trans (mul-le-mul h h) a))
 
-pub root-le : (n r t : ℕ) → r * r ≤ n → n < (t + 1) * (t + 1) → r ≤ t
-root-le n r t a b = let h : r < t + 1 = root-lt n r (t + 1) a b in omega arith
+pub root_le : (n r t : ℕ) → r * r ≤ n → n < (t + 1) * (t + 1) → r ≤ t
+root_le n r t a b = let h : r < t + 1 = root_lt n r (t + 1) a b in omega arith
 
 pub whole_unique : (n r t : ℕ) → Whole n r → Whole n t → r ≡ t
-whole_unique n r t a b = le_antisymm (root-le n r t a.0 b.1) (root-le n t r b.0 a.1)
+whole_unique n r t a b = le_antisymm (root_le n r t a.0 b.1) (root_le n t r b.0 a.1)
 
 -- ---- with p * p divided out of the number, p is divided out of its root
-pub whole-scale : (w r p : ℕ) → 0 < p → Whole w r → Whole (w / (p * p)) (r / p)
-whole-scale w r p h a =
+pub whole_scale : (w r p : ℕ) → 0 < p → Whole w r → Whole (w / (p * p)) (r / p)
+whole_scale w r p h a =
     let t = r / p in
     let sq : (x : ℕ) → x * p * (x * p) ≡ x * x * (p * p) = λ x. mul-mul-mul_comm x p x p in
     let lo : t * p ≤ r = div-mul-le_self r p in
@@ -57,22 +57,22 @@ pub record Reading (m root rest left i : ℕ) : Type 0 where
   pub digits : root < 2 ^ i
   pub most : i ≤ 54
 
-pub reading-starts : (m : ℕ) → m < 2 ^ 54 → Reading m 0 0 m 0
-reading-starts m h = omega arith
+pub reading_starts : (m : ℕ) → m < 2 ^ 54 → Reading m 0 0 m 0
+reading_starts m h = omega arith
 
-pub reading-room : {m root rest left i : ℕ} → Reading m root rest left i → i < 54 → (root < 2 ^ 53) × (rest ≤ 2 * root) × (left / 2 ^ 52 < 4)
-reading-room r h = (lt_of_lt_of_le r.digits (pow_mono (le_of_suc-le-suc h)), r.short, omega arith)
+pub reading_room : {m root rest left i : ℕ} → Reading m root rest left i → i < 54 → (root < 2 ^ 53) × (rest ≤ 2 * root) × (left / 2 ^ 52 < 4)
+reading_room r h = (lt_of_lt_of_le r.digits (pow_mono (le_of_suc-le-suc h)), r.short, omega arith)
 
-pub reading-goes-on : {m root rest left i root' rest' : ℕ} → Reading m root rest left i → i < 54 → RootOf (4 * (root * root + rest) + left / 2 ^ 52) root' rest' → root' ≤ 2 * root + 1
+pub reading_goes_on : {m root rest left i root' rest' : ℕ} → Reading m root rest left i → i < 54 → RootOf (4 * (root * root + rest) + left / 2 ^ 52) root' rest' → root' ≤ 2 * root + 1
     → Reading m root' rest' (left % 2 ^ 52 * 4) (i + 1)
-reading-goes-on {m} {i = i} r h next up =
+reading_goes_on {m} {i = i} r h next up =
     let p : 4 ^ (i + 1) ≡ 4 ^ i * 4 = ap (λ (x : ℕ). 4 ^ x) (add-one i) ∙ pow-suc 4 i in
     let q : m * 4 ^ (i + 1) ≡ m * 4 ^ i * 4 = ap (λ (x : ℕ). m * x) p ∙ sym (mul_assoc m (4 ^ i) 4) in
     let d : 2 ^ (i + 1) ≡ 2 ^ i * 2 = ap (λ (x : ℕ). 2 ^ x) (add-one i) ∙ pow-suc 2 i in
     record { read = omega arith; short = next.short; small = omega arith; digits = omega arith; most = omega arith }
 
-pub reading-ends : {m root rest left i : ℕ} → Reading m root rest left i → 54 ≤ i → RootOf (m * 2 ^ 54) root rest
-reading-ends {m} {root} {rest} {left} {i} r h =
+pub reading_ends : {m root rest left i : ℕ} → Reading m root rest left i → 54 ≤ i → RootOf (m * 2 ^ 54) root rest
+reading_ends {m} {root} {rest} {left} {i} r h =
     let e : i ≡ 54 = omega arith in
     let all : m * 4 ^ 54 ≡ (root * root + rest) * 2 ^ 54 + left = subst (λ (x : ℕ). m * 4 ^ x ≡ (root * root + rest) * 2 ^ 54 + left) e r.read in
     record { square = omega arith; short = r.short }

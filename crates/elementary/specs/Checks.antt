@@ -18,14 +18,14 @@ first_of passes v = v
 first_of (refused n) v = refused n
 
 -- the number of the first check that fails
-unfoldable pub firstFailing : List (Bool × ℕ) → Verdict
-firstFailing [] = passes
-firstFailing (c ∷ l) = first_of (verdict c) (firstFailing l)
+unfoldable pub first_failing : List (Bool × ℕ) → Verdict
+first_failing [] = passes
+first_failing (c ∷ l) = first_of (verdict c) (first_failing l)
 
 -- as the code says it
-unfoldable pub checkOf : Verdict → Check
-checkOf passes = Check.Passes
-checkOf (refused n) = Check.Refused n
+unfoldable pub check_of : Verdict → Check
+check_of passes = Check.Passes
+check_of (refused n) = Check.Refused n
 
 -- ==== statements
 -- a check with this number fails, and all before it pass
@@ -34,7 +34,7 @@ pub data Refuses : List (Bool × ℕ) → ℕ → Type 0 where
   later : {b : Bool} {m n : ℕ} {l : List (Bool × ℕ)} → b ≡ true → Refuses l n → Refuses ((b, m) ∷ l) n
 
 abbrev pub FirstFailing : Type 0
-FirstFailing = (l : List (Bool × ℕ)) (n : ℕ) → (firstFailing l ≡ refused n) ↔ Refuses l n
+FirstFailing = (l : List (Bool × ℕ)) (n : ℕ) → (first_failing l ≡ refused n) ↔ Refuses l n
 
 -- each check passes
 pub data Passes : List (Bool × ℕ) → Type 0 where
@@ -42,8 +42,8 @@ pub data Passes : List (Bool × ℕ) → Type 0 where
   each : {b : Bool} {n : ℕ} {l : List (Bool × ℕ)} → b ≡ true → Passes l → Passes ((b, n) ∷ l)
 
 abbrev pub NoneFailing : Type 0
-NoneFailing = (l : List (Bool × ℕ)) → (firstFailing l ≡ passes) ↔ Passes l
+NoneFailing = (l : List (Bool × ℕ)) → (first_failing l ≡ passes) ↔ Passes l
 
 -- checks after checks
 abbrev pub FailingJoined : Type 0
-FailingJoined = (l r : List (Bool × ℕ)) → firstFailing (l ++ r) ≡ first_of (firstFailing l) (firstFailing r)
+FailingJoined = (l r : List (Bool × ℕ)) → first_failing (l ++ r) ≡ first_of (first_failing l) (first_failing r)

@@ -2,7 +2,7 @@
 ghost use Rattle.std.specs.Prelude.{◌≡◌, true, false, T};
 ghost use Rattle.std.specs.Float.Ieee.{neg, lt};
 ghost use Rattle.elementary.specs.Float.{finite, hex, 0ᶠ};
-ghost use Rattle.elementary.specs.Elementary.{ceilOf};
+ghost use Rattle.elementary.specs.Elementary.{ceil_of};
 
 // 2^52: a float of this size or more is a whole number.
 const WHOLE: f64 = 4503599627370496.0;
@@ -11,7 +11,7 @@ const WHOLE: f64 = 4503599627370496.0;
 fn ceil_negative(x: f64) -> f64
     requires x_value { lt x 0ᶠ ≡ true }
     requires t { T (lt (neg (hex 0x4330000000000000)) x) }
-    ensures { result ≡ ceilOf x }
+    ensures { result ≡ ceil_of x }
 {
     let n: u64 = std::num::truncating_f64_to_u64(-x);
     -std::num::nearest_u64_to_f64(n)
@@ -21,7 +21,7 @@ fn ceil_negative(x: f64) -> f64
 fn ceil_small(x: f64) -> f64
     requires x_value { lt x 0ᶠ ≡ false }
     requires t { T (lt x (hex 0x4330000000000000)) }
-    ensures { result ≡ ceilOf x }
+    ensures { result ≡ ceil_of x }
 {
     let n: u64 = std::num::truncating_f64_to_u64(x);
     if std::num::nearest_u64_to_f64(n) < x {
@@ -33,7 +33,7 @@ fn ceil_small(x: f64) -> f64
 // The least whole number that is not below x.
 pub(crate) fn ceil_finite(x: f64) -> f64
     requires { T (finite x) }
-    ensures { result ≡ ceilOf x }
+    ensures { result ≡ ceil_of x }
 {
     if x < 0.0 {
         if -WHOLE < x {

@@ -2,7 +2,7 @@
 ghost use Rattle.std.specs.Prelude.{◌≡◌, ◌≤◌, true, false, T, pos, negsuc};
 ghost use Rattle.std.specs.Float.Ieee.{lt, le, minus};
 ghost use Rattle.elementary.specs.Float.{finite, whole, 0ᶠ};
-ghost use Rattle.elementary.specs.Elementary.{expSum, expRest, expBy, expOf, expN, power2};
+ghost use Rattle.elementary.specs.Elementary.{exp_sum, exp_rest, exp_by, exp_of, exp_n, power2};
 
 use crate::ln2::{HI, LO};
 
@@ -10,7 +10,7 @@ const LOG2E: f64 = 1.4426950408889634;
 
 // The sum of r^j / j!, j = 0..13.
 fn exp_sum(r: f64) -> f64
-    ensures { result ≡ expSum r }
+    ensures { result ≡ exp_sum r }
 {
     let p = 1.0 / 6227020800.0;
     let p = p * r + 1.0 / 479001600.0;
@@ -30,7 +30,7 @@ fn exp_sum(r: f64) -> f64
 
 // x less n times ln 2, part by part.
 fn exp_rest(x: f64, n: f64) -> f64
-    ensures { result ≡ expRest x n }
+    ensures { result ≡ exp_rest x n }
 {
     (x - n * HI) - n * LO
 }
@@ -47,7 +47,7 @@ fn power(n: u64) -> f64
 fn exp_count(x: f64) -> u64
     requires x_value { lt x 0ᶠ ≡ false }
     requires t { T (le x (whole (pos 709))) }
-    ensures { (pos result ≡ expN x) × (result ≤ 1023) }
+    ensures { (pos result ≡ exp_n x) × (result ≤ 1023) }
 {
     std::num::truncating_f64_to_u64(x * LOG2E + 0.5)
 }
@@ -56,7 +56,7 @@ fn exp_count(x: f64) -> u64
 fn exp_up(x: f64) -> f64
     requires x_value { lt x 0ᶠ ≡ false }
     requires t { T (le x (whole (pos 709))) }
-    ensures { result ≡ expBy x (expN x) }
+    ensures { result ≡ exp_by x (exp_n x) }
 {
     let n: u64 = exp_count(x);
     let m = std::num::nearest_u64_to_f64(n);
@@ -67,7 +67,7 @@ fn exp_up(x: f64) -> f64
 fn exp_down(x: f64) -> f64
     requires x_value { lt x 0ᶠ ≡ true }
     requires negsuc_value { lt x (whole (negsuc 707)) ≡ false }
-    ensures { result ≡ expBy x (expN x) }
+    ensures { result ≡ exp_by x (exp_n x) }
 {
     let n: u64 = exp_count(-x);
     let m = 0.0 - std::num::nearest_u64_to_f64(n);
@@ -77,7 +77,7 @@ fn exp_down(x: f64) -> f64
 // The exponential of a finite number.
 pub(crate) fn exp_finite(x: f64) -> f64
     requires { T (finite x) }
-    ensures { result ≡ expOf (lt (whole (pos 709)) x) (lt x (whole (negsuc 707))) x }
+    ensures { result ≡ exp_of (lt (whole (pos 709)) x) (lt x (whole (negsuc 707))) x }
 {
     if x > 709.0 {
         return 1.0 / 0.0;

@@ -10,7 +10,7 @@ mod split;
 ghost use Rattle.std.specs.Prelude.{◌≡◌, from_bits, to_bits};
 ghost use Rattle.std.specs.Float.{binary64};
 ghost use Rattle.elementary.specs.Float.{finite, positive};
-ghost use Rattle.elementary.specs.Elementary.{told, orNan, LN, LN1P, EXP, SQRT, CEIL};
+ghost use Rattle.elementary.specs.Elementary.{told, or_nan, LN, LN1P, EXP, SQRT, CEIL};
 
 // The bits of a NaN.
 const NAN_BITS: u64 = 0x7FF8000000000000;
@@ -40,7 +40,7 @@ pub enum Real {
 
 // The value of an answer, and a NaN for a refusal.
 pub fn or_nan(r: Real) -> f64
-    ensures { result ≡ orNan (told r) }
+    ensures { result ≡ or_nan (told r) }
 {
     match r {
         Real::Value(x) => x,

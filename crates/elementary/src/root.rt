@@ -2,7 +2,7 @@
 ghost use Rattle.std.specs.Prelude.{◌≡◌, ◌+◌, ◌*◌, ◌^◌, ◌<◌, ◌≤◌, T};
 ghost use Rattle.std.specs.Float.{binary64};
 ghost use Rattle.elementary.specs.Float.{positive, count};
-ghost use Rattle.elementary.specs.Elementary.{sqrtOf};
+ghost use Rattle.elementary.specs.Elementary.{sqrt_of};
 ghost use Rattle.elementary.specs.Inner.{RootOf};
 
 // The root's digits so far, and what their square leaves of the number's.
@@ -52,7 +52,7 @@ fn whole_root(m: u64) -> Digits
 // its 54 leading digits goes up where they are odd.
 pub(crate) fn sqrt_positive(x: f64) -> f64
     requires { T (positive x) }
-    ensures { result ≡ sqrtOf (count binary64 x) }
+    ensures { result ≡ sqrt_of (count binary64 x) }
 {
     let s = crate::split::split(x);
     let even = (s.size + 1) % 2;

@@ -9,10 +9,10 @@ use lib.Dec.{leb}
 use Rattle.io.specs.Digits.{last_digits, IsDigitCount}
 use Rattle.harness.specs.Texts.{reached, count}
 
-reached-is : (k j n : ℕ) → j ≤ k → (0 < j → 10 ^ j ≤ n) → n < 10 ^ suc j → reached k n ≡ j
+reached_is : (k j n : ℕ) → j ≤ k → (0 < j → 10 ^ j ≤ n) → n < 10 ^ suc j → reached k n ≡ j
 unfolding reached
-reached-is zero j n h f g = omega arith
-reached-is (suc k) j n h f g = go (leb j k) (leb-true j k) (leb-false j k) (λ a. reached-is k j n a f g)
+reached_is zero j n h f g = omega arith
+reached_is (suc k) j n h f g = go (leb j k) (leb-true j k) (leb-false j k) (λ a. reached_is k j n a f g)
   where
     go : (t : Bool) → (t ≡ true → j ≤ k) → (t ≡ false → k < j) → (j ≤ k → reached k n ≡ j) → reached (suc k) n ≡ j
     go true a b r =
@@ -33,10 +33,10 @@ few j n h f = go (leb j 19) (leb-true j 19) (leb-false j 19)
         let m : 10 ^ 20 ≤ 10 ^ j = pow-le-pow_right (omega arith) l in
         absurd (omega (arith, f (omega arith)))
 
-pub count-is : (n r : ℕ) → n < 2 ^ 64 → IsDigitCount 10 1 n r → last_digits 10 r n ≡ count n
+pub count_is : (n r : ℕ) → n < 2 ^ 64 → IsDigitCount 10 1 n r → last_digits 10 r n ≡ count n
 unfolding count
-count-is n zero h f = absurd (omega (arith, f.0))
-count-is n (suc j) h f =
+count_is n zero h f = absurd (omega (arith, f.0))
+count_is n (suc j) h f =
     let e : suc j - 1 ≡ j = omega arith in
     let g : 0 < j → 10 ^ j ≤ n = λ p. rw e at (f.2 (omega arith)) in
-    ap (λ k. last_digits 10 (suc k) n) (sym (reached-is 19 j n (few j n h g) g f.1))
+    ap (λ k. last_digits 10 (suc k) n) (sym (reached_is 19 j n (few j n h g) g f.1))

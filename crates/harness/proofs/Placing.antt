@@ -9,12 +9,12 @@ use borrow.Author.Tests.{leb-true, leb-false, le-leb, lt-leb}
 use lib.Dec.{leb}
 use lib.ListN.{length, get_or, set, length-set}
 use lib.Seq.{paste, paste-zero, paste-suc, take-length}
-use Rattle.harness.specs.Texts.{fits, placedBy, placed, after}
+use Rattle.harness.specs.Texts.{fits, placed_by, placed, after}
 
 -- the test that does not add
-pub fits-less : (l : List ℕ) (at n : ℕ) → n ≤ length l → leb at (length l - n) ≡ fits l at n
+pub fits_less : (l : List ℕ) (at n : ℕ) → n ≤ length l → leb at (length l - n) ≡ fits l at n
 unfolding fits
-fits-less l at n h = go (leb (at + n) (length l)) (leb-true (at + n) (length l)) (leb-false (at + n) (length l))
+fits_less l at n h = go (leb (at + n) (length l)) (leb-true (at + n) (length l)) (leb-false (at + n) (length l))
   where
     go : (t : Bool) → (t ≡ true → at + n ≤ length l) → (t ≡ false → length l < at + n) → leb at (length l - n) ≡ t
     go true f g = le-leb at (length l - n) (omega (arith, f refl))
@@ -25,9 +25,9 @@ unfolding fits
 fits_not l at n h = sym (lt-leb (at + n) (length l) (omega arith))
 
 -- what is left, and the next place, where the text does not fit
-pub placed-none : (l : List ℕ) (at : ℕ) (t : List ℕ) → fits l at (length t) ≡ false → (l ≡ placed l at t) × (at ≡ after l at t)
-unfolding placed placedBy after
-placed-none l at t h = (rw h, rw h)
+pub placed_none : (l : List ℕ) (at : ℕ) (t : List ℕ) → fits l at (length t) ≡ false → (l ≡ placed l at t) × (at ≡ after l at t)
+unfolding placed placed_by after
+placed_none l at t h = (rw h, rw h)
 
 -- ---- a buffer that came as l, with the first i bytes of a text that fits at a place
 pub record Copied (l : List ℕ) (at : ℕ) (t out : List ℕ) (i : ℕ) : Type 0 where
@@ -50,7 +50,7 @@ copied_more l at t out i d h =
     }
 
 pub copied_all : (l : List ℕ) (at : ℕ) (t out : List ℕ) (i : ℕ) → Copied l at t out i → length t ≤ i → (out ≡ placed l at t) × (at + i ≡ after l at t)
-unfolding fits placed placedBy after
+unfolding fits placed placed_by after
 copied_all l at t out i d h =
     let e : i ≡ length t = omega arith in
     let f = le-leb (at + length t) (length l) d.room in

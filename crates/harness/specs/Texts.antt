@@ -8,12 +8,12 @@ unfoldable pub fits : List ℕ → ℕ → ℕ → Bool
 fits l at n = leb (at + n) (length l)
 
 -- the buffer with a text at a place, if it fits
-unfoldable pub placedBy : Bool → List ℕ → ℕ → List ℕ → List ℕ
-placedBy true l at t = take at l ++ t ++ drop (at + length t) l
-placedBy false l at t = l
+unfoldable pub placed_by : Bool → List ℕ → ℕ → List ℕ → List ℕ
+placed_by true l at t = take at l ++ t ++ drop (at + length t) l
+placed_by false l at t = l
 
 unfoldable pub placed : List ℕ → ℕ → List ℕ → List ℕ
-placed l at t = placedBy (fits l at (length t)) l at t
+placed l at t = placed_by (fits l at (length t)) l at t
 
 -- the place after it
 unfoldable pub after : List ℕ → ℕ → List ℕ → ℕ
@@ -26,56 +26,56 @@ space = 32 ∷ []
 unfoldable pub spaced : List ℕ → ℕ → List ℕ → List ℕ
 spaced l at t = placed (placed l at space) (after l at space) t
 
-unfoldable pub afterSpaced : List ℕ → ℕ → List ℕ → ℕ
-afterSpaced l at t = after (placed l at space) (after l at space) t
+unfoldable pub after_spaced : List ℕ → ℕ → List ℕ → ℕ
+after_spaced l at t = after (placed l at space) (after l at space) t
 
 -- `R` or `C`, and after it a space and a text
-abbrev pub letterR : List ℕ
-letterR = 82 ∷ []
+abbrev pub letter_r : List ℕ
+letter_r = 82 ∷ []
 
-abbrev pub letterC : List ℕ
-letterC = 67 ∷ []
+abbrev pub letter_c : List ℕ
+letter_c = 67 ∷ []
 
 unfoldable pub lettered : List ℕ → List ℕ → ℕ → List ℕ → List ℕ
 lettered c l at t = spaced (placed l at c) (after l at c) t
 
-unfoldable pub afterLettered : List ℕ → List ℕ → ℕ → List ℕ → ℕ
-afterLettered c l at t = afterSpaced (placed l at c) (after l at c) t
+unfoldable pub after_lettered : List ℕ → List ℕ → ℕ → List ℕ → ℕ
+after_lettered c l at t = after_spaced (placed l at c) (after l at c) t
 
 -- `C`, and after it two texts with a space before each
 unfoldable pub capped : List ℕ → ℕ → List ℕ → List ℕ → List ℕ
-capped l at t u = spaced (lettered letterC l at t) (afterLettered letterC l at t) u
+capped l at t u = spaced (lettered letter_c l at t) (after_lettered letter_c l at t) u
 
-unfoldable pub afterCapped : List ℕ → ℕ → List ℕ → List ℕ → ℕ
-afterCapped l at t u = afterSpaced (lettered letterC l at t) (afterLettered letterC l at t) u
+unfoldable pub after_capped : List ℕ → ℕ → List ℕ → List ℕ → ℕ
+after_capped l at t u = after_spaced (lettered letter_c l at t) (after_lettered letter_c l at t) u
 
 -- a minus sign, where it is to be, and after it a text
 abbrev pub minus : List ℕ
 minus = 45 ∷ []
 
-unfoldable pub signedBy : Bool → List ℕ → ℕ → List ℕ → List ℕ
-signedBy true l at t = placed (placed l at minus) (after l at minus) t
-signedBy false l at t = placed l at t
+unfoldable pub signed_by : Bool → List ℕ → ℕ → List ℕ → List ℕ
+signed_by true l at t = placed (placed l at minus) (after l at minus) t
+signed_by false l at t = placed l at t
 
-unfoldable pub afterSigned : Bool → List ℕ → ℕ → List ℕ → ℕ
-afterSigned true l at t = after (placed l at minus) (after l at minus) t
-afterSigned false l at t = after l at t
+unfoldable pub after_signed : Bool → List ℕ → ℕ → List ℕ → ℕ
+after_signed true l at t = after (placed l at minus) (after l at minus) t
+after_signed false l at t = after l at t
 
 -- the place for n bytes after the first ones that are used, which go where they leave none
 unfoldable pub room : List ℕ → ℕ → ℕ → ℕ
 room l used n = cond (fits l used n) used 0
 
 -- the line of a record that ends inside itself, `R 6`, in that place; is none of its bytes left?
-abbrev pub cutLine : List ℕ
-cutLine = 82 ∷ 32 ∷ 54 ∷ 10 ∷ []
+abbrev pub cut_line : List ℕ
+cut_line = 82 ∷ 32 ∷ 54 ∷ 10 ∷ []
 
-unfoldable pub cutBy : Bool → List ℕ → ℕ → List ℕ
-cutBy true l used = l
-cutBy false l used = placed l (room l used 4) cutLine
+unfoldable pub cut_by : Bool → List ℕ → ℕ → List ℕ
+cut_by true l used = l
+cut_by false l used = placed l (room l used 4) cut_line
 
-unfoldable pub afterCut : Bool → List ℕ → ℕ → ℕ
-afterCut true l used = used
-afterCut false l used = after l (room l used 4) cutLine
+unfoldable pub after_cut : Bool → List ℕ → ℕ → ℕ
+after_cut true l used = used
+after_cut false l used = after l (room l used 4) cut_line
 
 -- ---- digits
 -- the lowest hex digit of a number: `0` to `9`, then `A` to `F`

@@ -11,9 +11,9 @@ abbrev pub word : List ℕ → ℕ → ℕ
 word s at = four s at 0 + four s at 4 * 4294967296
 
 -- the number of a word in two's complement: is it below 2^63; `negsuc n` is minus n, less one
-unfoldable pub signedBy : Bool → ℕ → ℤ
-signedBy true n = pos n
-signedBy false n = negsuc (0xFFFFFFFFFFFFFFFF - n)
+unfoldable pub signed_by : Bool → ℕ → ℤ
+signed_by true n = pos n
+signed_by false n = negsuc (0xFFFFFFFFFFFFFFFF - n)
 
 unfoldable pub signed : ℕ → ℤ
-signed n = signedBy (ltb n 0x8000000000000000) n
+signed n = signed_by (ltb n 0x8000000000000000) n

@@ -1,7 +1,7 @@
 // Standard input and output. No contract can say what is read or written, so what is written is a
 // slice that a contract names.
 ghost use Rattle.std.specs.Prelude.{◌≡◌, ◌≤◌, eqb};
-ghost use Rattle.harness.specs.Texts.{room, cutBy, afterCut};
+ghost use Rattle.harness.specs.Texts.{room, cut_by, after_cut};
 
 use crate::text::{has_room, put};
 use feed::first;
@@ -36,8 +36,8 @@ pub fn make_room(out: &[u8], used: usize, n: usize) -> usize
 // After the lines of a block, that of a record that ends inside itself, if any of its bytes are left:
 // `R 6`.
 pub fn put_cut(out: &mut [u8], used: usize, left: usize) -> usize
-    ensures out_after { out.new ≡ cutBy (eqb left 0) out.old used }
-    ensures value { result ≡ afterCut (eqb left 0) out.old used }
+    ensures out_after { out.new ≡ cut_by (eqb left 0) out.old used }
+    ensures value { result ≡ after_cut (eqb left 0) out.old used }
 {
     if left == 0 {
         return used;

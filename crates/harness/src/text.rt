@@ -4,7 +4,7 @@ ghost use Rattle.std.specs.Prelude.{◌≡◌, pos, nat_abs, length};
 ghost use Rattle.std.specs.Int.Signed.{lt_z};
 ghost use Rattle.std.specs.Float.{binary64};
 ghost use Rattle.std.specs.Float.Ieee.{to_bits};
-ghost use Rattle.harness.specs.Texts.{fits, placed, after, spaced, afterSpaced, letterR, lettered, afterLettered, capped, afterCapped, signedBy, afterSigned, glyph, hex, count};
+ghost use Rattle.harness.specs.Texts.{fits, placed, after, spaced, after_spaced, letter_r, lettered, after_lettered, capped, after_capped, signed_by, after_signed, glyph, hex, count};
 
 use amounts::size_of;
 use elementary::bits_of;
@@ -75,7 +75,7 @@ pub fn put_hex(out: &mut [u8], at: usize, bits: u64) -> usize
 // A space and a count.
 pub fn put_number(out: &mut [u8], at: usize, n: u64) -> usize
     ensures out_after { out.new ≡ spaced out.old at (count n) }
-    ensures value { result ≡ afterSpaced out.old at (count n) }
+    ensures value { result ≡ after_spaced out.old at (count n) }
 {
     let next = put(out, at, b" ");
     put_count(out, next, n)
@@ -83,8 +83,8 @@ pub fn put_number(out: &mut [u8], at: usize, n: u64) -> usize
 
 // `R`, a space and a refusal's number.
 pub fn put_refusal(out: &mut [u8], at: usize, number: u8) -> usize
-    ensures out_after { out.new ≡ lettered letterR out.old at (count number) }
-    ensures value { result ≡ afterLettered letterR out.old at (count number) }
+    ensures out_after { out.new ≡ lettered letter_r out.old at (count number) }
+    ensures value { result ≡ after_lettered letter_r out.old at (count number) }
 {
     let next = put(out, at, b"R");
     put_number(out, next, number as u64)
@@ -92,8 +92,8 @@ pub fn put_refusal(out: &mut [u8], at: usize, number: u8) -> usize
 
 // A number in decimal digits, after a minus sign where it is negative.
 pub fn put_signed(out: &mut [u8], at: usize, n: i64) -> usize
-    ensures out_after { out.new ≡ signedBy (lt_z n (pos 0)) out.old at (count (nat_abs n)) }
-    ensures value { result ≡ afterSigned (lt_z n (pos 0)) out.old at (count (nat_abs n)) }
+    ensures out_after { out.new ≡ signed_by (lt_z n (pos 0)) out.old at (count (nat_abs n)) }
+    ensures value { result ≡ after_signed (lt_z n (pos 0)) out.old at (count (nat_abs n)) }
 {
     if n < 0 {
         let next = put(out, at, b"-");
@@ -105,7 +105,7 @@ pub fn put_signed(out: &mut [u8], at: usize, n: i64) -> usize
 // A space and a float's pattern in 16 hex digits.
 pub fn put_float(out: &mut [u8], at: usize, x: f64) -> usize
     ensures out_after { out.new ≡ spaced out.old at (hex 16 (to_bits binary64 x)) }
-    ensures value { result ≡ afterSpaced out.old at (hex 16 (to_bits binary64 x)) }
+    ensures value { result ≡ after_spaced out.old at (hex 16 (to_bits binary64 x)) }
 {
     let next = put(out, at, b" ");
     put_hex(out, next, bits_of(x))
@@ -114,7 +114,7 @@ pub fn put_float(out: &mut [u8], at: usize, x: f64) -> usize
 // `C`, the steps needed and the budget left, with a space before each.
 pub fn put_cap(out: &mut [u8], at: usize, needed: f64, budget: u32) -> usize
     ensures out_after { out.new ≡ capped out.old at (hex 16 (to_bits binary64 needed)) (count budget) }
-    ensures value { result ≡ afterCapped out.old at (hex 16 (to_bits binary64 needed)) (count budget) }
+    ensures value { result ≡ after_capped out.old at (hex 16 (to_bits binary64 needed)) (count budget) }
 {
     let mut next = put(out, at, b"C");
     next = put_float(out, next, needed);

@@ -11,23 +11,23 @@ use lib.IntN.{ℤ, pos, negsuc, neg_ℤ, sub_ℕ, ◌-ℤ◌}
 use lib.ListN.{length}
 use lib.Dec.{leb, ltb}
 use Rattle.model.specs.Configuration.{turned}
-use Rattle.model.specs.Model.{checkCall}
-use Rattle.lots.specs.Reckoning.{reckoning, holdingOf}
+use Rattle.model.specs.Model.{check_call}
+use Rattle.lots.specs.Reckoning.{reckoning, holding_of}
 use Rattle.model.specs.declared.GLFTConfig.{GLFTConfig}
 use Rattle.elementary.specs.declared.Check.{Check}
 use Rattle.elementary.specs.declared.Check.TheVariants as Check
-use Rattle.lots.proofs.Lots.{lots-are-single}
-use Rattle.lots.proofs.OneRun.{check-turned, lots-mirror, one-run, check-refusals}
-use Rattle.ladders.specs.Refusals.{smallLadderBuffer}
-use Rattle.lines.specs.Lines.{answerLine, textLeft}
-use Rattle.ladders.specs.Ladder.{lotAt, ladderLine, ladder, ladderRoom, ladderIf, ladderFor, ladderAnswer, LadderIsSingle, LinesFace, LadderMirror, LadderOwnMirror, LadderMirrorRefusals, LadderOneRun, LadderFits, LaddersBounded, Unrefused, LadderRefusals}
+use Rattle.lots.proofs.Lots.{lots_are_single}
+use Rattle.lots.proofs.OneRun.{check_turned, lots_mirror, one_run, check_refusals}
+use Rattle.ladders.specs.Refusals.{small_ladder_buffer}
+use Rattle.lines.specs.Lines.{answer_line, text_left}
+use Rattle.ladders.specs.Ladder.{lot_at, ladder_line, ladder, ladder_room, ladder_if, ladder_for, ladder_answer, LadderIsSingle, LinesFace, LadderMirror, LadderOwnMirror, LadderMirrorRefusals, LadderOneRun, LadderFits, LaddersBounded, Unrefused, LadderRefusals}
 use Rattle.ladders.specs.declared.ladder.LadderAnswer.TheVariants as LadderAnswer
-use Rattle.ladders.proofs.Rungs.{lot-within, bound-checked, ladder-most}
+use Rattle.ladders.proofs.Rungs.{lot_within, bound_checked, ladder_most}
 
 -- ---- single calls
-pub ladder-is-single : LadderIsSingle
-unfolding ladderLine
-ladder-is-single mid c vol t e i h = ap answerLine (lots-are-single mid c vol t (lotAt c i) e (lot-within c i h))
+pub ladder_is_single : LadderIsSingle
+unfolding ladder_line
+ladder_is_single mid c vol t e i h = ap answer_line (lots_are_single mid c vol t (lot_at c i) e (lot_within c i h))
 
 -- ---- opposite lines
 negated : (m : ℕ) → neg_ℤ (pos (suc m)) ≡ negsuc m
@@ -45,8 +45,8 @@ above i j b e h =
     let k : i - b ≡ suc (b - suc j) = omega arith in
     rw (lt-ltb j b (omega arith), le-ltb i b (omega arith), k) (sym (negated (b - suc j)))
 
-sub-opposite : (i j b : ℕ) → i + j ≡ 2 * b → sub_ℕ j b ≡ neg_ℤ (sub_ℕ i b)
-sub-opposite i j b e = go (ltb i b) (ltb b i) (ltb-true i b) (ltb-false i b) (ltb-true b i) (ltb-false b i)
+sub_opposite : (i j b : ℕ) → i + j ≡ 2 * b → sub_ℕ j b ≡ neg_ℤ (sub_ℕ i b)
+sub_opposite i j b e = go (ltb i b) (ltb b i) (ltb-true i b) (ltb-false i b) (ltb-true b i) (ltb-false b i)
   where
     go : (x y : Bool) → (x ≡ true → i < b) → (x ≡ false → b ≤ i) → (y ≡ true → b < i) → (y ≡ false → i ≤ b) → sub_ℕ j b ≡ neg_ℤ (sub_ℕ i b)
     go true y f g h k = below i j b e (f refl)
@@ -61,17 +61,17 @@ opposite i j zero e =
     let p : i ≡ 0 = omega arith in
     let q : j ≡ 0 = omega arith in
     rw (p, q)
-opposite i j (suc b) e = sub-opposite i j (suc b) e
+opposite i j (suc b) e = sub_opposite i j (suc b) e
 
-lot-opposite : (c : GLFTConfig) (i j : ℕ) → i + j ≡ 2 * c.max_inventory_lots → lotAt (turned c) j ≡ neg_ℤ (lotAt c i)
-unfolding lotAt
-lot-opposite c i j e = opposite i j c.max_inventory_lots e
+lot_opposite : (c : GLFTConfig) (i j : ℕ) → i + j ≡ 2 * c.max_inventory_lots → lot_at (turned c) j ≡ neg_ℤ (lot_at c i)
+unfolding lot_at
+lot_opposite c i j e = opposite i j c.max_inventory_lots e
 
-pub ladder-mirror : LadderMirror
-unfolding holdingOf
-ladder-mirror mid c vol t e i j k =
-    let m = lots-mirror mid c vol t (lotAt c i) e (lot-within c i (omega arith)) in
-    (refl, rw (lot-opposite c i j k) m.0, rw (lot-opposite c i j k) m.1)
+pub ladder_mirror : LadderMirror
+unfolding holding_of
+ladder_mirror mid c vol t e i j k =
+    let m = lots_mirror mid c vol t (lot_at c i) e (lot_within c i (omega arith)) in
+    (refl, rw (lot_opposite c i j k) m.0, rw (lot_opposite c i j k) m.1)
 
 -- no drift, turned, is no drift
 turned_none : (c : GLFTConfig) → c.drift ≡ pos 0 → turned c ≡ c
@@ -90,71 +90,71 @@ turned_none c e =
     })
     (ap neg_ℤ e ∙ sym e)
 
-pub ladder-own-mirror : LadderOwnMirror
-ladder-own-mirror mid c vol t z e i j k = subst (λ (d : GLFTConfig). LinesFace mid c d vol t i j) (turned_none c z) (ladder-mirror mid c vol t e i j k)
+pub ladder_own_mirror : LadderOwnMirror
+ladder_own_mirror mid c vol t z e i j k = subst (λ (d : GLFTConfig). LinesFace mid c d vol t i j) (turned_none c z) (ladder_mirror mid c vol t e i j k)
 
 -- the checks and the room are the same for both
-refused-too : (k : Check) (m : Bool) (t u : List ℕ) (n : ℕ) → ladderAnswer (ladderIf k m t) ≡ LadderAnswer.Refused n → ladderAnswer (ladderIf k m u) ≡ LadderAnswer.Refused n
-unfolding ladderAnswer ladderIf
-refused-too Check.Passes true t u n e = let z : ◌≡◌ {A = ℕ} 0 1 = cc in absurd (omega arith)
-refused-too Check.Passes false t u n e = e
-refused-too (Check.Refused r) m t u n e = e
+refused_too : (k : Check) (m : Bool) (t u : List ℕ) (n : ℕ) → ladder_answer (ladder_if k m t) ≡ LadderAnswer.Refused n → ladder_answer (ladder_if k m u) ≡ LadderAnswer.Refused n
+unfolding ladder_answer ladder_if
+refused_too Check.Passes true t u n e = let z : ◌≡◌ {A = ℕ} 0 1 = cc in absurd (omega arith)
+refused_too Check.Passes false t u n e = e
+refused_too (Check.Refused r) m t u n e = e
 
-pub ladder-mirror-refusals : LadderMirrorRefusals
-unfolding ladderFor
-ladder-mirror-refusals mid c vol t b n = rw (check-turned mid c vol t) (refused-too _ _ _ _ n, refused-too _ _ _ _ n)
+pub ladder_mirror_refusals : LadderMirrorRefusals
+unfolding ladder_for
+ladder_mirror_refusals mid c vol t b n = rw (check_turned mid c vol t) (refused_too _ _ _ _ n, refused_too _ _ _ _ n)
 
 -- ---- one run
-pub ladder-one-run : LadderOneRun
-ladder-one-run mid c vol t i j n m h g = one-run mid c (reckoning c vol t) (lotAt c i) (lotAt c j) n m h g
+pub ladder_one_run : LadderOneRun
+ladder_one_run mid c vol t i j n m h g = one_run mid c (reckoning c vol t) (lot_at c i) (lot_at c j) n m h g
 
 -- ---- the room
 -- what was written passed the checks and had the room
-was-written : (k : Check) (m : Bool) (t : List ℕ) (n : ℕ) → ladderAnswer (ladderIf k m t) ≡ LadderAnswer.Written n → (k ≡ Check.Passes) × (m ≡ true) × (n ≡ length t)
-unfolding ladderAnswer ladderIf
-was-written Check.Passes true t n e = (refl, refl, cc)
-was-written Check.Passes false t n e = let z : ◌≡◌ {A = ℕ} 0 1 = cc in absurd (omega arith)
-was-written (Check.Refused r) m t n e = let z : ◌≡◌ {A = ℕ} 0 1 = cc in absurd (omega arith)
+was_written : (k : Check) (m : Bool) (t : List ℕ) (n : ℕ) → ladder_answer (ladder_if k m t) ≡ LadderAnswer.Written n → (k ≡ Check.Passes) × (m ≡ true) × (n ≡ length t)
+unfolding ladder_answer ladder_if
+was_written Check.Passes true t n e = (refl, refl, cc)
+was_written Check.Passes false t n e = let z : ◌≡◌ {A = ℕ} 0 1 = cc in absurd (omega arith)
+was_written (Check.Refused r) m t n e = let z : ◌≡◌ {A = ℕ} 0 1 = cc in absurd (omega arith)
 
-pub ladder-fits : LadderFits
-unfolding ladderFor
-ladder-fits mid c vol t b n e =
-    let w = was-written (checkCall mid c vol t) (leb (ladderRoom c) (length b)) (ladder mid c vol t) n e in
-    rw w.2 (le_trans (ladder-most mid c vol t w.0) (leb-true (ladderRoom c) (length b) w.1))
+pub ladder_fits : LadderFits
+unfolding ladder_for
+ladder_fits mid c vol t b n e =
+    let w = was_written (check_call mid c vol t) (leb (ladder_room c) (length b)) (ladder mid c vol t) n e in
+    rw w.2 (le_trans (ladder_most mid c vol t w.0) (leb-true (ladder_room c) (length b) w.1))
 
-pub ladders-bounded : LaddersBounded
-ladders-bounded mid c vol t e = omega (arith, bound-checked mid c vol t e)
+pub ladders_bounded : LaddersBounded
+ladders_bounded mid c vol t e = omega (arith, bound_checked mid c vol t e)
 
 -- ---- refusals
-was-refused : (k : Check) (m : Bool) (t b : List ℕ) (n : ℕ) → ladderAnswer (ladderIf k m t) ≡ LadderAnswer.Refused n
-    → ((k ≡ Check.Refused n) ⊎ ((n ≡ smallLadderBuffer) × (k ≡ Check.Passes) × (m ≡ false))) × (textLeft (ladderIf k m t) b ≡ b)
-unfolding ladderAnswer ladderIf textLeft
-was-refused Check.Passes true t b n e = let z : ◌≡◌ {A = ℕ} 0 1 = cc in absurd (omega arith)
-was-refused Check.Passes false t b n e = (inr (cc, refl, refl), refl)
-was-refused (Check.Refused r) m t b n e = let z : r ≡ n = cc in (inl (ap Check.Refused z), refl)
+was_refused : (k : Check) (m : Bool) (t b : List ℕ) (n : ℕ) → ladder_answer (ladder_if k m t) ≡ LadderAnswer.Refused n
+    → ((k ≡ Check.Refused n) ⊎ ((n ≡ small_ladder_buffer) × (k ≡ Check.Passes) × (m ≡ false))) × (text_left (ladder_if k m t) b ≡ b)
+unfolding ladder_answer ladder_if text_left
+was_refused Check.Passes true t b n e = let z : ◌≡◌ {A = ℕ} 0 1 = cc in absurd (omega arith)
+was_refused Check.Passes false t b n e = (inr (cc, refl, refl), refl)
+was_refused (Check.Refused r) m t b n e = let z : r ≡ n = cc in (inl (ap Check.Refused z), refl)
 
 module _ (mid : ℤ) (c : GLFTConfig) (vol : ℤ) (t : ℕ) where
-  no-check : (k : Check) → checkCall mid c vol t ≡ k → Unrefused mid c vol t → k ≡ Check.Passes
-  no-check Check.Passes e u = refl
-  no-check (Check.Refused n) e u = let x = (check-refusals mid c vol t n).0 e in absurd (u n x.0 x.1)
+  no_check : (k : Check) → check_call mid c vol t ≡ k → Unrefused mid c vol t → k ≡ Check.Passes
+  no_check Check.Passes e u = refl
+  no_check (Check.Refused n) e u = let x = (check_refusals mid c vol t n).0 e in absurd (u n x.0 x.1)
 
-  passes-all : checkCall mid c vol t ≡ Check.Passes → Unrefused mid c vol t
-  passes-all e n y x = let r = (check-refusals mid c vol t n).1 (y, x) in let z : ◌≡◌ {A = ℕ} 0 1 = cc in omega arith
+  passes_all : check_call mid c vol t ≡ Check.Passes → Unrefused mid c vol t
+  passes_all e n y x = let r = (check_refusals mid c vol t n).1 (y, x) in let z : ◌≡◌ {A = ℕ} 0 1 = cc in omega arith
 
-pub ladder-refusals : LadderRefusals
-unfolding ladderFor ladderIf ladderAnswer
-ladder-refusals mid c vol t b n = (
+pub ladder_refusals : LadderRefusals
+unfolding ladder_for ladder_if ladder_answer
+ladder_refusals mid c vol t b n = (
   (
     λ e.
-        elim (was-refused (checkCall mid c vol t) (leb (ladderRoom c) (length b)) (ladder mid c vol t) b n e).0 [
-          | inl k ↦ inl ((check-refusals mid c vol t n).0 k)
-          | inr k ↦ inr (k.0, passes-all mid c vol t k.1, leb-false (ladderRoom c) (length b) k.2)
+        elim (was_refused (check_call mid c vol t) (leb (ladder_room c) (length b)) (ladder mid c vol t) b n e).0 [
+          | inl k ↦ inl ((check_refusals mid c vol t n).0 k)
+          | inr k ↦ inr (k.0, passes_all mid c vol t k.1, leb-false (ladder_room c) (length b) k.2)
         ],
     λ x.
         elim x [
-          | inl k ↦ ap (λ (x : Check). ladderAnswer (ladderIf x (leb (ladderRoom c) (length b)) (ladder mid c vol t))) ((check-refusals mid c vol t n).1 k)
-          | inr k ↦ rw (no-check mid c vol t (checkCall mid c vol t) refl k.1, lt-leb (ladderRoom c) (length b) k.2, k.0)
+          | inl k ↦ ap (λ (x : Check). ladder_answer (ladder_if x (leb (ladder_room c) (length b)) (ladder mid c vol t))) ((check_refusals mid c vol t n).1 k)
+          | inr k ↦ rw (no_check mid c vol t (check_call mid c vol t) refl k.1, lt-leb (ladder_room c) (length b) k.2, k.0)
         ],
   ),
-  λ e. (was-refused (checkCall mid c vol t) (leb (ladderRoom c) (length b)) (ladder mid c vol t) b n e).1,
+  λ e. (was_refused (check_call mid c vol t) (leb (ladder_room c) (length b)) (ladder mid c vol t) b n e).1,
 )

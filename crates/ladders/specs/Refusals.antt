@@ -2,5 +2,5 @@
 use Rattle.std.specs.Prelude.{ℕ}
 
 -- a ladder's buffer under 64 × (2 × bound + 1) bytes
-abbrev pub smallLadderBuffer : ℕ
-smallLadderBuffer = 21
+abbrev pub small_ladder_buffer : ℕ
+small_ladder_buffer = 21

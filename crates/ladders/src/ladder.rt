@@ -1,10 +1,10 @@
 // Writes the ladder of a desk: a line for each lot from minus the bound to the bound, lowest first,
 // from one reckoning.
 ghost use Rattle.std.specs.Prelude.{◌≡◌, ◌≤◌, length};
-ghost use Rattle.model.specs.Model.{checkCall};
+ghost use Rattle.model.specs.Model.{check_call};
 ghost use Rattle.elementary.specs.declared.Check.TheVariants as Check;
 ghost use Rattle.buffers.specs.Over.{over};
-ghost use Rattle.ladders.specs.Ladder.{rungs, lotAt, ladder, ladderRoom, laddered, ladderedIn};
+ghost use Rattle.ladders.specs.Ladder.{rungs, lot_at, ladder, ladder_room, laddered, laddered_in};
 
 use crate::refusals::SMALL_LADDER_BUFFER;
 use lines::{LEAST_ROOM, LineWritten, write_answer};
@@ -32,7 +32,7 @@ fn rungs_of(config: GLFTConfig) -> usize
 // The lots of line i.
 fn lot_at(config: GLFTConfig, i: usize) -> i64
     requires { (config.max_inventory_lots ≤ 200) × (i ≤ 400) }
-    ensures { result ≡ lotAt config i }
+    ensures { result ≡ lot_at config i }
 {
     i as i64 - config.max_inventory_lots as i64
 }
@@ -45,8 +45,8 @@ fn write_rungs(
     volatility: i64,
     current_time: u64,
 ) -> usize
-    requires current_time_value { checkCall mid_price config volatility current_time ≡ Check.Passes }
-    requires config_in_bounds { ladderRoom config ≤ length out.old }
+    requires current_time_value { check_call mid_price config volatility current_time ≡ Check.Passes }
+    requires config_in_bounds { ladder_room config ≤ length out.old }
     ensures out_after { out.new ≡ over (ladder mid_price config volatility current_time) out.old }
     ensures value { result ≡ length (ladder mid_price config volatility current_time) }
 {
@@ -89,7 +89,7 @@ pub fn write_ladder(
     out: &mut [u8],
 ) -> LadderAnswer
     ensures value { result ≡ laddered mid_price config volatility current_time out.old }
-    ensures out_after { out.new ≡ ladderedIn mid_price config volatility current_time out.old }
+    ensures out_after { out.new ≡ laddered_in mid_price config volatility current_time out.old }
 {
     match quote::check_call(mid_price, config, volatility, current_time) {
         Check::Passes => {

@@ -2,5 +2,5 @@
 use Rattle.std.specs.Prelude.{ℕ}
 
 -- the most bytes of a side: a sign, ten digits, a point and nine decimals
-abbrev pub mostSide : ℕ
-mostSide = 21
+abbrev pub most_side : ℕ
+most_side = 21

@@ -11,7 +11,7 @@ use Rattle.quote.specs.declared.ExactQuotes.TheVariants as ExactQuotes
 use Rattle.plan.specs.declared.FirstPlan.{FirstPlan}
 use Rattle.plan.specs.declared.FirstPlan.TheVariants as FirstPlan
 use Rattle.buffers.specs.Over.{over}
-use Rattle.lines.specs.Refusals.{smallBuffer}
+use Rattle.lines.specs.Refusals.{small_buffer}
 use Rattle.lines.specs.declared.line.LineWritten.{LineWritten}
 use Rattle.lines.specs.declared.line.LineWritten.TheVariants as LineWritten
 
@@ -63,34 +63,34 @@ joined f [] = f ++ (10 ∷ [])
 joined f (g ∷ fs) = f ++ (32 ∷ joined g fs)
 
 -- `Q`, bid, ask, steps
-unfoldable pub quotesLine : GlftQuotes → ℕ → List ℕ
-quotesLine q s = joined (81 ∷ []) (side q.bid ∷ side q.ask ∷ count s ∷ [])
+unfoldable pub quotes_line : GlftQuotes → ℕ → List ℕ
+quotes_line q s = joined (81 ∷ []) (side q.bid ∷ side q.ask ∷ count s ∷ [])
 
 -- `C`, steps needed, budget left
-unfoldable pub capLine : Float → ℕ → List ℕ
-capLine need b = joined (67 ∷ []) (hex need ∷ count b ∷ [])
+unfoldable pub cap_line : Float → ℕ → List ℕ
+cap_line need b = joined (67 ∷ []) (hex need ∷ count b ∷ [])
 
 -- `R`, number
-unfoldable pub refusalLine : ℕ → List ℕ
-refusalLine n = joined (82 ∷ []) (count n ∷ [])
+unfoldable pub refusal_line : ℕ → List ℕ
+refusal_line n = joined (82 ∷ []) (count n ∷ [])
 
-unfoldable pub answerLine : ExactQuotes → List ℕ
-answerLine (ExactQuotes.Quotes q s) = quotesLine q s
-answerLine (ExactQuotes.OverStepCap need b s) = capLine need b
-answerLine (ExactQuotes.Refused n) = refusalLine n
+unfoldable pub answer_line : ExactQuotes → List ℕ
+answer_line (ExactQuotes.Quotes q s) = quotes_line q s
+answer_line (ExactQuotes.OverStepCap need b s) = cap_line need b
+answer_line (ExactQuotes.Refused n) = refusal_line n
 
 -- a first plan: `N` and the steps; or the line of a cap report or of a refusal
-unfoldable pub planLine : FirstPlan → List ℕ
-planLine (FirstPlan.Steps n) = joined (78 ∷ []) (count n ∷ [])
-planLine (FirstPlan.OverCap need b) = capLine need b
-planLine (FirstPlan.Refused n) = refusalLine n
+unfoldable pub plan_line : FirstPlan → List ℕ
+plan_line (FirstPlan.Steps n) = joined (78 ∷ []) (count n ∷ [])
+plan_line (FirstPlan.OverCap need b) = cap_line need b
+plan_line (FirstPlan.Refused n) = refusal_line n
 
 -- ---- the least line buffer
-abbrev pub leastRoom : ℕ
-leastRoom = 64
+abbrev pub least_room : ℕ
+least_room = 64
 
-abbrev pub hasRoom : List ℕ → Bool
-hasRoom b = leb leastRoom (length b)
+abbrev pub has_room : List ℕ → Bool
+has_room b = leb least_room (length b)
 
 -- ---- what a buffer gets: a text, or the number that refuses it
 pub data Text : Type 0 where
@@ -98,18 +98,18 @@ pub data Text : Type 0 where
   refusal : ℕ → Text
 
 -- a line, where the buffer has the room for any
-unfoldable pub lineIf : Bool → List ℕ → Text
-lineIf false t = refusal smallBuffer
-lineIf true t = text t
+unfoldable pub line_if : Bool → List ℕ → Text
+line_if false t = refusal small_buffer
+line_if true t = text t
 
 abbrev pub line_for : List ℕ → List ℕ → Text
-line_for t b = lineIf (hasRoom b) t
+line_for t b = line_if (has_room b) t
 
 -- what a writer answers, and what it leaves in the buffer
 unfoldable pub wrote : Text → LineWritten
 wrote (text t) = LineWritten.Written (length t)
 wrote (refusal n) = LineWritten.Refused n
 
-unfoldable pub textLeft : Text → List ℕ → List ℕ
-textLeft (text t) b = over t b
-textLeft (refusal n) b = b
+unfoldable pub text_left : Text → List ℕ → List ℕ
+text_left (text t) b = over t b
+text_left (refusal n) b = b

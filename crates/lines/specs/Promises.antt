@@ -6,8 +6,8 @@ use Rattle.prices.specs.declared.Price.{Price}
 use Rattle.prices.specs.declared.Price.TheVariants.{At, Absent}
 use Rattle.quote.specs.declared.ExactQuotes.{ExactQuotes}
 use Rattle.quote.specs.declared.ExactQuotes.TheVariants as ExactQuotes
-use Rattle.lines.specs.Refusals.{smallBuffer}
-use Rattle.lines.specs.Lines.{answerLine, planLine, leastRoom, line_for, wrote, textLeft}
+use Rattle.lines.specs.Refusals.{small_buffer}
+use Rattle.lines.specs.Lines.{answer_line, plan_line, least_room, line_for, wrote, text_left}
 use Rattle.lines.specs.declared.line.LineWritten.TheVariants as LineWritten
 
 -- ---- machine numbers: a price is an i64, steps and budget are u32, and the number of a refusal is a u8
@@ -27,11 +27,11 @@ PlanHeld (FirstPlan.Refused n) = n < 256
 
 -- ---- no line of such an answer is longer than the least line buffer, nor of such a plan
 abbrev pub AnswersFit : Type 0
-AnswersFit = (a : ExactQuotes) → AnswerHeld a → length (answerLine a) ≤ leastRoom
+AnswersFit = (a : ExactQuotes) → AnswerHeld a → length (answer_line a) ≤ least_room
 
 abbrev pub PlansFit : Type 0
-PlansFit = (p : FirstPlan) → PlanHeld p → length (planLine p) ≤ leastRoom
+PlansFit = (p : FirstPlan) → PlanHeld p → length (plan_line p) ≤ least_room
 
 -- ---- 8: the buffer has fewer than 64 bytes, whatever the line; no other, and a refusal leaves the buffer as it was
 abbrev pub WriterRefusals : Type 0
-WriterRefusals = (t b : List ℕ) (k : ℕ) → ((wrote (line_for t b) ≡ LineWritten.Refused k) ↔ ((k ≡ smallBuffer) × (length b < leastRoom))) × (wrote (line_for t b) ≡ LineWritten.Refused k → textLeft (line_for t b) b ≡ b)
+WriterRefusals = (t b : List ℕ) (k : ℕ) → ((wrote (line_for t b) ≡ LineWritten.Refused k) ↔ ((k ≡ small_buffer) × (length b < least_room))) × (wrote (line_for t b) ≡ LineWritten.Refused k → text_left (line_for t b) b ≡ b)

@@ -2,5 +2,5 @@
 use Rattle.std.specs.Prelude.{ℕ}
 
 -- a line buffer under 64 bytes
-abbrev pub smallBuffer : ℕ
-smallBuffer = 8
+abbrev pub small_buffer : ℕ
+small_buffer = 8

@@ -1,6 +1,6 @@
 // Writes the line of a first plan, which tells whether a horizon is too long before anything runs.
 ghost use Rattle.std.specs.Prelude.{◌≡◌};
-ghost use Rattle.lines.specs.Lines.{planLine, line_for, wrote, textLeft};
+ghost use Rattle.lines.specs.Lines.{plan_line, line_for, wrote, text_left};
 
 use crate::line::{LEAST_ROOM, LineWritten, write_cap, write_counted};
 use crate::refusals::SMALL_BUFFER;
@@ -8,8 +8,8 @@ use plan::FirstPlan;
 
 // Writes the line of any plan: refused by 8, which leaves the buffer as it is.
 pub fn write_plan(line: &mut [u8], plan: FirstPlan) -> LineWritten
-    ensures value { result ≡ wrote (line_for (planLine plan) line.old) }
-    ensures line_after { line.new ≡ textLeft (line_for (planLine plan) line.old) line.old }
+    ensures value { result ≡ wrote (line_for (plan_line plan) line.old) }
+    ensures line_after { line.new ≡ text_left (line_for (plan_line plan) line.old) line.old }
 {
     if line.len() < LEAST_ROOM {
         return LineWritten::Refused(SMALL_BUFFER);

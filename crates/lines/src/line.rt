@@ -1,8 +1,8 @@
 // Writes the line of an answer. Each writer writes its text at the start of the slice that it is
 // lent, answers how many bytes that took, and leaves the others as they were.
 ghost use Rattle.std.specs.Prelude.{◌≡◌, [], ◌∷◌, ◌<◌, ◌≤◌, length};
-ghost use Rattle.lines.specs.Lines.{glyph, digits, places, count, price, signed, side, hex, joined, quotesLine, capLine, refusalLine, answerLine, leastRoom, line_for, wrote, textLeft};
-ghost use Rattle.lines.specs.Inner.{mostSide};
+ghost use Rattle.lines.specs.Lines.{glyph, digits, places, count, price, signed, side, hex, joined, quotes_line, cap_line, refusal_line, answer_line, least_room, line_for, wrote, text_left};
+ghost use Rattle.lines.specs.Inner.{most_side};
 ghost use Rattle.buffers.specs.Over.{over};
 
 use crate::refusals::SMALL_BUFFER;
@@ -84,9 +84,9 @@ fn write_price(out: &mut [u8], n: u64) -> usize
 
 // A price, with `-` before it where it is below zero.
 fn write_signed(out: &mut [u8], z: i64) -> usize
-    requires { mostSide ≤ length out.old }
+    requires { most_side ≤ length out.old }
     ensures out_after { out.new ≡ over (signed z) out.old }
-    ensures value { (result ≡ length (signed z)) × (result ≤ mostSide) }
+    ensures value { (result ≡ length (signed z)) × (result ≤ most_side) }
 {
     if z < 0 {
         out[0] = b'-';
@@ -97,9 +97,9 @@ fn write_signed(out: &mut [u8], z: i64) -> usize
 
 // A side: its price, or `-`.
 fn write_side(out: &mut [u8], p: Price) -> usize
-    requires { mostSide ≤ length out.old }
+    requires { most_side ≤ length out.old }
     ensures out_after { out.new ≡ over (side p) out.old }
-    ensures value { (result ≡ length (side p)) × (result ≤ mostSide) }
+    ensures value { (result ≡ length (side p)) × (result ≤ most_side) }
 {
     match p {
         Price::At(z) => write_signed(out, z),
@@ -121,9 +121,9 @@ fn write_hex(out: &mut [u8], x: f64) -> usize
 }
 
 fn write_quotes(line: &mut [u8], q: GlftQuotes, steps: u32) -> usize
-    requires { leastRoom ≤ length line.old }
-    ensures line_after { line.new ≡ over (quotesLine q steps) line.old }
-    ensures value { result ≡ length (quotesLine q steps) }
+    requires { least_room ≤ length line.old }
+    ensures line_after { line.new ≡ over (quotes_line q steps) line.old }
+    ensures value { result ≡ length (quotes_line q steps) }
 {
     let bid = q.bid;
     let ask = q.ask;
@@ -142,9 +142,9 @@ fn write_quotes(line: &mut [u8], q: GlftQuotes, steps: u32) -> usize
 }
 
 pub(crate) fn write_cap(line: &mut [u8], need: f64, budget: u32) -> usize
-    requires { length (capLine need budget) ≤ length line.old }
-    ensures line_after { line.new ≡ over (capLine need budget) line.old }
-    ensures value { result ≡ length (capLine need budget) }
+    requires { length (cap_line need budget) ≤ length line.old }
+    ensures line_after { line.new ≡ over (cap_line need budget) line.old }
+    ensures value { result ≡ length (cap_line need budget) }
 {
     line[0] = b'C';
     line[1] = b' ';
@@ -173,8 +173,8 @@ pub(crate) fn write_counted(line: &mut [u8], letter: u8, n: u64) -> usize
 
 // Writes the line of a refusal: refused by 8, which leaves the buffer as it is.
 pub fn write_refusal(line: &mut [u8], number: u8) -> LineWritten
-    ensures value { result ≡ wrote (line_for (refusalLine number) line.old) }
-    ensures line_after { line.new ≡ textLeft (line_for (refusalLine number) line.old) line.old }
+    ensures value { result ≡ wrote (line_for (refusal_line number) line.old) }
+    ensures line_after { line.new ≡ text_left (line_for (refusal_line number) line.old) line.old }
 {
     if line.len() < LEAST_ROOM {
         return LineWritten::Refused(SMALL_BUFFER);
@@ -184,8 +184,8 @@ pub fn write_refusal(line: &mut [u8], number: u8) -> LineWritten
 
 // Writes the line of any answer: refused by 8, which leaves the buffer as it is.
 pub fn write_answer(line: &mut [u8], answer: ExactQuotes) -> LineWritten
-    ensures value { result ≡ wrote (line_for (answerLine answer) line.old) }
-    ensures line_after { line.new ≡ textLeft (line_for (answerLine answer) line.old) line.old }
+    ensures value { result ≡ wrote (line_for (answer_line answer) line.old) }
+    ensures line_after { line.new ≡ text_left (line_for (answer_line answer) line.old) line.old }
 {
     if line.len() < LEAST_ROOM {
         return LineWritten::Refused(SMALL_BUFFER);

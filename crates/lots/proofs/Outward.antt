@@ -5,35 +5,35 @@ use native.Mathlib.Omega.{arith}
 use mathlib.Core.Bool.{Bool, true, false, ◌&&◌}
 use lib.IntN.{ℤ}
 use lib.Ieee.{Float}
-use Rattle.elementary.specs.Checks.{Verdict, passes, refused, firstFailing}
+use Rattle.elementary.specs.Checks.{Verdict, passes, refused, first_failing}
 use Rattle.vector.specs.declared.VectorAnswer.{VectorAnswer}
-use Rattle.distances.specs.Reading.{answerFrom}
-use Rattle.amounts.specs.Amounts.{amountOk}
-use Rattle.quote.specs.Quotes.{exactBy, fromIf, quotesByAnswer}
-use Rattle.lots.specs.Reckoning.{quotesFrom, lotsChecks, lotsIf, quotesOfLots}
+use Rattle.distances.specs.Reading.{answer_from}
+use Rattle.amounts.specs.Amounts.{amount_ok}
+use Rattle.quote.specs.Quotes.{exact_by, from_if, quotes_by_answer}
+use Rattle.lots.specs.Reckoning.{quotes_from, lots_checks, lots_if, quotes_of_lots}
 use Rattle.quote.specs.Outward.{OutsideOf}
 use Rattle.model.specs.declared.GLFTConfig.{GLFTConfig}
 use Rattle.prices.specs.declared.GlftQuotes.{GlftQuotes}
 use Rattle.quote.specs.declared.ExactQuotes.TheVariants as Exact
 use Rattle.lots.specs.declared.Reckoning.{Reckoning}
-use Rattle.quote.proofs.Outward.{exact-outside}
+use Rattle.quote.proofs.Outward.{exact_outside}
 use Rattle.lots.specs.Outward.{LotsNeverInside}
 
-from-never : (mid least : ℤ) (k base : Float) (l : ℤ) (v : VectorAnswer) (q : GlftQuotes) (s : ℕ) → quotesFrom mid least k base l v ≡ Exact.Quotes q s → OutsideOf mid (answerFrom v k base l) q s
-unfolding quotesFrom quotesByAnswer fromIf
-from-never mid least k base l v q s = go (amountOk mid && amountOk least)
+from_never : (mid least : ℤ) (k base : Float) (l : ℤ) (v : VectorAnswer) (q : GlftQuotes) (s : ℕ) → quotes_from mid least k base l v ≡ Exact.Quotes q s → OutsideOf mid (answer_from v k base l) q s
+unfolding quotes_from quotes_by_answer from_if
+from_never mid least k base l v q s = go (amount_ok mid && amount_ok least)
   where
-    go : (t : Bool) → fromIf t (exactBy mid least (answerFrom v k base l)) ≡ Exact.Quotes q s → OutsideOf mid (answerFrom v k base l) q s
-    go true e = exact-outside mid least (answerFrom v k base l) q s e
+    go : (t : Bool) → from_if t (exact_by mid least (answer_from v k base l)) ≡ Exact.Quotes q s → OutsideOf mid (answer_from v k base l) q s
+    go true e = exact_outside mid least (answer_from v k base l) q s e
     go false e = let z : ◌≡◌ {A = ℕ} 0 1 = cc in absurd (omega arith)
 
-lots-never : (mid : ℤ) (c : GLFTConfig) (r : Reckoning) (l : ℤ) (q : GlftQuotes) (s : ℕ) → quotesOfLots mid c r l ≡ Exact.Quotes q s → OutsideOf mid (answerFrom r.vector r.k r.base l) q s
-unfolding quotesOfLots lotsIf
-lots-never mid c r l q s = go (firstFailing (lotsChecks c l))
+lots_never : (mid : ℤ) (c : GLFTConfig) (r : Reckoning) (l : ℤ) (q : GlftQuotes) (s : ℕ) → quotes_of_lots mid c r l ≡ Exact.Quotes q s → OutsideOf mid (answer_from r.vector r.k r.base l) q s
+unfolding quotes_of_lots lots_if
+lots_never mid c r l q s = go (first_failing (lots_checks c l))
   where
-    go : (v : Verdict) → lotsIf v (quotesFrom mid c.min_spread r.k r.base l r.vector) ≡ Exact.Quotes q s → OutsideOf mid (answerFrom r.vector r.k r.base l) q s
-    go passes e = from-never mid c.min_spread r.k r.base l r.vector q s e
+    go : (v : Verdict) → lots_if v (quotes_from mid c.min_spread r.k r.base l r.vector) ≡ Exact.Quotes q s → OutsideOf mid (answer_from r.vector r.k r.base l) q s
+    go passes e = from_never mid c.min_spread r.k r.base l r.vector q s e
     go (refused n) e = let z : ◌≡◌ {A = ℕ} 0 1 = cc in absurd (omega arith)
 
-pub lots-never-inside : LotsNeverInside
-lots-never-inside = record { from = from-never; lots = lots-never }
+pub lots_never_inside : LotsNeverInside
+lots_never_inside = record { from = from_never; lots = lots_never }

@@ -1,10 +1,10 @@
 // One value vector for every holding: the reckoning of a configuration and a market, and the quotes of
 // so many lots from it.
 ghost use Rattle.std.specs.Prelude.{◌≡◌, ◌*ℤ◌, T};
-ghost use Rattle.amounts.specs.Amounts.{amountOk, above0};
-ghost use Rattle.model.specs.Model.{modelOk, input_of};
-ghost use Rattle.vector.specs.Values.{valueVector};
-ghost use Rattle.lots.specs.Reckoning.{reckonIf, beside, reckoning, quotesFrom, lentReckoning, quotesOfLots};
+ghost use Rattle.amounts.specs.Amounts.{amount_ok, above0};
+ghost use Rattle.model.specs.Model.{model_ok, input_of};
+ghost use Rattle.vector.specs.Values.{value_vector};
+ghost use Rattle.lots.specs.Reckoning.{reckon_if, beside, reckoning, quotes_from, lent_reckoning, quotes_of_lots};
 
 use amounts::refusals::LIMITS;
 use model::{GLFTConfig, Model};
@@ -21,7 +21,7 @@ pub struct Reckoning {
 
 // The value vector of a model, or 5 in its place.
 fn vector_of(m: Model, tau: f64) -> VectorAnswer
-    ensures { result ≡ reckonIf (modelOk m) (valueVector (input_of m tau)) }
+    ensures { result ≡ reckon_if (model_ok m) (value_vector (input_of m tau)) }
 {
     if model::floats_fit(m) {
         return vector::value_vector(model::run_input(m, tau));
@@ -66,7 +66,7 @@ pub fn quotes_from(
     q: i64,
     vector: VectorAnswer,
 ) -> ExactQuotes
-    ensures { result ≡ quotesFrom mid_price min_spread k base q vector }
+    ensures { result ≡ quotes_from mid_price min_spread k base q vector }
 {
     quotes_by(
         mid_price,
@@ -79,7 +79,7 @@ pub fn quotes_from(
 // bits.
 fn lots_fit(q: i64, lot_size: i64) -> bool
     requires { T (above0 lot_size) }
-    ensures { result ≡ amountOk (q *ℤ lot_size) }
+    ensures { result ≡ amount_ok (q *ℤ lot_size) }
 {
     let most = GLFTConfig::MAX_AMOUNT / lot_size;
     (0 - most <= q) & (q <= most)
@@ -99,7 +99,7 @@ pub fn quotes_in<'a>(
     n: usize,
     q: i64,
 ) -> ExactQuotes
-    ensures { result ≡ quotesOfLots mid_price config (lentReckoning k base outcome n w.now log_offset.now) q }
+    ensures { result ≡ quotes_of_lots mid_price config (lent_reckoning k base outcome n w.now log_offset.now) q }
 {
     if amounts::is_positive(config.lot_size) {
         if lots_fit(q, config.lot_size) {
@@ -113,7 +113,7 @@ pub fn quotes_in<'a>(
 
 // The same from a reckoning by value.
 pub fn quotes_of_lots(mid_price: i64, config: GLFTConfig, r: Reckoning, q: i64) -> ExactQuotes
-    ensures { result ≡ quotesOfLots mid_price config r q }
+    ensures { result ≡ quotes_of_lots mid_price config r q }
 {
     let a = r.vector;
     let outcome = a.outcome;

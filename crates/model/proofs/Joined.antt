@@ -3,32 +3,32 @@ use mathlib.Core.Path.{◌≡◌, refl, sym, ap}
 use Prim.Native.Nat.{ℕ}
 use mathlib.Core.Bool.{Bool, true, false}
 use mathlib.Core.List.{List, ◌∷◌, ◌++◌, []}
-use Rattle.elementary.specs.Checks.{Verdict, passes, refused, verdict, first_of, firstFailing, checkOf, Refuses, here, later}
+use Rattle.elementary.specs.Checks.{Verdict, passes, refused, verdict, first_of, first_failing, check_of, Refuses, here, later}
 use Rattle.elementary.specs.declared.Check.{Check}
 use Rattle.elementary.specs.declared.Check.TheVariants as Check
-use Rattle.elementary.proofs.Checks.{failing-joined}
-use Rattle.model.specs.Checks.{verdictOf, oneCheck, firstRefusal}
+use Rattle.elementary.proofs.Checks.{failing_joined}
+use Rattle.model.specs.Checks.{verdict_of, one_check, first_refusal}
 
-pub verdict-told : (v : Verdict) → verdictOf (checkOf v) ≡ v
-unfolding verdictOf checkOf
-verdict-told passes = refl
-verdict-told (refused n) = refl
+pub verdict_told : (v : Verdict) → verdict_of (check_of v) ≡ v
+unfolding verdict_of check_of
+verdict_told passes = refl
+verdict_told (refused n) = refl
 
-pub first-passed : (k : Check) → firstRefusal Check.Passes k ≡ k
-unfolding firstRefusal first_of verdictOf checkOf
-first-passed Check.Passes = refl
-first-passed (Check.Refused n) = refl
+pub first_passed : (k : Check) → first_refusal Check.Passes k ≡ k
+unfolding first_refusal first_of verdict_of check_of
+first_passed Check.Passes = refl
+first_passed (Check.Refused n) = refl
 
-pub one_told : (b : Bool) (n : ℕ) → oneCheck b n ≡ checkOf (firstFailing ((b, n) ∷ []))
-unfolding oneCheck firstFailing first_of verdict
+pub one_told : (b : Bool) (n : ℕ) → one_check b n ≡ check_of (first_failing ((b, n) ∷ []))
+unfolding one_check first_failing first_of verdict
 one_told true n = refl
 one_told false n = refl
 
-pub joined-told : (l r : List (Bool × ℕ)) → firstRefusal (checkOf (firstFailing l)) (checkOf (firstFailing r)) ≡ checkOf (firstFailing (l ++ r))
-unfolding firstRefusal
-joined-told l r = rw (verdict-told (firstFailing l), verdict-told (firstFailing r)) (ap checkOf (sym (failing-joined l r)))
+pub joined_told : (l r : List (Bool × ℕ)) → first_refusal (check_of (first_failing l)) (check_of (first_failing r)) ≡ check_of (first_failing (l ++ r))
+unfolding first_refusal
+joined_told l r = rw (verdict_told (first_failing l), verdict_told (first_failing r)) (ap check_of (sym (failing_joined l r)))
 
 -- what refuses still refuses with more checks after it
-pub refuses-more : {l : List (Bool × ℕ)} {n : ℕ} (r : List (Bool × ℕ)) → Refuses l n → Refuses (l ++ r) n
-refuses-more r (here e) = here e
-refuses-more r (later e k) = later e (refuses-more r k)
+pub refuses_more : {l : List (Bool × ℕ)} {n : ℕ} (r : List (Bool × ℕ)) → Refuses l n → Refuses (l ++ r) n
+refuses_more r (here e) = here e
+refuses_more r (later e k) = later e (refuses_more r k)

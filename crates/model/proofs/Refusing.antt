@@ -5,10 +5,10 @@ use native.Mathlib.Omega.{arith}
 use mathlib.Core.Bool.{Bool}
 use mathlib.Core.List.{List}
 use lib.IntN.{ℤ}
-use Rattle.elementary.specs.Checks.{Verdict, passes, refused, firstFailing, Refuses}
-use Rattle.elementary.proofs.Checks.{first-failing}
-use Rattle.model.specs.Configuration.{configChecks, configIf, newConfig}
-use Rattle.model.specs.Model.{newModel}
+use Rattle.elementary.specs.Checks.{Verdict, passes, refused, first_failing, Refuses}
+use Rattle.elementary.proofs.Checks.{first_failing_lem}
+use Rattle.model.specs.Configuration.{config_checks, config_if, new_config}
+use Rattle.model.specs.Model.{new_model}
 use Rattle.model.specs.Refusing.{ConfigRefusals, ModelRefusals}
 use Rattle.model.specs.declared.GLFTConfig.{GLFTConfig}
 use Rattle.model.specs.declared.ConfigAnswer.TheVariants as ConfigAnswer
@@ -17,21 +17,21 @@ use Rattle.model.specs.declared.ModelAnswer.{ModelAnswer}
 use Rattle.model.specs.declared.ModelAnswer.TheVariants as ModelAnswer
 use Rattle.model.proofs.Passed.{Made, stopped, passed, made, stops}
 
-config-stopped : (v : Verdict) (c : GLFTConfig) (n : ℕ) → configIf v c ≡ ConfigAnswer.Refused n → v ≡ refused n
-unfolding configIf
-config-stopped passes c n e = let z : ◌≡◌ {A = ℕ} 0 1 = cc in absurd (omega arith)
-config-stopped (refused m) c n e = cc
+config_stopped : (v : Verdict) (c : GLFTConfig) (n : ℕ) → config_if v c ≡ ConfigAnswer.Refused n → v ≡ refused n
+unfolding config_if
+config_stopped passes c n e = let z : ◌≡◌ {A = ℕ} 0 1 = cc in absurd (omega arith)
+config_stopped (refused m) c n e = cc
 
-pub config-refusals : ConfigRefusals
-unfolding newConfig configIf
-config-refusals c n =
-    let k = first-failing (configChecks c) n in
-    (λ e. k.0 (config-stopped (firstFailing (configChecks c)) c n e), λ r. rw (k.1 r))
+pub config_refusals : ConfigRefusals
+unfolding new_config config_if
+config_refusals c n =
+    let k = first_failing_lem (config_checks c) n in
+    (λ e. k.0 (config_stopped (first_failing (config_checks c)) c n e), λ r. rw (k.1 r))
 
-model-stopped : {l : List (Bool × ℕ)} {b : Model} {q : ℤ} {x : ModelAnswer} (n : ℕ) → Made l b q x → x ≡ ModelAnswer.Refused n → Refuses l n
-model-stopped {l} n (stopped {n = r} k) e = let z : r ≡ n = cc in subst (λ (i : ℕ). Refuses l i) z k
-model-stopped n (passed k) e = let z : ◌≡◌ {A = ℕ} 0 1 = cc in absurd (omega arith)
+model_stopped : {l : List (Bool × ℕ)} {b : Model} {q : ℤ} {x : ModelAnswer} (n : ℕ) → Made l b q x → x ≡ ModelAnswer.Refused n → Refuses l n
+model_stopped {l} n (stopped {n = r} k) e = let z : r ≡ n = cc in subst (λ (i : ℕ). Refuses l i) z k
+model_stopped n (passed k) e = let z : ◌≡◌ {A = ℕ} 0 1 = cc in absurd (omega arith)
 
-pub model-refusals : ModelRefusals
-unfolding newModel
-model-refusals mid h c vol n = (model-stopped n (made _ _ _), stops _ _)
+pub model_refusals : ModelRefusals
+unfolding new_model
+model_refusals mid h c vol n = (model_stopped n (made _ _ _), stops _ _)

@@ -1,10 +1,10 @@
 // The checks of a call, in order, each with the number that refuses where it fails.
 ghost use Rattle.std.specs.Prelude.{◌≡◌};
-ghost use Rattle.elementary.specs.Checks.{firstFailing, checkOf};
+ghost use Rattle.elementary.specs.Checks.{first_failing, check_of};
 ghost use Rattle.model.specs.Refusals.{market};
-ghost use Rattle.model.specs.Checks.{oneCheck, firstRefusal};
-ghost use Rattle.model.specs.Configuration.{numberChecks};
-ghost use Rattle.model.specs.Model.{marketOk, checkExact, checkClosedForm, checkCall};
+ghost use Rattle.model.specs.Checks.{one_check, first_refusal};
+ghost use Rattle.model.specs.Configuration.{number_checks};
+ghost use Rattle.model.specs.Model.{market_ok, check_exact, check_closed_form, check_call};
 
 use crate::parameters::limits_fit;
 use crate::{GLFTConfig, config, refusals};
@@ -15,7 +15,7 @@ use plan::refusals::CONFIGURATION;
 
 // One check: passed, or refused by its number.
 pub fn one_check(passes: bool, number: u8) -> Check
-    ensures { result ≡ oneCheck passes number }
+    ensures { result ≡ one_check passes number }
 {
     if passes {
         return Check::Passes;
@@ -25,7 +25,7 @@ pub fn one_check(passes: bool, number: u8) -> Check
 
 // Of two checks the first that refuses.
 pub fn first_refusal(first: Check, second: Check) -> Check
-    ensures { result ≡ firstRefusal first second }
+    ensures { result ≡ first_refusal first second }
 {
     match first {
         Check::Passes => second,
@@ -35,7 +35,7 @@ pub fn first_refusal(first: Check, second: Check) -> Check
 
 // 2, where the numbers of a call do not fit, then 1.
 pub(crate) fn check_numbers(fit: bool, config: GLFTConfig) -> Check
-    ensures { result ≡ checkOf (firstFailing (numberChecks fit config)) }
+    ensures { result ≡ check_of (first_failing (number_checks fit config)) }
 {
     first_refusal(
         one_check(fit, LIMITS),
@@ -45,7 +45,7 @@ pub(crate) fn check_numbers(fit: bool, config: GLFTConfig) -> Check
 
 // 3.
 fn check_prices(mid_price: i64, volatility: i64) -> Check
-    ensures { result ≡ oneCheck (marketOk mid_price volatility) market }
+    ensures { result ≡ one_check (market_ok mid_price volatility) market }
 {
     one_check(
         is_positive(mid_price) & is_positive(volatility),
@@ -61,7 +61,7 @@ pub fn check_exact(
     volatility: i64,
     current_time: u64,
 ) -> Check
-    ensures { result ≡ checkExact mid_price inventory config volatility current_time }
+    ensures { result ≡ check_exact mid_price inventory config volatility current_time }
 {
     let fit = time_fits(current_time) & limits_fit(mid_price, inventory, config, volatility);
     first_refusal(
@@ -77,7 +77,7 @@ pub fn check_closed_form(
     config: GLFTConfig,
     volatility: i64,
 ) -> Check
-    ensures { result ≡ checkClosedForm mid_price inventory config volatility }
+    ensures { result ≡ check_closed_form mid_price inventory config volatility }
 {
     let fit = limits_fit(mid_price, inventory, config, volatility);
     let driftless = config.drift == 0;
@@ -92,7 +92,7 @@ pub fn check_closed_form(
 
 // Whether the numbers of a call pass, whatever the holding: refused by 2, then 1, then 3.
 pub fn check_call(mid_price: i64, config: GLFTConfig, volatility: i64, current_time: u64) -> Check
-    ensures { result ≡ checkCall mid_price config volatility current_time }
+    ensures { result ≡ check_call mid_price config volatility current_time }
 {
     check_exact(mid_price, 0, config, volatility, current_time)
 }

@@ -1,13 +1,13 @@
 // The checks of a configuration.
 ghost use Rattle.std.specs.Prelude.{◌≡◌};
-ghost use Rattle.model.specs.Configuration.{configLimits, configOk};
+ghost use Rattle.model.specs.Configuration.{config_limits, config_ok};
 
 use crate::GLFTConfig;
 use amounts::{amount_fits, is_positive};
 
 // Whether the amounts and the time are within their limits.
 pub(crate) fn within_limits(c: GLFTConfig) -> bool
-    ensures { result ≡ configLimits c }
+    ensures { result ≡ config_limits c }
 {
     amount_fits(c.risk_aversion)
         & amount_fits(c.order_intensity_k)
@@ -20,7 +20,7 @@ pub(crate) fn within_limits(c: GLFTConfig) -> bool
 
 // Whether the configuration is valid.
 pub(crate) fn validate(c: GLFTConfig) -> bool
-    ensures { result ≡ configOk c }
+    ensures { result ≡ config_ok c }
 {
     let bound = c.max_inventory_lots;
     is_positive(c.risk_aversion)

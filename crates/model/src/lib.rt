@@ -6,8 +6,8 @@ mod parameters;
 pub mod refusals;
 
 ghost use Rattle.std.specs.Prelude.{◌≡◌};
-ghost use Rattle.model.specs.Configuration.{newConfig};
-ghost use Rattle.model.specs.Model.{newModel, exactModel, closedModel, modelAfter};
+ghost use Rattle.model.specs.Configuration.{new_config};
+ghost use Rattle.model.specs.Model.{new_model, exact_model, closed_model, model_after};
 
 pub use checks::{check_call, check_closed_form, check_exact, first_refusal, one_check};
 pub use elementary::Check;
@@ -72,7 +72,7 @@ impl GLFTConfig {
         min_spread: i64,
         drift: i64,
     ) -> ConfigAnswer
-        ensures { result ≡ newConfig (record {
+        ensures { result ≡ new_config (record {
           risk_aversion = risk_aversion;
           order_intensity_k = order_intensity_k;
           intensity_scale_a = intensity_scale_a;
@@ -103,7 +103,7 @@ impl GLFTConfig {
 impl Model {
     // The model and the holding in lots: refused by 2, then 1, 3, 4 and 5.
     pub fn new(mid_price: i64, inventory: i64, config: GLFTConfig, volatility: i64) -> ModelAnswer
-        ensures { result ≡ newModel mid_price inventory config volatility }
+        ensures { result ≡ new_model mid_price inventory config volatility }
     {
         Model::exact(mid_price, inventory, config, volatility, 0)
     }
@@ -116,7 +116,7 @@ impl Model {
         volatility: i64,
         current_time: u64,
     ) -> ModelAnswer
-        ensures { result ≡ exactModel mid_price inventory config volatility current_time }
+        ensures { result ≡ exact_model mid_price inventory config volatility current_time }
     {
         let check = check_exact(mid_price, inventory, config, volatility, current_time);
         Model::after(check, inventory, config, volatility)
@@ -129,7 +129,7 @@ impl Model {
         config: GLFTConfig,
         volatility: i64,
     ) -> ModelAnswer
-        ensures { result ≡ closedModel mid_price inventory config volatility }
+        ensures { result ≡ closed_model mid_price inventory config volatility }
     {
         let check = check_closed_form(mid_price, inventory, config, volatility);
         Model::after(check, inventory, config, volatility)
@@ -138,7 +138,7 @@ impl Model {
     // The model after a call's checks: refused as they are, by 1 where the lot size is not positive, then
     // by 4 and 5.
     pub fn after(check: Check, inventory: i64, config: GLFTConfig, volatility: i64) -> ModelAnswer
-        ensures { result ≡ modelAfter check inventory config volatility }
+        ensures { result ≡ model_after check inventory config volatility }
     {
         match check {
             Check::Passes => parameters::of_holding(inventory, config, volatility),

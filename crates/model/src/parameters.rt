@@ -2,7 +2,7 @@
 ghost use Rattle.std.specs.Prelude.{◌≡◌, T};
 ghost use Rattle.elementary.specs.declared.Check.TheVariants as Check;
 ghost use Rattle.amounts.specs.Amounts.{above0};
-ghost use Rattle.model.specs.Model.{lots, holdingOk, modelFrom, modelOf, modelOk, modelLimits, input_of, modelAfter};
+ghost use Rattle.model.specs.Model.{lots, holding_ok, model_from, model_of, model_ok, model_limits, input_of, model_after};
 
 use crate::{GLFTConfig, Model, ModelAnswer};
 use amounts::{amount_fits, is_positive, to_f64};
@@ -12,7 +12,7 @@ const SECONDS_PER_YEAR: f64 = 31536000.0;
 
 // Whether every amount and time of a call is within its limit.
 pub fn limits_fit(mid: i64, inventory: i64, config: GLFTConfig, volatility: i64) -> bool
-    ensures { result ≡ modelLimits mid inventory config volatility }
+    ensures { result ≡ model_limits mid inventory config volatility }
 {
     amount_fits(mid)
         & amount_fits(inventory)
@@ -44,7 +44,7 @@ fn lots_of(inventory: i64, config: GLFTConfig) -> i64
 // Whether a holding is a whole number of lots within the bound.
 fn holding_fits(inventory: i64, config: GLFTConfig) -> bool
     requires { T (above0 config.lot_size) }
-    ensures { result ≡ holdingOk inventory config }
+    ensures { result ≡ holding_ok inventory config }
 {
     let q = lots_of(inventory, config);
     (inventory % config.lot_size == 0) & distances::within(q, config.max_inventory_lots)
@@ -52,7 +52,7 @@ fn holding_fits(inventory: i64, config: GLFTConfig) -> bool
 
 // The model from its five given floats; the drift is a second's.
 fn from_floats(k: f64, gamma: f64, a: f64, sigma2: f64, drift: f64, bound: u32) -> Model
-    ensures { result ≡ modelFrom k gamma a sigma2 drift bound }
+    ensures { result ≡ model_from k gamma a sigma2 drift bound }
 {
     let log1p_ratio = elementary::or_nan(elementary::ln_1p(gamma / k));
     let decay = elementary::or_nan(elementary::exp(-(1.0 + k / gamma) * log1p_ratio));
@@ -71,7 +71,7 @@ fn from_floats(k: f64, gamma: f64, a: f64, sigma2: f64, drift: f64, bound: u32) 
 
 // The model of a configuration and a volatility; a NaN stands where an elementary function refuses.
 pub fn model_of(config: GLFTConfig, volatility: i64) -> Model
-    ensures { result ≡ modelOf config volatility }
+    ensures { result ≡ model_of config volatility }
 {
     let sigma = to_f64(volatility);
     from_floats(
@@ -86,7 +86,7 @@ pub fn model_of(config: GLFTConfig, volatility: i64) -> Model
 
 // Whether the seven floats are finite and above zero, and beta is finite.
 pub fn floats_fit(m: Model) -> bool
-    ensures { result ≡ modelOk m }
+    ensures { result ≡ model_ok m }
 {
     elementary::is_positive_finite(m.k)
         & elementary::is_positive_finite(m.gamma)
@@ -100,7 +100,7 @@ pub fn floats_fit(m: Model) -> bool
 
 // The model after checks that pass: refused by 1 where the lot size is not positive, then by 4 and 5.
 pub(crate) fn of_holding(inventory: i64, config: GLFTConfig, volatility: i64) -> ModelAnswer
-    ensures { result ≡ modelAfter Check.Passes inventory config volatility }
+    ensures { result ≡ model_after Check.Passes inventory config volatility }
 {
     if is_positive(config.lot_size) {
         if holding_fits(inventory, config) {

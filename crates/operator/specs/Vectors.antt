@@ -28,12 +28,12 @@ unfoldable pub after : ℕ → List Float → ℕ → Float
 after n l i = cond (ltb (suc i) n) (at l (suc i)) 0ᶠ
 
 -- p holds of each index below n
-unfoldable pub everyFrom : ℕ → ℕ → (ℕ → Bool) → Bool
-everyFrom i zero p = true
-everyFrom i (suc n) p = p i && everyFrom (suc i) n p
+unfoldable pub every_from : ℕ → ℕ → (ℕ → Bool) → Bool
+every_from i zero p = true
+every_from i (suc n) p = p i && every_from (suc i) n p
 
 abbrev pub every : ℕ → (ℕ → Bool) → Bool
-every n p = everyFrom 0 n p
+every n p = every_from 0 n p
 
 -- the entries taken in one after the other, from the first
 unfoldable pub fold : (Float → Float → Float) → Float → List Float → Float

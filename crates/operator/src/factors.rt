@@ -4,8 +4,8 @@
 ghost use Rattle.std.specs.Prelude.{◌≡◌, ◌<◌, ◌&&◌, length};
 ghost use Rattle.elementary.specs.Float.{finite};
 ghost use Rattle.operator.specs.Vectors.{every};
-ghost use Rattle.operator.specs.Operator.{left_at, rightOr};
-ghost use Rattle.operator.specs.Slices.{bothSized, past, factorsFit, leftOver, rightOver, bothFine, onesBetween};
+ghost use Rattle.operator.specs.Operator.{left_at, right_or};
+ghost use Rattle.operator.specs.Slices.{both_sized, past, factors_fit, left_over, right_over, both_fine, ones_between};
 
 // The left factor of row i.
 fn left_factor(o: &[f64], i: usize) -> f64
@@ -21,7 +21,7 @@ fn left_factor(o: &[f64], i: usize) -> f64
 // The right factor of row i: `last` for the last row.
 fn right_factor(o: &[f64], i: usize, last: f64) -> f64
     requires { i < length o.now }
-    ensures { result ≡ rightOr (length o.now) o.now i last }
+    ensures { result ≡ right_or (length o.now) o.now i last }
 {
     if i + 1 < o.len() {
         return crate::reals::factor(o[i + 1], o[i]);
@@ -38,16 +38,16 @@ pub fn past_last(half: bool, lower: f64, end: f64) -> f64
 
 // Whether two lengths are n.
 fn both_sized(n: usize, a: usize, b: usize) -> bool
-    ensures { result ≡ bothSized n a b }
+    ensures { result ≡ both_sized n a b }
 {
     (a == n) & (b == n)
 }
 
 // The factors of every row, and whether all are finite.
 pub fn set_factors(o: &[f64], left: &mut [f64], right: &mut [f64], half: bool) -> bool
-    ensures left_after { left.new ≡ leftOver o.now left.old right.old }
-    ensures right_after { right.new ≡ rightOver half o.now left.old right.old }
-    ensures value { result ≡ (factorsFit o.now left.old right.old && bothFine (length o.now) left.new right.new) }
+    ensures left_after { left.new ≡ left_over o.now left.old right.old }
+    ensures right_after { right.new ≡ right_over half o.now left.old right.old }
+    ensures value { result ≡ (factors_fit o.now left.old right.old && both_fine (length o.now) left.new right.new) }
 {
     if !both_sized(o.len(), left.len(), right.len()) {
         return false;
@@ -68,7 +68,7 @@ pub fn set_factors(o: &[f64], left: &mut [f64], right: &mut [f64], half: bool) -
 // Whether both factors of every row between the end rows are 1.0, as they are until the first
 // rebalancing.
 pub fn all_ones(left: &[f64], right: &[f64]) -> bool
-    ensures { result ≡ onesBetween left.now right.now }
+    ensures { result ≡ ones_between left.now right.now }
 {
     if right.len() != left.len() {
         return false;

@@ -2,7 +2,7 @@
 // and the factor that two offsets make.
 ghost use Rattle.std.specs.Prelude.{◌≡◌};
 ghost use Rattle.elementary.specs.Float.{◌⊖◌};
-ghost use Rattle.elementary.specs.Elementary.{EXP, orNan};
+ghost use Rattle.elementary.specs.Elementary.{EXP, or_nan};
 ghost use Rattle.operator.specs.Vectors.{abs};
 
 pub fn magnitude(x: f64) -> f64
@@ -12,7 +12,7 @@ pub fn magnitude(x: f64) -> f64
 }
 
 fn exp_or_nan(x: f64) -> f64
-    ensures { result ≡ orNan (EXP x) }
+    ensures { result ≡ or_nan (EXP x) }
 {
     elementary::or_nan(elementary::exp(x))
 }
@@ -21,7 +21,7 @@ fn exp_or_nan(x: f64) -> f64
 // rebalancing, EXP of their difference is 1.0, and none is made. The difference is tested and not the
 // offsets: two equal infinities make a NaN.
 pub(crate) fn factor(neighbour: f64, own: f64) -> f64
-    ensures { result ≡ orNan (EXP (neighbour ⊖ own)) }
+    ensures { result ≡ or_nan (EXP (neighbour ⊖ own)) }
 {
     let d = neighbour - own;
     if d == 0.0 {

@@ -6,23 +6,23 @@ use lib.Ieee.Fits.{down_pos}
 use lib.Ieee.Back.{unsigned_back}
 use lib.Ieee.Order.{le_of_values}
 use Rattle.elementary.specs.Float.{◌⊘◌, whole, 1ᶠ, 2ᶠ}
-use Rattle.elementary.specs.Elementary.{CEIL, orNan}
+use Rattle.elementary.specs.Elementary.{CEIL, or_nan}
 use Rattle.elementary.proofs.Signs.{nonneg}
-use Rattle.elementary.proofs.Order.{not-lt→le, le_lt_trans, ofInt-nonneg, toUnsigned-mono}
-use Rattle.elementary.proofs.Exact.{whole-value}
+use Rattle.elementary.proofs.Order.{not_lt→le, le_lt_trans, of_int_nonneg, to_unsigned_mono}
+use Rattle.elementary.proofs.Exact.{whole_value}
 use Rattle.operator.specs.Vectors.{larger}
-use Rattle.operator.proofs.Slices.{sized-both}
-use Rattle.plan.specs.Plan.{fixedOver, needed, plan_of, planWith}
+use Rattle.operator.proofs.Slices.{sized_both}
+use Rattle.plan.specs.Plan.{fixed_over, needed, plan_of, plan_with}
 use Rattle.plan.specs.declared.plan.Planned.{Planned}
 
 -- the larger of x and 1.0, unless it is a NaN
-larger-one : (x z : Float) → T (le (larger x 1ᶠ) z) → T (nonneg (larger x 1ᶠ)) × T (le 1ᶠ (larger x 1ᶠ))
+larger_one : (x z : Float) → T (le (larger x 1ᶠ) z) → T (nonneg (larger x 1ᶠ)) × T (le 1ᶠ (larger x 1ᶠ))
 unfolding larger lt le of_bits
-larger-one nan z h = absurd h
-larger-one (inf true) z h = (tt, tt)
-larger-one (inf false) z h = (tt, tt)
-larger-one (fin true m e) z h = rw (lt-ltb 0 (m * up e * 1 + 1 * 1 * down e) (omega (arith, down_pos e))) (tt, tt)
-larger-one (fin false m e) z h = go (lt (fin false m e) 1ᶠ) (not-lt→le (fin false m e) 1ᶠ tt tt)
+larger_one nan z h = absurd h
+larger_one (inf true) z h = (tt, tt)
+larger_one (inf false) z h = (tt, tt)
+larger_one (fin true m e) z h = rw (lt-ltb 0 (m * up e * 1 + 1 * 1 * down e) (omega (arith, down_pos e))) (tt, tt)
+larger_one (fin false m e) z h = go (lt (fin false m e) 1ᶠ) (not_lt→le (fin false m e) 1ᶠ tt tt)
   where
     go : (b : Bool) → (b ≡ false → T (le 1ᶠ (fin false m e))) → T (nonneg (cond b 1ᶠ (fin false m e))) × T (le 1ᶠ (cond b 1ᶠ (fin false m e)))
     go true k = (tt, tt)
@@ -47,55 +47,55 @@ above_minus_one (fin true m e) p = absurd p
 above_minus_one (fin false m e) p = rw (lt-ltb 0 (1 * 1 * down e + m * up e * 1) (omega (arith, down_pos e))) tt
 
 -- ---- a budget of 32 bits as a float
-pub whole-nonneg : (b : ℕ) → T (nonneg (whole (pos b)))
-whole-nonneg = ofInt-nonneg binary64
+pub whole_nonneg : (b : ℕ) → T (nonneg (whole (pos b)))
+whole_nonneg = of_int_nonneg binary64
 
 module _ (b : ℕ) (fits : b < 2 ^ 32) where
   exact : b ≤ 2 ^ 53
   exact = le_trans (le_of_lt fits) (lit≤ tt)
 
-  budget-cut : to_unsigned 64 (whole (pos b)) ≡ b
+  budget_cut : to_unsigned 64 (whole (pos b)) ≡ b
   unfolding in_float
-  budget-cut = (unsigned_back binary64 64 b (le→leb b (2 ^ 53) exact) (lt_trans fits (lit< tt))).1
+  budget_cut = (unsigned_back binary64 64 b (le→leb b (2 ^ 53) exact) (lt_trans fits (lit< tt))).1
 
-  budget-below : T (lt (whole (pos b)) (fin false 1 (pos 64)))
+  budget_below : T (lt (whole (pos b)) (fin false 1 (pos 64)))
   unfolding lt
-  budget-below =
-      le_lt_trans (whole (pos b)) (fin false 1 (pos 32)) (fin false 1 (pos 64)) (whole-nonneg b) tt tt
-      (le_of_values (whole (pos b)) (fin false 1 (pos 32)) b 1 (2 ^ 32) 1 (zero-lt-suc 0) (zero-lt-suc 0) (whole-value binary64 (pos b) exact) (refl, refl) (omega arith)) tt
+  budget_below =
+      le_lt_trans (whole (pos b)) (fin false 1 (pos 32)) (fin false 1 (pos 64)) (whole_nonneg b) tt tt
+      (le_of_values (whole (pos b)) (fin false 1 (pos 32)) b 1 (2 ^ 32) 1 (zero-lt-suc 0) (zero-lt-suc 0) (whole_value binary64 (pos b) exact) (refl, refl) (omega arith)) tt
 
 -- ---- the steps needed, where they keep the budget
 module _ (size : Float) (b : ℕ) (kept : le (needed size) (whole (pos b)) ≡ true) where
-  kept-is : T (le (needed size) (whole (pos b)))
-  kept-is = rw kept tt
+  kept_is : T (le (needed size) (whole (pos b)))
+  kept_is = rw kept tt
 
   at_least_one : T (nonneg (needed size)) × T (le 1ᶠ (needed size))
   unfolding needed
-  at_least_one = larger-one (orNan (CEIL (size ⊘ 2ᶠ))) (whole (pos b)) kept-is
+  at_least_one = larger_one (or_nan (CEIL (size ⊘ 2ᶠ))) (whole (pos b)) kept_is
 
-  pub planned-some : 1 ≤ to_unsigned 32 (needed size)
+  pub planned_some : 1 ≤ to_unsigned 32 (needed size)
   unfolding to_unsigned of_bits
-  planned-some = toUnsigned-mono 32 1ᶠ (needed size) tt at_least_one.0 at_least_one.1
+  planned_some = to_unsigned_mono 32 1ᶠ (needed size) tt at_least_one.0 at_least_one.1
 
   -- a whole number of 64 bits can be cut from them
-  pub planned-low : T (lt (fin true 1 (pos 0)) (needed size))
-  planned-low = above_minus_one (needed size) at_least_one.0
+  pub planned_low : T (lt (fin true 1 (pos 0)) (needed size))
+  planned_low = above_minus_one (needed size) at_least_one.0
 
-  pub planned-high : b < 2 ^ 32 → T (lt (needed size) (fin false 1 (pos 64)))
-  planned-high fits = le_lt_trans (needed size) (whole (pos b)) (fin false 1 (pos 64)) at_least_one.0 (whole-nonneg b) tt kept-is (budget-below b fits)
+  pub planned_high : b < 2 ^ 32 → T (lt (needed size) (fin false 1 (pos 64)))
+  planned_high fits = le_lt_trans (needed size) (whole (pos b)) (fin false 1 (pos 64)) at_least_one.0 (whole_nonneg b) tt kept_is (budget_below b fits)
 
   -- which is at most the budget, and the same of 32 bits
-  pub planned-within : b < 2 ^ 32 → to_unsigned 64 (needed size) ≤ b
-  planned-within fits = le_trans (toUnsigned-mono 64 (needed size) (whole (pos b)) at_least_one.0 (whole-nonneg b) kept-is) (le_of_eq (budget-cut b fits))
+  pub planned_within : b < 2 ^ 32 → to_unsigned 64 (needed size) ≤ b
+  planned_within fits = le_trans (to_unsigned_mono 64 (needed size) (whole (pos b)) at_least_one.0 (whole_nonneg b) kept_is) (le_of_eq (budget_cut b fits))
 
-  pub planned-same : b < 2 ^ 32 → to_unsigned 64 (needed size) ≡ to_unsigned 32 (needed size)
-  planned-same fits = sym (narrow 32 64 (needed size) (lit< tt) (lt_of_le_of_lt (planned-within fits) fits))
+  pub planned_same : b < 2 ^ 32 → to_unsigned 64 (needed size) ≡ to_unsigned 32 (needed size)
+  planned_same fits = sym (narrow 32 64 (needed size) (lit< tt) (lt_of_le_of_lt (planned_within fits) fits))
 
 -- ---- over slices that agree
 module _ (tau : Float) (d : List Float) (eta : Float) (left right : List Float) (b : ℕ) (el : length left ≡ length d) (er : length right ≡ length d) where
-  pub plan-agrees : planWith tau d eta left right b ≡ plan_of (fixedOver (length d) d eta) b left right tau
-  unfolding planWith
-  plan-agrees = rw (sized-both (length d) (length left) (length right) el er) refl
+  pub plan_agrees : plan_with tau d eta left right b ≡ plan_of (fixed_over (length d) d eta) b left right tau
+  unfolding plan_with
+  plan_agrees = rw (sized_both (length d) (length left) (length right) el er) refl
 
-  pub planned-over : (q : Planned) → q ≡ planWith tau d eta left right b → q ≡ plan_of (fixedOver (length d) d eta) b left right tau
-  planned-over q e = e ∙ plan-agrees
+  pub planned_over : (q : Planned) → q ≡ plan_with tau d eta left right b → q ≡ plan_of (fixed_over (length d) d eta) b left right tau
+  planned_over q e = e ∙ plan_agrees

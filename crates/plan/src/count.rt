@@ -4,8 +4,8 @@ ghost use Rattle.std.specs.Prelude.{◌≡◌, ◌-◌, ◌≤◌, true, length}
 ghost use Rattle.std.specs.Float.Ieee.{eq};
 ghost use Rattle.elementary.specs.Float.{0ᶠ, 1ᶠ, 2ᶠ, positive};
 ghost use Rattle.operator.specs.Vectors.{larger};
-ghost use Rattle.plan.specs.Plan.{boundOk, fixedOver, fixed, wholePlan, firstTurn};
-ghost use Rattle.plan.specs.Count.{planIn, planAhead, rowSum};
+ghost use Rattle.plan.specs.Plan.{bound_ok, fixed_over, fixed, whole_plan, first_turn};
+ghost use Rattle.plan.specs.Count.{plan_in, plan_ahead, row_sum};
 ghost use Rattle.plan.specs.Inner.{ahead_of};
 
 use crate::plan::Planned;
@@ -14,7 +14,7 @@ use crate::{FirstPlan, MAX_EXPM_STEPS, RunInput};
 
 // The sum of a row of so many lots, long or short, whose two factors add up to so much.
 fn row_sum(alpha: f64, eta: f64, lots: u32, factors: f64) -> f64
-    ensures { result ≡ rowSum alpha eta lots factors }
+    ensures { result ≡ row_sum alpha eta lots factors }
 {
     let q = lots as f64;
     ((alpha * q) * q + 2.0 * eta) + eta * factors
@@ -24,7 +24,7 @@ fn row_sum(alpha: f64, eta: f64, lots: u32, factors: f64) -> f64
 // has two.
 fn norm_at_first(alpha: f64, eta: f64, bound: u32) -> f64
     requires { 1 ≤ bound }
-    ensures { result ≡ larger (rowSum alpha eta bound 1ᶠ) (rowSum alpha eta (bound - 1) 2ᶠ) }
+    ensures { result ≡ larger (row_sum alpha eta bound 1ᶠ) (row_sum alpha eta (bound - 1) 2ᶠ) }
 {
     let end = row_sum(alpha, eta, bound, 1.0);
     let next = row_sum(alpha, eta, bound - 1, 2.0);
@@ -44,8 +44,8 @@ fn ahead(plan: Planned) -> FirstPlan
 
 // The first plan without a drift, over a time above zero, from two rows.
 fn plan_of_two(input: RunInput) -> FirstPlan
-    requires { (boundOk input.bound ≡ true) × (positive input.alpha ≡ true) × (eq input.beta 0ᶠ ≡ true) × (positive input.eta ≡ true) }
-    ensures { result ≡ planIn (firstTurn (fixed input) input.tau) }
+    requires { (bound_ok input.bound ≡ true) × (positive input.alpha ≡ true) × (eq input.beta 0ᶠ ≡ true) × (positive input.eta ≡ true) }
+    ensures { result ≡ plan_in (first_turn (fixed input) input.tau) }
 {
     let size = input.tau * norm_at_first(input.alpha, input.eta, input.bound);
     if elementary::is_positive_finite(size) {
@@ -57,7 +57,7 @@ fn plan_of_two(input: RunInput) -> FirstPlan
 // The first plan over n rows of a diagonal that is finite.
 fn plan_of_rows(diag: &[f64], eta: f64, tau: f64, n: usize) -> FirstPlan
     requires { (n ≤ 401) × (length diag.now ≡ n) }
-    ensures { result ≡ planIn (wholePlan (fixedOver n diag.now eta) tau) }
+    ensures { result ≡ plan_in (whole_plan (fixed_over n diag.now eta) tau) }
 {
     let o = crate::zeros();
     let mut left = crate::zeros();
@@ -78,7 +78,7 @@ fn plan_of_rows(diag: &[f64], eta: f64, tau: f64, n: usize) -> FirstPlan
 // The first plan over a time above zero, from all rows.
 fn plan_of_all(input: RunInput) -> FirstPlan
     requires { (1 ≤ input.bound) × (input.bound ≤ 200) }
-    ensures { result ≡ planIn (firstTurn (fixed input) input.tau) }
+    ensures { result ≡ plan_in (first_turn (fixed input) input.tau) }
 {
     let n = (2 * input.bound + 1) as usize;
     let mut diag = crate::zeros();
@@ -96,8 +96,8 @@ fn plan_of_all(input: RunInput) -> FirstPlan
 
 // The first plan where the numbers pass the checks.
 pub(crate) fn plan_within(input: RunInput) -> FirstPlan
-    requires { (boundOk input.bound ≡ true) × (positive input.alpha ≡ true) × (positive input.eta ≡ true) }
-    ensures { result ≡ planAhead input }
+    requires { (bound_ok input.bound ≡ true) × (positive input.alpha ≡ true) × (positive input.eta ≡ true) }
+    ensures { result ≡ plan_ahead input }
 {
     if 0.0 < input.tau {
         if input.beta == 0.0 {

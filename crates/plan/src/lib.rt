@@ -7,11 +7,11 @@ mod slices;
 
 ghost use Rattle.std.specs.Prelude.{◌≡◌};
 ghost use Rattle.elementary.specs.Float.{0ᶠ};
-ghost use Rattle.elementary.specs.Checks.{firstFailing, checkOf};
+ghost use Rattle.elementary.specs.Checks.{first_failing, check_of};
 ghost use Rattle.operator.specs.Vectors.{fill};
 ghost use Rattle.plan.specs.Plan.{room};
-ghost use Rattle.plan.specs.Input.{ratesOk, inputChecks};
-ghost use Rattle.plan.specs.Count.{firstPlan};
+ghost use Rattle.plan.specs.Input.{rates_ok, input_checks};
+ghost use Rattle.plan.specs.Count.{first_plan};
 
 use elementary::Check;
 pub use plan::Planned;
@@ -56,7 +56,7 @@ pub fn zeros() -> [f64; MAX_DIM]
 
 // Whether alpha and eta are finite and above zero, and beta and tau are finite.
 fn floats_fit(input: RunInput) -> bool
-    ensures { result ≡ ratesOk input }
+    ensures { result ≡ rates_ok input }
 {
     elementary::is_positive_finite(input.alpha)
         & elementary::is_finite(input.beta)
@@ -66,7 +66,7 @@ fn floats_fit(input: RunInput) -> bool
 
 // Whether a run can be made from an input: refused by 5, then 1.
 pub fn check_input(input: RunInput) -> Check
-    ensures { result ≡ checkOf (firstFailing (inputChecks input)) }
+    ensures { result ≡ check_of (first_failing (input_checks input)) }
 {
     if floats_fit(input) {
         if (1 <= input.bound) & (input.bound <= MAX_INVENTORY_LOTS) {
@@ -80,7 +80,7 @@ pub fn check_input(input: RunInput) -> Check
 // The first plan of the run from an input, before anything runs; 0 steps where no time is left. Refused by
 // 5, then 1, then 11.
 pub fn first_plan(input: RunInput) -> FirstPlan
-    ensures { result ≡ firstPlan input }
+    ensures { result ≡ first_plan input }
 {
     match check_input(input) {
         Check::Passes => count::plan_within(input),

@@ -1,6 +1,6 @@
 // The plan of steps for the time that remains.
 ghost use Rattle.std.specs.Prelude.{◌≡◌, length};
-ghost use Rattle.plan.specs.Plan.{norm, needed, fixedOver, planFor, planWith};
+ghost use Rattle.plan.specs.Plan.{norm, needed, fixed_over, plan_for, plan_with};
 
 const STEP_NORM: f64 = 2.0;
 
@@ -23,7 +23,7 @@ pub(crate) struct Factors<'a> {
 // The largest row sum, of the diagonal's magnitude and what its neighbours take.
 fn norm_of(diag_s: &[f64], eta: f64, left: &[f64], right: &[f64]) -> f64
     requires { (length left.now ≡ length diag_s.now) × (length right.now ≡ length diag_s.now) }
-    ensures { result ≡ norm (fixedOver (length diag_s.now) diag_s.now eta) left.now right.now }
+    ensures { result ≡ norm (fixed_over (length diag_s.now) diag_s.now eta) left.now right.now }
 {
     let mut norm = 0.0;
     let mut i: usize = 0;
@@ -48,7 +48,7 @@ fn steps_needed(size: f64) -> f64
 
 // The plan for a norm times a time that is finite and positive.
 pub(crate) fn plan_for(size: f64, tau: f64, budget: u32) -> Planned
-    ensures { result ≡ planFor size tau budget }
+    ensures { result ≡ plan_for size tau budget }
 {
     let need = steps_needed(size);
     if need <= (budget as f64) {
@@ -67,7 +67,7 @@ pub(crate) fn plan_over<'a>(
     right: &'a [f64],
     budget: u32,
 ) -> Planned
-    ensures { result ≡ planWith tau diag_s.now eta left.now right.now budget }
+    ensures { result ≡ plan_with tau diag_s.now eta left.now right.now budget }
 {
     if left.len() != diag_s.len() {
         return Planned::Refused;
@@ -90,7 +90,7 @@ pub(crate) fn plan<'a>(
     factors: Factors<'a>,
     budget: u32,
 ) -> Planned
-    ensures { result ≡ planWith tau diag_s.now eta factors.entry.left.now factors.entry.right.now budget }
+    ensures { result ≡ plan_with tau diag_s.now eta factors.entry.left.now factors.entry.right.now budget }
 {
     plan_over(tau, diag_s, eta, factors.left, factors.right, budget)
 }
@@ -105,7 +105,7 @@ pub(crate) fn plan_with<'a>(
     right: &'a [f64],
     budget: u32,
 ) -> Planned
-    ensures { result ≡ planWith tau diag_s.now eta left.now right.now budget }
+    ensures { result ≡ plan_with tau diag_s.now eta left.now right.now budget }
 {
     plan(tau, diag_s, eta, Factors { left, right }, budget)
 }

@@ -1,7 +1,7 @@
 // Single floats: the larger of two, and CEIL with a NaN for a refusal, which what reads it tests for
 // later.
 ghost use Rattle.std.specs.Prelude.{◌≡◌};
-ghost use Rattle.elementary.specs.Elementary.{CEIL, orNan};
+ghost use Rattle.elementary.specs.Elementary.{CEIL, or_nan};
 ghost use Rattle.operator.specs.Vectors.{larger};
 
 pub fn larger_of(x: f64, y: f64) -> f64
@@ -11,7 +11,7 @@ pub fn larger_of(x: f64, y: f64) -> f64
 }
 
 pub(crate) fn ceil_or_nan(x: f64) -> f64
-    ensures { result ≡ orNan (CEIL x) }
+    ensures { result ≡ or_nan (CEIL x) }
 {
     elementary::or_nan(elementary::ceil(x))
 }

@@ -1,14 +1,14 @@
 // New factors, a plan over them and its diagonal, in the slices that a caller lends. Those whose lengths do
 // not fit stay as they are.
 ghost use Rattle.std.specs.Prelude.{◌≡◌, ◌&&◌, length};
-ghost use Rattle.operator.specs.Slices.{factorsFit, leftOver, rightOver, bothFine};
-ghost use Rattle.plan.specs.Slices.{diagonalFor, planFrom};
+ghost use Rattle.operator.specs.Slices.{factors_fit, left_over, right_over, both_fine};
+ghost use Rattle.plan.specs.Slices.{diagonal_for, plan_from};
 
 use crate::plan::{Planned, plan_with};
 
 // The diagonal of a plan's steps; it stays as it is where there are none.
 fn scale_for(plan: Planned, diag_s: &[f64], diag: &mut [f64])
-    ensures { diag.new ≡ diagonalFor plan diag_s.now diag.old }
+    ensures { diag.new ≡ diagonal_for plan diag_s.now diag.old }
 {
     match plan {
         Planned::Steps(_, dt) => operator::scale_diagonal(diag_s, dt, diag),
@@ -30,10 +30,10 @@ pub fn set_plan(
     budget: u32,
     half: bool,
 ) -> Planned
-    ensures left_after { left.new ≡ leftOver o.now left.old right.old }
-    ensures right_after { right.new ≡ rightOver half o.now left.old right.old }
-    ensures diag_after { diag.new ≡ diagonalFor result diag_s.now diag.old }
-    ensures value { result ≡ planFrom (factorsFit o.now left.old right.old && bothFine (length o.now) left.new right.new) rest diag_s.now eta left.new right.new budget }
+    ensures left_after { left.new ≡ left_over o.now left.old right.old }
+    ensures right_after { right.new ≡ right_over half o.now left.old right.old }
+    ensures diag_after { diag.new ≡ diagonal_for result diag_s.now diag.old }
+    ensures value { result ≡ plan_from (factors_fit o.now left.old right.old && both_fine (length o.now) left.new right.new) rest diag_s.now eta left.new right.new budget }
 {
     if operator::set_factors(o, left, right, half) {
         let plan = plan_with(rest, diag_s, eta, left, right, budget);

@@ -2,14 +2,14 @@
 use mathlib.Core.Path.{◌≡◌, refl}
 use Prim.Native.Nat.{◌*◌, ◌≤◌}
 use native.Mathlib.Omega.{arith}
-use mathlib.Core.Bool.{Bool, true, false, ◌&&◌, and-false}
+use mathlib.Core.Bool.{Bool, true, false, ◌&&◌, and_false}
 use lib.IntN.{ℤ, pos, negsuc, nat_abs, ◌+ℤ◌, ◌-ℤ◌}
 use lib.Dec.{T}
 use Rattle.amounts.specs.Refusals.{beyond}
-use Rattle.amounts.specs.Amounts.{amountLimit, amountOk}
-use Rattle.amounts.proofs.Sizes.{size-add, size-sub, amount-size}
-use Rattle.prices.specs.Prices.{each, roundedIf, halfUp, widening}
-use Rattle.prices.specs.Inner.{sideBy, side_of, roundedWith}
+use Rattle.amounts.specs.Amounts.{amount_limit, amount_ok}
+use Rattle.amounts.proofs.Sizes.{size_add, size_sub, amount_size}
+use Rattle.prices.specs.Prices.{each, rounded_if, half_up, widening}
+use Rattle.prices.specs.Inner.{side_by, side_of, rounded_with}
 use Rattle.prices.specs.declared.Price.{Price}
 use Rattle.prices.specs.declared.Price.TheVariants as Price
 use Rattle.prices.specs.declared.Rounded.{Rounded}
@@ -18,38 +18,38 @@ use Rattle.prices.specs.declared.rounding.Side.{Side}
 use Rattle.prices.specs.declared.rounding.Side.TheVariants as Side
 
 -- ---- both sides, by the bid's
-unfoldable pub roundedBy : Side → Side → Rounded
-roundedBy (Side.At b) a = roundedWith (Price.At b) a
-roundedBy Side.Absent a = roundedWith Price.Absent a
-roundedBy Side.Beyond a = Rounded.Refused beyond
+unfoldable pub rounded_by : Side → Side → Rounded
+rounded_by (Side.At b) a = rounded_with (Price.At b) a
+rounded_by Side.Absent a = rounded_with Price.Absent a
+rounded_by Side.Beyond a = Rounded.Refused beyond
 
-with-ask : (b a : Price) → each amountOk b ≡ true → roundedWith b (side_of a) ≡ roundedIf true (each amountOk b && each amountOk a) b a
-unfolding side_of sideBy roundedWith roundedIf each
-with-ask b Price.Absent h = rw h
-with-ask b (Price.At z) h = go (amountOk z)
+with_ask : (b a : Price) → each amount_ok b ≡ true → rounded_with b (side_of a) ≡ rounded_if true (each amount_ok b && each amount_ok a) b a
+unfolding side_of side_by rounded_with rounded_if each
+with_ask b Price.Absent h = rw h
+with_ask b (Price.At z) h = go (amount_ok z)
   where
-    go : (t : Bool) → roundedWith b (sideBy t z) ≡ roundedIf true (each amountOk b && t) b (Price.At z)
+    go : (t : Bool) → rounded_with b (side_by t z) ≡ rounded_if true (each amount_ok b && t) b (Price.At z)
     go true = rw h
     go false = rw h
 
-pub rounded-by : (b a : Price) → roundedBy (side_of b) (side_of a) ≡ roundedIf true (each amountOk b && each amountOk a) b a
-unfolding side_of sideBy roundedBy roundedIf each
-rounded-by Price.Absent a = with-ask Price.Absent a refl
-rounded-by (Price.At z) a = go (amountOk z) refl
+pub rounded_by_lem : (b a : Price) → rounded_by (side_of b) (side_of a) ≡ rounded_if true (each amount_ok b && each amount_ok a) b a
+unfolding side_of side_by rounded_by rounded_if each
+rounded_by_lem Price.Absent a = with_ask Price.Absent a refl
+rounded_by_lem (Price.At z) a = go (amount_ok z) refl
   where
-    go : (t : Bool) → amountOk z ≡ t → roundedBy (sideBy t z) (side_of a) ≡ roundedIf true (t && each amountOk a) (Price.At z) a
-    go true e = rw e at (with-ask (Price.At z) a e)
+    go : (t : Bool) → amount_ok z ≡ t → rounded_by (side_by t z) (side_of a) ≡ rounded_if true (t && each amount_ok a) (Price.At z) a
+    go true e = rw e at (with_ask (Price.At z) a e)
     go false e = refl
 
 -- ---- sizes
-pub size-half : (z : ℤ) → nat_abs (halfUp z) ≤ nat_abs z
-unfolding halfUp
-size-half (pos n) = omega arith
-size-half (negsuc n) = omega arith
+pub size_half : (z : ℤ) → nat_abs (half_up z) ≤ nat_abs z
+unfolding half_up
+size_half (pos n) = omega arith
+size_half (negsuc n) = omega arith
 
-pub size-widening : (least : ℤ) (b a : Price) → T (amountOk least) → T (each amountOk b) → T (each amountOk a) → nat_abs (widening least b a) ≤ 3 * amountLimit
+pub size_widening : (least : ℤ) (b a : Price) → T (amount_ok least) → T (each amount_ok b) → T (each amount_ok a) → nat_abs (widening least b a) ≤ 3 * amount_limit
 unfolding widening each
-size-widening least Price.Absent a l s t = omega arith
-size-widening least (Price.At b) Price.Absent l s t = omega arith
-size-widening least (Price.At b) (Price.At a) l s t =
-    omega (arith, amount-size least l, amount-size b s, amount-size a t, size-half (least -ℤ (b +ℤ a)), size-sub least (b +ℤ a), size-add b a)
+size_widening least Price.Absent a l s t = omega arith
+size_widening least (Price.At b) Price.Absent l s t = omega arith
+size_widening least (Price.At b) (Price.At a) l s t =
+    omega (arith, amount_size least l, amount_size b s, amount_size a t, size_half (least -ℤ (b +ℤ a)), size_sub least (b +ℤ a), size_add b a)

@@ -11,13 +11,13 @@ use Rattle.distances.specs.Distances.{fine}
 use Rattle.distances.specs.declared.Distance.{Distance}
 use Rattle.distances.specs.declared.Distance.TheVariants as Distance
 use Rattle.amounts.specs.Rounding.{billionths, exactly, AtMost}
-use Rattle.prices.specs.Prices.{side, halfUp, widening, bidPrice, askPrice, widened}
+use Rattle.prices.specs.Prices.{side, half_up, widening, bid_price, ask_price, widened}
 use Rattle.prices.specs.Outward.{OnSide, BuiltOutside}
 use Rattle.prices.specs.declared.Price.{Price}
 use Rattle.prices.specs.declared.Price.TheVariants.{At, Absent}
-use Rattle.amounts.proofs.Differences.{over, under, add_parts, over-times, under-times, le_parts, parts-le}
-use Rattle.amounts.proofs.Least.{rounding-is-right}
-use Rattle.prices.proofs.Facing.{built-finite, built-is}
+use Rattle.amounts.proofs.Differences.{over, under, add_parts, over_times, under_times, le_parts, parts_le}
+use Rattle.amounts.proofs.Least.{rounding_is_right}
+use Rattle.prices.proofs.Facing.{built_finite, built_is}
 
 -- ---- n billionths more
 further : (x : Float) (z : ℤ) (n : ℕ) → AtMost x z → AtMost x (z +ℤ pos n)
@@ -30,43 +30,43 @@ further (fin s m e) z n h =
     let d = down e in
     let moved : over u + under z ≡ over z + n + under u = omega (arith, add_parts z (pos n)) in
     let scaled = ap (λ (k : ℕ). k * d) moved in
-    parts-le x (u *ℤ pos d) (omega (arith, le_parts x (z *ℤ pos d) h, over-times z d, under-times z d, over-times u d, under-times u d, scaled))
+    parts_le x (u *ℤ pos d) (omega (arith, le_parts x (z *ℤ pos d) h, over_times z d, under_times z d, over_times u d, under_times u d, scaled))
 
 -- how far a bid lies below the mid, and an ask above it
-below-mid : (m u : ℤ) → m -ℤ (m -ℤ u) ≡ u
-below-mid m u = rw (neg_ℤ-+ℤ m (neg_ℤ u), neg_ℤ-neg_ℤ u, ← +ℤ_assoc m (neg_ℤ m) u, +ℤ_invr m, +ℤ_idl u)
+below_mid : (m u : ℤ) → m -ℤ (m -ℤ u) ≡ u
+below_mid m u = rw (neg_ℤ-+ℤ m (neg_ℤ u), neg_ℤ-neg_ℤ u, ← +ℤ_assoc m (neg_ℤ m) u, +ℤ_invr m, +ℤ_idl u)
 
-above-mid : (m u : ℤ) → (m +ℤ u) -ℤ m ≡ u
-above-mid m u = rw (+ℤ_comm m u) (+ℤ-neg_ℤ_cancel u m)
+above_mid : (m u : ℤ) → (m +ℤ u) -ℤ m ≡ u
+above_mid m u = rw (+ℤ_comm m u) (+ℤ-neg_ℤ_cancel u m)
 
 -- ---- quotes from finite distances
 moved : (least : ℤ) (b a : Price) → (n : ℕ) × (widening least b a ≡ pos n)
-unfolding widening halfUp
+unfolding widening half_up
 moved least Absent a = (0, refl)
 moved least (At b) Absent = (0, refl)
 moved least (At b) (At a) = half (least -ℤ (b +ℤ a))
   where
-    half : (z : ℤ) → (n : ℕ) × (halfUp z ≡ pos n)
+    half : (z : ℤ) → (n : ℕ) × (half_up z ≡ pos n)
     half (pos n) = ((n + 1) / 2, refl)
     half (negsuc n) = (0, refl)
 
 -- a finite distance is at most its count, and n more
 counted : (d : Float) (n : ℕ) → finite d ≡ true → AtMost d (billionths d +ℤ pos n)
-counted d n f = further d (billionths d) n (rounding-is-right d (subst T (sym f) tt)).0
+counted d n f = further d (billionths d) n (rounding_is_right d (subst T (sym f) tt)).0
 
-bid-outside : (mid : ℤ) (n : ℕ) (b : Distance) → fine b ≡ true → OnSide (λ d p. AtMost d (mid -ℤ p)) b (bidPrice mid (pos n) (side b))
-unfolding fine side bidPrice OnSide
-bid-outside mid n (Distance.At d) f = rw (below-mid mid (billionths d +ℤ pos n)) (counted d n f)
-bid-outside mid n Distance.Absent f = tt
+bid_outside : (mid : ℤ) (n : ℕ) (b : Distance) → fine b ≡ true → OnSide (λ d p. AtMost d (mid -ℤ p)) b (bid_price mid (pos n) (side b))
+unfolding fine side bid_price OnSide
+bid_outside mid n (Distance.At d) f = rw (below_mid mid (billionths d +ℤ pos n)) (counted d n f)
+bid_outside mid n Distance.Absent f = tt
 
-ask-outside : (mid : ℤ) (n : ℕ) (a : Distance) → fine a ≡ true → OnSide (λ d p. AtMost d (p -ℤ mid)) a (askPrice mid (pos n) (side a))
-unfolding fine side askPrice OnSide
-ask-outside mid n (Distance.At d) f = rw (above-mid mid (billionths d +ℤ pos n)) (counted d n f)
-ask-outside mid n Distance.Absent f = tt
+ask_outside : (mid : ℤ) (n : ℕ) (a : Distance) → fine a ≡ true → OnSide (λ d p. AtMost d (p -ℤ mid)) a (ask_price mid (pos n) (side a))
+unfolding fine side ask_price OnSide
+ask_outside mid n (Distance.At d) f = rw (above_mid mid (billionths d +ℤ pos n)) (counted d n f)
+ask_outside mid n Distance.Absent f = tt
 
-pub built-outside : BuiltOutside
+pub built_outside : BuiltOutside
 unfolding widened
-built-outside mid least b a q e =
-    let f = (and-eq-true_iff (fine b) (fine a)).0 (built-finite mid least b a q e) in
+built_outside mid least b a q e =
+    let f = (and-eq-true_iff (fine b) (fine a)).0 (built_finite mid least b a q e) in
     let w = moved least (side b) (side a) in
-    rw (built-is mid least b a q e, w.1) (record { bid = bid-outside mid w.0 b f.0; ask = ask-outside mid w.0 a f.1 })
+    rw (built_is mid least b a q e, w.1) (record { bid = bid_outside mid w.0 b f.0; ask = ask_outside mid w.0 a f.1 })

@@ -8,101 +8,101 @@ use lib.IntN.{ℤ}
 use Rattle.distances.specs.Distances.{fine}
 use Rattle.distances.specs.declared.Distance.{Distance}
 use Rattle.amounts.specs.Refusals.{beyond}
-use Rattle.amounts.specs.Amounts.{amountOk, above0}
+use Rattle.amounts.specs.Amounts.{amount_ok, above0}
 use Rattle.prices.specs.Refusals.{crossed}
 use Rattle.prices.specs.Prices as Prices
-use Rattle.prices.specs.Prices.{each, side, roundedIf, rounded, widened, widenIf, widen, priceSides, inOrder, judgeIf, judge, quotesBy, buildQuotes}
-use Rattle.prices.specs.Refusing.{RoundingRefused, rounded-11, rounded-13, RoundingRefusals, SidesRefused, sides-2, sides-13, WideningRefusals, PricingRefusals, JudgedRefused, judged-13, judged-14, JudgedRefusals, Within, Ordered, Priced, by-13, by-14, PricesRefused}
+use Rattle.prices.specs.Prices.{each, side, rounded_if, rounded, widened, widen_if, widen, price_sides, in_order, judge_if, judge, quotes_by, build_quotes}
+use Rattle.prices.specs.Refusing.{RoundingRefused, rounded_11, rounded_13, RoundingRefusals, SidesRefused, sides_2, sides_13, WideningRefusals, PricingRefusals, JudgedRefused, judged_13, judged_14, JudgedRefusals, Within, Ordered, Priced, by_13, by_14, PricesRefused}
 use Rattle.prices.specs.declared.Price.{Price}
 use Rattle.prices.specs.declared.GlftQuotes.{GlftQuotes}
 use Rattle.prices.specs.declared.Rounded.TheVariants as Rounded
 use Rattle.prices.specs.declared.QuotesAnswer.TheVariants.{Refused}
 
-pub rounding-refusals : RoundingRefusals
-unfolding rounded roundedIf
-rounding-refusals b a n = (to (fine b && fine a) (each amountOk (side b) && each amountOk (side a)) refl refl, from n)
+pub rounding_refusals : RoundingRefusals
+unfolding rounded rounded_if
+rounding_refusals b a n = (to (fine b && fine a) (each amount_ok (side b) && each amount_ok (side a)) refl refl, from n)
   where
-    to : (x y : Bool) → (fine b && fine a) ≡ x → (each amountOk (side b) && each amountOk (side a)) ≡ y → roundedIf x y (side b) (side a) ≡ Rounded.Refused n → RoundingRefused b a n
-    to false y h k e = subst (λ (m : ℕ). RoundingRefused b a m) (cc) (rounded-11 h)
-    to true false h k e = subst (λ (m : ℕ). RoundingRefused b a m) (cc) (rounded-13 h k)
+    to : (x y : Bool) → (fine b && fine a) ≡ x → (each amount_ok (side b) && each amount_ok (side a)) ≡ y → rounded_if x y (side b) (side a) ≡ Rounded.Refused n → RoundingRefused b a n
+    to false y h k e = subst (λ (m : ℕ). RoundingRefused b a m) (cc) (rounded_11 h)
+    to true false h k e = subst (λ (m : ℕ). RoundingRefused b a m) (cc) (rounded_13 h k)
     to true true h k e = let z : ◌≡◌ {A = ℕ} 0 1 = cc in absurd (omega arith)
 
     from : (m : ℕ) → RoundingRefused b a m → rounded b a ≡ Rounded.Refused m
-    from m (rounded-11 h) = rw h
-    from m (rounded-13 h k) = rw (h, k)
+    from m (rounded_11 h) = rw h
+    from m (rounded_13 h k) = rw (h, k)
 
 -- the widening, and the prices without it, by whether the amounts that are given are within the limit
-sides-refused : (given : Bool) (b a : Price) (q : GlftQuotes) (n : ℕ) → (widenIf given (each amountOk b && each amountOk a) q ≡ Refused n) ↔ SidesRefused given b a n
-unfolding widenIf
-sides-refused given b a q n = (to given (each amountOk b && each amountOk a) refl refl, from n)
+sides_refused : (given : Bool) (b a : Price) (q : GlftQuotes) (n : ℕ) → (widen_if given (each amount_ok b && each amount_ok a) q ≡ Refused n) ↔ SidesRefused given b a n
+unfolding widen_if
+sides_refused given b a q n = (to given (each amount_ok b && each amount_ok a) refl refl, from n)
   where
-    to : (x y : Bool) → given ≡ x → (each amountOk b && each amountOk a) ≡ y → widenIf x y q ≡ Refused n → SidesRefused given b a n
-    to false y h k e = subst (λ (m : ℕ). SidesRefused given b a m) (cc) (sides-2 h)
-    to true false h k e = subst (λ (m : ℕ). SidesRefused given b a m) (cc) (sides-13 h k)
+    to : (x y : Bool) → given ≡ x → (each amount_ok b && each amount_ok a) ≡ y → widen_if x y q ≡ Refused n → SidesRefused given b a n
+    to false y h k e = subst (λ (m : ℕ). SidesRefused given b a m) (cc) (sides_2 h)
+    to true false h k e = subst (λ (m : ℕ). SidesRefused given b a m) (cc) (sides_13 h k)
     to true true h k e = let z : ◌≡◌ {A = ℕ} 0 1 = cc in absurd (omega arith)
 
-    from : (m : ℕ) → SidesRefused given b a m → widenIf given (each amountOk b && each amountOk a) q ≡ Refused m
-    from m (sides-2 h) = rw h
-    from m (sides-13 h k) = rw (h, k)
+    from : (m : ℕ) → SidesRefused given b a m → widen_if given (each amount_ok b && each amount_ok a) q ≡ Refused m
+    from m (sides_2 h) = rw h
+    from m (sides_13 h k) = rw (h, k)
 
-pub widening-refusals : WideningRefusals
+pub widening_refusals : WideningRefusals
 unfolding widen
-widening-refusals mid least b a n = sides-refused (amountOk mid && amountOk least) b a (widened mid least b a) n
+widening_refusals mid least b a n = sides_refused (amount_ok mid && amount_ok least) b a (widened mid least b a) n
 
-pub pricing-refusals : PricingRefusals
-unfolding priceSides
-pricing-refusals mid b a n = sides-refused (amountOk mid) b a (Prices.priced mid b a) n
+pub pricing_refusals : PricingRefusals
+unfolding price_sides
+pricing_refusals mid b a n = sides_refused (amount_ok mid) b a (Prices.priced mid b a) n
 
-pub judged-refusals : JudgedRefusals
-unfolding judge judgeIf
-judged-refusals q n = (to (each amountOk q.bid && each amountOk q.ask) (each above0 q.bid && each above0 q.ask && inOrder q.bid q.ask) refl refl, from n)
+pub judged_refusals : JudgedRefusals
+unfolding judge judge_if
+judged_refusals q n = (to (each amount_ok q.bid && each amount_ok q.ask) (each above0 q.bid && each above0 q.ask && in_order q.bid q.ask) refl refl, from n)
   where
-    to : (x y : Bool) → (each amountOk q.bid && each amountOk q.ask) ≡ x → (each above0 q.bid && each above0 q.ask && inOrder q.bid q.ask) ≡ y
-        → judgeIf x y q ≡ Refused n → JudgedRefused q n
-    to false y h k e = subst (λ (m : ℕ). JudgedRefused q m) (cc) (judged-13 h)
-    to true false h k e = subst (λ (m : ℕ). JudgedRefused q m) (cc) (judged-14 h k)
+    to : (x y : Bool) → (each amount_ok q.bid && each amount_ok q.ask) ≡ x → (each above0 q.bid && each above0 q.ask && in_order q.bid q.ask) ≡ y
+        → judge_if x y q ≡ Refused n → JudgedRefused q n
+    to false y h k e = subst (λ (m : ℕ). JudgedRefused q m) (cc) (judged_13 h)
+    to true false h k e = subst (λ (m : ℕ). JudgedRefused q m) (cc) (judged_14 h k)
     to true true h k e = let z : ◌≡◌ {A = ℕ} 0 1 = cc in absurd (omega arith)
 
     from : (m : ℕ) → JudgedRefused q m → judge q ≡ Refused m
-    from m (judged-13 h) = rw h
-    from m (judged-14 h k) = rw (h, k)
+    from m (judged_13 h) = rw h
+    from m (judged_14 h k) = rw (h, k)
 
 -- ---- all three, of finite distances
 module _ (mid least : ℤ) (b a : Distance) (f : fine b ≡ true) (g : fine a ≡ true) where
   -- the counts within the limit, the prices within it, and in order
   abbrev counts : Bool
-  counts = each amountOk (side b) && each amountOk (side a)
+  counts = each amount_ok (side b) && each amount_ok (side a)
 
   abbrev prices : GlftQuotes
   prices = widened mid least (side b) (side a)
 
   abbrev limited : Bool
-  limited = each amountOk prices.bid && each amountOk prices.ask
+  limited = each amount_ok prices.bid && each amount_ok prices.ask
 
   abbrev ordered : Bool
-  ordered = each above0 prices.bid && each above0 prices.ask && inOrder prices.bid prices.ask
+  ordered = each above0 prices.bid && each above0 prices.ask && in_order prices.bid prices.ask
 
-  by_tests : buildQuotes mid least b a ≡ judgeIf (counts && limited) ordered prices
-  unfolding buildQuotes quotesBy rounded roundedIf judge judgeIf
+  by_tests : build_quotes mid least b a ≡ judge_if (counts && limited) ordered prices
+  unfolding build_quotes quotes_by rounded rounded_if judge judge_if
   by_tests = rw (f, g) (go counts)
     where
-      go : (t : Bool) → quotesBy mid least (roundedIf true t (side b) (side a)) ≡ judgeIf (t && limited) ordered prices
+      go : (t : Bool) → quotes_by mid least (rounded_if true t (side b) (side a)) ≡ judge_if (t && limited) ordered prices
       go true = refl
       go false = refl
 
-  priced : (n : ℕ) (x o : Bool) → Within mid least b a ≡ x → Ordered mid least b a ≡ o → judgeIf x o prices ≡ Refused n → Priced mid least b a n
-  unfolding judgeIf widened
-  priced n false o h k e = subst (λ (m : ℕ). Priced mid least b a m) (cc) (by-13 h)
-  priced n true false h k e = subst (λ (m : ℕ). Priced mid least b a m) (cc) (by-14 h k)
+  priced : (n : ℕ) (x o : Bool) → Within mid least b a ≡ x → Ordered mid least b a ≡ o → judge_if x o prices ≡ Refused n → Priced mid least b a n
+  unfolding judge_if widened
+  priced n false o h k e = subst (λ (m : ℕ). Priced mid least b a m) (cc) (by_13 h)
+  priced n true false h k e = subst (λ (m : ℕ). Priced mid least b a m) (cc) (by_14 h k)
   priced n true true h k e = let z : ◌≡◌ {A = ℕ} 0 1 = cc in absurd (omega arith)
 
-  unpriced : (n : ℕ) → Priced mid least b a n → judgeIf (Within mid least b a) (Ordered mid least b a) prices ≡ Refused n
-  unfolding judgeIf
-  unpriced n (by-13 h) = rw h
-  unpriced n (by-14 h k) = rw (h, k)
+  unpriced : (n : ℕ) → Priced mid least b a n → judge_if (Within mid least b a) (Ordered mid least b a) prices ≡ Refused n
+  unfolding judge_if
+  unpriced n (by_13 h) = rw h
+  unpriced n (by_14 h k) = rw (h, k)
 
-pub prices-refused : PricesRefused
+pub prices_refused : PricesRefused
 unfolding widened
-prices-refused mid least b a n f g =
+prices_refused mid least b a n f g =
     let t = by_tests mid least b a f g in
     (λ e. priced mid least b a f g n _ _ refl refl (sym t ∙ e), λ p. t ∙ unpriced mid least b a f g n p)

@@ -1,7 +1,7 @@
 -- Demand 3: prices that face each other. The statement is proved once, in proofs/. Definitions only.
 use Rattle.std.specs.Prelude.{◌≡◌, ℤ, ◌+ℤ◌}
 use Rattle.distances.specs.declared.Distance.{Distance}
-use Rattle.prices.specs.Prices.{buildQuotes}
+use Rattle.prices.specs.Prices.{build_quotes}
 use Rattle.prices.specs.declared.Price.{Price}
 use Rattle.prices.specs.declared.Price.TheVariants.{At, Absent}
 use Rattle.prices.specs.declared.GlftQuotes.{GlftQuotes}
@@ -21,4 +21,4 @@ pub record Pair (mid : ℤ) (q q' : GlftQuotes) : Type 0 where
 
 -- quotes from two distances face those from the same two exchanged
 abbrev pub BuiltFacing : Type 0
-BuiltFacing = (mid least : ℤ) (b a : Distance) (q q' : GlftQuotes) → buildQuotes mid least b a ≡ Quotes q → buildQuotes mid least a b ≡ Quotes q' → Pair mid q q'
+BuiltFacing = (mid least : ℤ) (b a : Distance) (q q' : GlftQuotes) → build_quotes mid least b a ≡ Quotes q → build_quotes mid least a b ≡ Quotes q' → Pair mid q q'

@@ -3,7 +3,7 @@ use Rattle.std.specs.Prelude.{◌≡◌, ℤ, ◌-ℤ◌, Float}
 use Rattle.distances.specs.declared.Distance.{Distance}
 use Rattle.distances.specs.declared.Distance.TheVariants as Distance
 use Rattle.amounts.specs.Rounding.{AtMost}
-use Rattle.prices.specs.Prices.{buildQuotes}
+use Rattle.prices.specs.Prices.{build_quotes}
 use Rattle.prices.specs.declared.Price.{Price}
 use Rattle.prices.specs.declared.Price.TheVariants.{At, Absent}
 use Rattle.prices.specs.declared.GlftQuotes.{GlftQuotes}
@@ -23,4 +23,4 @@ pub record Outside (mid : ℤ) (b a : Distance) (q : GlftQuotes) : Type 0 where
 
 -- of quotes from any two distances, widened or not
 abbrev pub BuiltOutside : Type 0
-BuiltOutside = (mid least : ℤ) (b a : Distance) (q : GlftQuotes) → buildQuotes mid least b a ≡ Quotes q → Outside mid b a q
+BuiltOutside = (mid least : ℤ) (b a : Distance) (q : GlftQuotes) → build_quotes mid least b a ≡ Quotes q → Outside mid b a q

@@ -1,7 +1,7 @@
 // The judgement of two prices.
 ghost use Rattle.std.specs.Prelude.{◌≡◌};
 ghost use Rattle.amounts.specs.Amounts.{above0};
-ghost use Rattle.prices.specs.Prices.{each, inOrder, judge};
+ghost use Rattle.prices.specs.Prices.{each, in_order, judge};
 
 use crate::refusals::CROSSED;
 use crate::{GlftQuotes, Price, QuotesAnswer, side_fits};
@@ -20,7 +20,7 @@ fn side_positive(p: Price) -> bool
 
 // Whether a bid is below an ask, where there is one.
 fn below(b: i64, ask: Price) -> bool
-    ensures { result ≡ inOrder (Price.At b) ask }
+    ensures { result ≡ in_order (Price.At b) ask }
 {
     match ask {
         Price::At(a) => b < a,
@@ -30,7 +30,7 @@ fn below(b: i64, ask: Price) -> bool
 
 // Whether bid and ask are in order, where both are there.
 fn in_order(bid: Price, ask: Price) -> bool
-    ensures { result ≡ inOrder bid ask }
+    ensures { result ≡ in_order bid ask }
 {
     match bid {
         Price::At(b) => below(b, ask),

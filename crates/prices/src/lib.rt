@@ -6,7 +6,7 @@ mod rounding;
 mod widening;
 
 ghost use Rattle.std.specs.Prelude.{◌≡◌};
-ghost use Rattle.amounts.specs.Amounts.{amountOk};
+ghost use Rattle.amounts.specs.Amounts.{amount_ok};
 ghost use Rattle.prices.specs.Prices.{each};
 
 pub use judging::judge;
@@ -43,7 +43,7 @@ pub enum QuotesAnswer {
 
 // Whether a side is absent or within the amount limit.
 pub(crate) fn side_fits(p: Price) -> bool
-    ensures { result ≡ each amountOk p }
+    ensures { result ≡ each amount_ok p }
 {
     match p {
         Price::At(x) => amounts::amount_fits(x),

@@ -1,9 +1,9 @@
 // Distances to whole billionths.
 ghost use Rattle.std.specs.Prelude.{◌≡◌, true, ◌&&◌};
 ghost use Rattle.distances.specs.Distances.{fine};
-ghost use Rattle.amounts.specs.Amounts.{amountOk};
-ghost use Rattle.prices.specs.Prices.{each, side, roundedIf, rounded};
-ghost use Rattle.prices.specs.Inner.{side_of, roundedWith};
+ghost use Rattle.amounts.specs.Amounts.{amount_ok};
+ghost use Rattle.prices.specs.Prices.{each, side, rounded_if, rounded};
+ghost use Rattle.prices.specs.Inner.{side_of, rounded_with};
 
 use crate::{Price, Rounded};
 use amounts::Billionths;
@@ -33,7 +33,7 @@ fn side_of(d: Distance) -> Side
 
 // A bid within the limit, with the ask's side.
 fn rounded_with(bid: Price, ask: Side) -> Rounded
-    ensures { result ≡ roundedWith bid ask }
+    ensures { result ≡ rounded_with bid ask }
 {
     match ask {
         Side::At(a) => Rounded::Sides(bid, Price::At(a)),
@@ -45,7 +45,7 @@ fn rounded_with(bid: Price, ask: Side) -> Rounded
 // The sides of finite distances: refused by 13.
 fn round_finite(bid: Distance, ask: Distance) -> Rounded
     requires { (fine bid ≡ true) × (fine ask ≡ true) }
-    ensures { result ≡ roundedIf true (each amountOk (side bid) && each amountOk (side ask)) (side bid) (side ask) }
+    ensures { result ≡ rounded_if true (each amount_ok (side bid) && each amount_ok (side ask)) (side bid) (side ask) }
 {
     let a = side_of(ask);
     match side_of(bid) {

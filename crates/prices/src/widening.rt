@@ -1,7 +1,7 @@
 // The widening of a spread that is short of the minimum, and the prices around a mid.
 ghost use Rattle.std.specs.Prelude.{◌≡◌, ◌*◌, ◌≤◌, nat_abs, T};
-ghost use Rattle.amounts.specs.Amounts.{amountLimit, amountOk};
-ghost use Rattle.prices.specs.Prices.{each, halfUp, widening, bidPrice, askPrice, widen, priceSides};
+ghost use Rattle.amounts.specs.Amounts.{amount_limit, amount_ok};
+ghost use Rattle.prices.specs.Prices.{each, half_up, widening, bid_price, ask_price, widen, price_sides};
 
 use crate::{GlftQuotes, Price, QuotesAnswer, side_fits};
 use amounts::amount_fits;
@@ -9,8 +9,8 @@ use amounts::refusals::{BEYOND, LIMITS};
 
 // Half of what a spread is short of the minimum, rounded up.
 fn half_shortfall(short: i64) -> i64
-    requires { nat_abs short ≤ 3 * amountLimit }
-    ensures { result ≡ halfUp short }
+    requires { nat_abs short ≤ 3 * amount_limit }
+    ensures { result ≡ half_up short }
 {
     if 0 < short {
         return (short + 1) / 2;
@@ -20,7 +20,7 @@ fn half_shortfall(short: i64) -> i64
 
 // How far each price moves outward where there is a bid.
 fn moved_with(least: i64, b: i64, ask: Price) -> i64
-    requires { T (amountOk least) × T (amountOk b) × T (each amountOk ask) }
+    requires { T (amount_ok least) × T (amount_ok b) × T (each amount_ok ask) }
     ensures { result ≡ widening least (Price.At b) ask }
 {
     match ask {
@@ -31,7 +31,7 @@ fn moved_with(least: i64, b: i64, ask: Price) -> i64
 
 // How far each price moves outward.
 fn moved(least: i64, bid: Price, ask: Price) -> i64
-    requires { T (amountOk least) × T (each amountOk bid) × T (each amountOk ask) }
+    requires { T (amount_ok least) × T (each amount_ok bid) × T (each amount_ok ask) }
     ensures { result ≡ widening least bid ask }
 {
     match bid {
@@ -41,8 +41,8 @@ fn moved(least: i64, bid: Price, ask: Price) -> i64
 }
 
 fn bid_price(mid: i64, w: i64, bid: Price) -> Price
-    requires { T (amountOk mid) × (nat_abs w ≤ 3 * amountLimit) × T (each amountOk bid) }
-    ensures { result ≡ bidPrice mid w bid }
+    requires { T (amount_ok mid) × (nat_abs w ≤ 3 * amount_limit) × T (each amount_ok bid) }
+    ensures { result ≡ bid_price mid w bid }
 {
     match bid {
         Price::At(d) => Price::At(mid - (d + w)),
@@ -51,8 +51,8 @@ fn bid_price(mid: i64, w: i64, bid: Price) -> Price
 }
 
 fn ask_price(mid: i64, w: i64, ask: Price) -> Price
-    requires { T (amountOk mid) × (nat_abs w ≤ 3 * amountLimit) × T (each amountOk ask) }
-    ensures { result ≡ askPrice mid w ask }
+    requires { T (amount_ok mid) × (nat_abs w ≤ 3 * amount_limit) × T (each amount_ok ask) }
+    ensures { result ≡ ask_price mid w ask }
 {
     match ask {
         Price::At(d) => Price::At(mid + (d + w)),
@@ -82,7 +82,7 @@ pub fn widen(mid: i64, min_spread: i64, bid: Price, ask: Price) -> QuotesAnswer
 // The prices of two sides' distances around a mid, whatever their spread. Refused by 2 where the mid is
 // beyond the limit, by 13 where a distance is. The prices are not judged.
 pub fn price_sides(mid: i64, bid: Price, ask: Price) -> QuotesAnswer
-    ensures { result ≡ priceSides mid bid ask }
+    ensures { result ≡ price_sides mid bid ask }
 {
     if amount_fits(mid) {
         if side_fits(bid) & side_fits(ask) {

@@ -3,9 +3,9 @@ mod output;
 
 ghost use Rattle.std.specs.Prelude.{◌≡◌, ◌+◌, ◌<◌, ◌≤◌, length};
 ghost use Rattle.feed.specs.Feed.{Fed};
-ghost use Rattle.sheet.specs.Sheet.{mostBytes};
-ghost use Rattle.sheet.specs.Kinds.{roomOf, printedAs};
-ghost use Rattle.sheet.specs.Fill.{filledAs, leftAs};
+ghost use Rattle.sheet.specs.Sheet.{most_bytes};
+ghost use Rattle.sheet.specs.Kinds.{room_of, printed_as};
+ghost use Rattle.sheet.specs.Fill.{filled_as, left_as};
 ghost use Rattle.sheet.specs.declared.fill.FillAnswer.TheVariants.{Filled};
 ghost use Rattle.printing.specs.Printing.{Counted, OfSomeSheet};
 
@@ -33,9 +33,9 @@ struct Texts {
 
 // Puts the texts from a place of a sheet on into a buffer that has the room.
 fn fill(s: &[u8], at: usize, out: &mut [u8], kind: Kind) -> Texts
-    requires { roomOf kind ≤ length out.old }
-    ensures out_value { filledAs kind s.now at out.old ≡ Filled result.count result.next }
-    ensures out_after { out.new ≡ leftAs kind s.now at out.old }
+    requires { room_of kind ≤ length out.old }
+    ensures out_value { filled_as kind s.now at out.old ≡ Filled result.count result.next }
+    ensures out_after { out.new ≡ left_as kind s.now at out.old }
 {
     match sheet::fill_texts(s, at, out, kind) {
         FillAnswer::Filled(count, next) => Texts { count, next },
@@ -45,7 +45,7 @@ fn fill(s: &[u8], at: usize, out: &mut [u8], kind: Kind) -> Texts
 
 // Writes what is printed for a sheet, many texts with one call.
 pub fn print_texts(s: &[u8], kind: Kind) -> Printed
-    ensures { Counted (length (printedAs kind s.now)) result }
+    ensures { Counted (length (printed_as kind s.now)) result }
 {
     let mut out = io::large_buffer();
     let mut at: usize = 0;
@@ -62,14 +62,14 @@ pub fn print_texts(s: &[u8], kind: Kind) -> Printed
 }
 
 fn blank() -> [u8; ROOM]
-    ensures { mostBytes + 1 ≡ length result }
+    ensures { most_bytes + 1 ≡ length result }
 {
     [0; ROOM]
 }
 
 // Reads a sheet into a buffer that tells one that is too long.
 fn read(input: &mut [u8]) -> Feed
-    requires { mostBytes < length input.old }
+    requires { most_bytes < length input.old }
     ensures { Fed (length input.old) result }
 {
     feed::read_sheet(input)

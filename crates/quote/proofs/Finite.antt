@@ -8,29 +8,29 @@ use Rattle.distances.specs.declared.Sides.{Sides}
 use Rattle.distances.specs.declared.Sides.TheVariants as Sides
 use Rattle.distances.specs.declared.Answer.{Answer}
 use Rattle.distances.specs.declared.Answer.TheVariants as Answer
-use Rattle.distances.proofs.Finite.{sides-fine, finite-distances}
-use Rattle.amounts.specs.Amounts.{timeOk, tauOf}
-use Rattle.model.specs.Model.{newModel, input_of, exactModel}
-use Rattle.quote.specs.ClosedForm.{slope, bidForm, askForm, formIf, closedFormDistances}
-use Rattle.quote.specs.Quotes.{exactFrom, exactAnswer, closedFrom}
+use Rattle.distances.proofs.Finite.{sides_fine, finite_distances}
+use Rattle.amounts.specs.Amounts.{time_ok, tau_of}
+use Rattle.model.specs.Model.{new_model, input_of, exact_model}
+use Rattle.quote.specs.ClosedForm.{slope, bid_form, ask_form, form_if, closed_form_distances}
+use Rattle.quote.specs.Quotes.{exact_from, exact_answer, closed_from}
 use Rattle.model.specs.declared.GLFTConfig.{GLFTConfig}
 use Rattle.model.specs.declared.ModelAnswer.{ModelAnswer}
 use Rattle.model.specs.declared.ModelAnswer.TheVariants as ModelAnswer
 
-from-finite : (m : ModelAnswer) (tau : Float) (b a : Distance) (s : ℕ) → exactFrom m tau ≡ Answer.Distances b a s → Finite b a
-unfolding exactFrom
-from-finite (ModelAnswer.Model m q) tau b a s e = finite-distances.entry m.k m.base (input_of m tau) q b a s e
-from-finite (ModelAnswer.Refused r) tau b a s e = let z : ◌≡◌ {A = ℕ} 0 1 = cc in absurd (omega arith)
+from_finite : (m : ModelAnswer) (tau : Float) (b a : Distance) (s : ℕ) → exact_from m tau ≡ Answer.Distances b a s → Finite b a
+unfolding exact_from
+from_finite (ModelAnswer.Model m q) tau b a s e = finite_distances.entry m.k m.base (input_of m tau) q b a s e
+from_finite (ModelAnswer.Refused r) tau b a s e = let z : ◌≡◌ {A = ℕ} 0 1 = cc in absurd (omega arith)
 
-pub answer-finite : (mid h : ℤ) (c : GLFTConfig) (vol : ℤ) (t : ℕ) (b a : Distance) (s : ℕ) → exactAnswer mid h c vol t ≡ Answer.Distances b a s → Finite b a
-unfolding exactAnswer
-answer-finite mid h c vol t b a s e = from-finite (exactModel mid h c vol t) (tauOf c.terminal_time t) b a s e
+pub answer_finite : (mid h : ℤ) (c : GLFTConfig) (vol : ℤ) (t : ℕ) (b a : Distance) (s : ℕ) → exact_answer mid h c vol t ≡ Answer.Distances b a s → Finite b a
+unfolding exact_answer
+answer_finite mid h c vol t b a s e = from_finite (exact_model mid h c vol t) (tau_of c.terminal_time t) b a s e
 
-pub closed-finite : (m : ModelAnswer) (b a : Distance) → closedFrom m ≡ Sides.Distances b a → Finite b a
-unfolding closedFrom closedFormDistances formIf
-closed-finite (ModelAnswer.Refused r) b a e = let z : ◌≡◌ {A = ℕ} 0 1 = cc in absurd (omega arith)
-closed-finite (ModelAnswer.Model m q) b a e = go (positive (slope m)) e
+pub closed_finite : (m : ModelAnswer) (b a : Distance) → closed_from m ≡ Sides.Distances b a → Finite b a
+unfolding closed_from closed_form_distances form_if
+closed_finite (ModelAnswer.Refused r) b a e = let z : ◌≡◌ {A = ℕ} 0 1 = cc in absurd (omega arith)
+closed_finite (ModelAnswer.Model m q) b a e = go (positive (slope m)) e
   where
-    go : (t : Bool) → formIf t m q ≡ Sides.Distances b a → Finite b a
-    go true h = sides-fine (bidForm m q) (askForm m q) b a h
+    go : (t : Bool) → form_if t m q ≡ Sides.Distances b a → Finite b a
+    go true h = sides_fine (bid_form m q) (ask_form m q) b a h
     go false h = let z : ◌≡◌ {A = ℕ} 0 1 = cc in absurd (omega arith)

@@ -5,8 +5,8 @@ use Rattle.distances.specs.declared.Sides.{Sides}
 use Rattle.distances.specs.declared.Sides.TheVariants as Sides
 use Rattle.distances.specs.declared.Answer.{Answer}
 use Rattle.distances.specs.declared.Answer.TheVariants as Answer
-use Rattle.prices.specs.Prices.{buildQuotes}
-use Rattle.quote.specs.Quotes.{exactAnswer, withoutReport, optimalAnswer, exactBy, exactQuotes, optimalQuotes, closedAnswer, closedBy, closedFormQuotes}
+use Rattle.prices.specs.Prices.{build_quotes}
+use Rattle.quote.specs.Quotes.{exact_answer, without_report, optimal_answer, exact_by, exact_quotes, optimal_quotes, closed_answer, closed_by, closed_form_quotes}
 use Rattle.prices.specs.Outward.{Outside}
 use Rattle.quote.specs.Outward.{OutsideOf, NeverInside}
 use Rattle.model.specs.declared.GLFTConfig.{GLFTConfig}
@@ -14,39 +14,39 @@ use Rattle.prices.specs.declared.GlftQuotes.{GlftQuotes}
 use Rattle.quote.specs.declared.ExactQuotes.TheVariants as Exact
 use Rattle.quote.specs.declared.OptimalQuotes.TheVariants as Optimal
 use Rattle.quote.specs.declared.ClosedFormQuotes.TheVariants as Closed
-use Rattle.prices.proofs.Outward.{built-outside}
-use Rattle.quote.proofs.Pairs.{with-steps-is, wrapped-is, of-quotes-is}
+use Rattle.prices.proofs.Outward.{built_outside}
+use Rattle.quote.proofs.Pairs.{with_steps_is, wrapped_is, of_quotes_is}
 
 -- ---- quotes of an answer
-pub exact-outside : (mid least : ℤ) (r : Answer) (q : GlftQuotes) (s : ℕ) → exactBy mid least r ≡ Exact.Quotes q s → OutsideOf mid r q s
-unfolding exactBy
-exact-outside mid least (Answer.Distances b a n) q s e =
-    let u = with-steps-is n s (buildQuotes mid least b a) q e in
-    (b, a, ap (Answer.Distances b a) u.1, built-outside mid least b a q u.0)
-exact-outside mid least (Answer.OverCap need b n) q s e = let z : ◌≡◌ {A = ℕ} 0 1 = cc in absurd (omega arith)
-exact-outside mid least (Answer.Refused r) q s e = let z : ◌≡◌ {A = ℕ} 0 1 = cc in absurd (omega arith)
+pub exact_outside : (mid least : ℤ) (r : Answer) (q : GlftQuotes) (s : ℕ) → exact_by mid least r ≡ Exact.Quotes q s → OutsideOf mid r q s
+unfolding exact_by
+exact_outside mid least (Answer.Distances b a n) q s e =
+    let u = with_steps_is n s (build_quotes mid least b a) q e in
+    (b, a, ap (Answer.Distances b a) u.1, built_outside mid least b a q u.0)
+exact_outside mid least (Answer.OverCap need b n) q s e = let z : ◌≡◌ {A = ℕ} 0 1 = cc in absurd (omega arith)
+exact_outside mid least (Answer.Refused r) q s e = let z : ◌≡◌ {A = ℕ} 0 1 = cc in absurd (omega arith)
 
-closed-outside : (mid least : ℤ) (r : Sides) (q : GlftQuotes) → closedBy mid least r ≡ Closed.Quotes q → (b : Distance) × (a : Distance) × (r ≡ Sides.Distances b a) × Outside mid b a q
-unfolding closedBy
-closed-outside mid least (Sides.Distances b a) q e = (b, a, refl, built-outside mid least b a q (of-quotes-is (buildQuotes mid least b a) q e))
-closed-outside mid least (Sides.Refused r) q e = let z : ◌≡◌ {A = ℕ} 0 1 = cc in absurd (omega arith)
+closed_outside : (mid least : ℤ) (r : Sides) (q : GlftQuotes) → closed_by mid least r ≡ Closed.Quotes q → (b : Distance) × (a : Distance) × (r ≡ Sides.Distances b a) × Outside mid b a q
+unfolding closed_by
+closed_outside mid least (Sides.Distances b a) q e = (b, a, refl, built_outside mid least b a q (of_quotes_is (build_quotes mid least b a) q e))
+closed_outside mid least (Sides.Refused r) q e = let z : ◌≡◌ {A = ℕ} 0 1 = cc in absurd (omega arith)
 
 -- ---- the entries
-exact-never : (mid h : ℤ) (c : GLFTConfig) (vol : ℤ) (t : ℕ) (q : GlftQuotes) (s : ℕ) → exactQuotes mid h c vol t ≡ Exact.Quotes q s → OutsideOf mid (exactAnswer mid h c vol t) q s
-unfolding exactQuotes
-exact-never mid h c vol t q s e = exact-outside mid c.min_spread (exactAnswer mid h c vol t) q s e
+exact_never : (mid h : ℤ) (c : GLFTConfig) (vol : ℤ) (t : ℕ) (q : GlftQuotes) (s : ℕ) → exact_quotes mid h c vol t ≡ Exact.Quotes q s → OutsideOf mid (exact_answer mid h c vol t) q s
+unfolding exact_quotes
+exact_never mid h c vol t q s e = exact_outside mid c.min_spread (exact_answer mid h c vol t) q s e
 
 -- the wrapper's distances are those of `exact_quotes`
-optimal-never : (mid h : ℤ) (c : GLFTConfig) (vol : ℤ) (t : ℕ) (q : GlftQuotes) (s : ℕ) → optimalQuotes mid h c vol t ≡ Optimal.Quotes q s → OutsideOf mid (optimalAnswer mid h c vol t) q s
-unfolding optimalQuotes optimalAnswer withoutReport
-optimal-never mid h c vol t q s e =
-    let u = exact-never mid h c vol t q s (wrapped-is (exactQuotes mid h c vol t) q s e) in
-    (u.0, u.1, ap withoutReport u.2, u.3)
+optimal_never : (mid h : ℤ) (c : GLFTConfig) (vol : ℤ) (t : ℕ) (q : GlftQuotes) (s : ℕ) → optimal_quotes mid h c vol t ≡ Optimal.Quotes q s → OutsideOf mid (optimal_answer mid h c vol t) q s
+unfolding optimal_quotes optimal_answer without_report
+optimal_never mid h c vol t q s e =
+    let u = exact_never mid h c vol t q s (wrapped_is (exact_quotes mid h c vol t) q s e) in
+    (u.0, u.1, ap without_report u.2, u.3)
 
-pub never-inside : NeverInside
-unfolding closedFormQuotes closedAnswer
-never-inside = record {
-  exact = exact-never;
-  optimal = optimal-never;
-  closed = λ mid h c vol q e. closed-outside mid c.min_spread (closedAnswer mid h c vol) q e;
+pub never_inside : NeverInside
+unfolding closed_form_quotes closed_answer
+never_inside = record {
+  exact = exact_never;
+  optimal = optimal_never;
+  closed = λ mid h c vol q e. closed_outside mid c.min_spread (closed_answer mid h c vol) q e;
 }

@@ -3,28 +3,28 @@ use Rattle.std.proofs.Common.{◌≡◌, ℤ, refl, ap, ◌∙◌}
 use Rattle.distances.specs.Promises.{exchanged}
 use Rattle.distances.specs.declared.Answer.{Answer}
 use Rattle.distances.specs.declared.Answer.TheVariants.{Distances, OverCap, Refused}
-use Rattle.quote.specs.Quotes.{exactAnswer, withoutReport, optimalAnswer, exactBy, exactQuotes, wrapped, optimalQuotes}
+use Rattle.quote.specs.Quotes.{exact_answer, without_report, optimal_answer, exact_by, exact_quotes, wrapped, optimal_quotes}
 use Rattle.quote.specs.Promises.{OptimalPriced, OptimalMirror}
-use Rattle.quote.proofs.Mirrors.{exact-mirror}
+use Rattle.quote.proofs.Mirrors.{exact_mirror}
 
-priced-alike : (mid least : ℤ) (r : Answer) → wrapped (exactBy mid least r) ≡ wrapped (exactBy mid least (withoutReport r))
-unfolding withoutReport exactBy wrapped
-priced-alike mid least (Distances b a s) = refl
-priced-alike mid least (OverCap need b s) = refl
-priced-alike mid least (Refused r) = refl
+priced_alike : (mid least : ℤ) (r : Answer) → wrapped (exact_by mid least r) ≡ wrapped (exact_by mid least (without_report r))
+unfolding without_report exact_by wrapped
+priced_alike mid least (Distances b a s) = refl
+priced_alike mid least (OverCap need b s) = refl
+priced_alike mid least (Refused r) = refl
 
-pub optimal-priced : OptimalPriced
-unfolding optimalQuotes exactQuotes optimalAnswer
-optimal-priced mid h c vol t = priced-alike mid c.min_spread (exactAnswer mid h c vol t)
+pub optimal_priced : OptimalPriced
+unfolding optimal_quotes exact_quotes optimal_answer
+optimal_priced mid h c vol t = priced_alike mid c.min_spread (exact_answer mid h c vol t)
 
-exchanged-alike : (r : Answer) → withoutReport (exchanged r) ≡ exchanged (withoutReport r)
-unfolding withoutReport exchanged
-exchanged-alike (Distances b a s) = refl
-exchanged-alike (OverCap need b s) = refl
-exchanged-alike (Refused r) = refl
+exchanged_alike : (r : Answer) → without_report (exchanged r) ≡ exchanged (without_report r)
+unfolding without_report exchanged
+exchanged_alike (Distances b a s) = refl
+exchanged_alike (OverCap need b s) = refl
+exchanged_alike (Refused r) = refl
 
-pub optimal-mirror : OptimalMirror
-unfolding optimalAnswer
-optimal-mirror mid h c vol t =
-    let m = exact-mirror mid h c vol t in
-    (ap withoutReport m.0 ∙ exchanged-alike (exactAnswer mid h c vol t), m.1, m.2)
+pub optimal_mirror : OptimalMirror
+unfolding optimal_answer
+optimal_mirror mid h c vol t =
+    let m = exact_mirror mid h c vol t in
+    (ap without_report m.0 ∙ exchanged_alike (exact_answer mid h c vol t), m.1, m.2)

@@ -4,7 +4,7 @@ use Rattle.distances.specs.declared.Distance.{Distance}
 use Rattle.distances.specs.declared.Sides.TheVariants as Sides
 use Rattle.distances.specs.declared.Answer.{Answer}
 use Rattle.distances.specs.declared.Answer.TheVariants as Answer
-use Rattle.quote.specs.Quotes.{exactAnswer, optimalAnswer, closedAnswer, exactQuotes, optimalQuotes, closedFormQuotes}
+use Rattle.quote.specs.Quotes.{exact_answer, optimal_answer, closed_answer, exact_quotes, optimal_quotes, closed_form_quotes}
 use Rattle.model.specs.declared.GLFTConfig.{GLFTConfig}
 use Rattle.prices.specs.declared.GlftQuotes.{GlftQuotes}
 use Rattle.quote.specs.declared.ExactQuotes.TheVariants as Exact
@@ -18,7 +18,7 @@ OutsideOf mid r q s = (b : Distance) × (a : Distance) × (r ≡ Answer.Distance
 
 -- every reply that ends in quotes, of each entry, widened or not
 pub record NeverInside : Type 0 where
-  pub exact : (mid h : ℤ) (c : GLFTConfig) (vol : ℤ) (t : ℕ) (q : GlftQuotes) (s : ℕ) → exactQuotes mid h c vol t ≡ Exact.Quotes q s → OutsideOf mid (exactAnswer mid h c vol t) q s
-  pub optimal : (mid h : ℤ) (c : GLFTConfig) (vol : ℤ) (t : ℕ) (q : GlftQuotes) (s : ℕ) → optimalQuotes mid h c vol t ≡ Optimal.Quotes q s → OutsideOf mid (optimalAnswer mid h c vol t) q s
-  pub closed : (mid h : ℤ) (c : GLFTConfig) (vol : ℤ) (q : GlftQuotes) → closedFormQuotes mid h c vol ≡ Closed.Quotes q
-      → (b : Distance) × (a : Distance) × (closedAnswer mid h c vol ≡ Sides.Distances b a) × Outside mid b a q
+  pub exact : (mid h : ℤ) (c : GLFTConfig) (vol : ℤ) (t : ℕ) (q : GlftQuotes) (s : ℕ) → exact_quotes mid h c vol t ≡ Exact.Quotes q s → OutsideOf mid (exact_answer mid h c vol t) q s
+  pub optimal : (mid h : ℤ) (c : GLFTConfig) (vol : ℤ) (t : ℕ) (q : GlftQuotes) (s : ℕ) → optimal_quotes mid h c vol t ≡ Optimal.Quotes q s → OutsideOf mid (optimal_answer mid h c vol t) q s
+  pub closed : (mid h : ℤ) (c : GLFTConfig) (vol : ℤ) (q : GlftQuotes) → closed_form_quotes mid h c vol ≡ Closed.Quotes q
+      → (b : Distance) × (a : Distance) × (closed_answer mid h c vol ≡ Sides.Distances b a) × Outside mid b a q

@@ -1,7 +1,7 @@
 -- When a side is withheld, for the three entries: whenever a call ends in quotes. Proved once, in proofs/. Definitions only.
 use Rattle.std.specs.Prelude.{◌≡◌, ℕ, ◌↔◌, ℤ, pos, neg_ℤ}
 use Rattle.model.specs.Model.{lots}
-use Rattle.quote.specs.Quotes.{exactQuotes, optimalQuotes, closedFormQuotes}
+use Rattle.quote.specs.Quotes.{exact_quotes, optimal_quotes, closed_form_quotes}
 use Rattle.model.specs.declared.GLFTConfig.{GLFTConfig}
 use Rattle.prices.specs.declared.Price.TheVariants.{Absent}
 use Rattle.prices.specs.declared.GlftQuotes.{GlftQuotes}
@@ -15,10 +15,10 @@ pub record Presence (h : ℤ) (c : GLFTConfig) (q : GlftQuotes) : Type 0 where
   pub ask : (q.ask ≡ Absent) ↔ (lots h c ≡ neg_ℤ (pos c.max_inventory_lots))
 
 abbrev pub ExactPresence : Type 0
-ExactPresence = (mid h : ℤ) (c : GLFTConfig) (vol : ℤ) (t : ℕ) (q : GlftQuotes) (s : ℕ) → exactQuotes mid h c vol t ≡ Exact.Quotes q s → Presence h c q
+ExactPresence = (mid h : ℤ) (c : GLFTConfig) (vol : ℤ) (t : ℕ) (q : GlftQuotes) (s : ℕ) → exact_quotes mid h c vol t ≡ Exact.Quotes q s → Presence h c q
 
 abbrev pub OptimalPresence : Type 0
-OptimalPresence = (mid h : ℤ) (c : GLFTConfig) (vol : ℤ) (t : ℕ) (q : GlftQuotes) (s : ℕ) → optimalQuotes mid h c vol t ≡ Optimal.Quotes q s → Presence h c q
+OptimalPresence = (mid h : ℤ) (c : GLFTConfig) (vol : ℤ) (t : ℕ) (q : GlftQuotes) (s : ℕ) → optimal_quotes mid h c vol t ≡ Optimal.Quotes q s → Presence h c q
 
 abbrev pub ClosedPresence : Type 0
-ClosedPresence = (mid h : ℤ) (c : GLFTConfig) (vol : ℤ) (q : GlftQuotes) → closedFormQuotes mid h c vol ≡ Closed.Quotes q → Presence h c q
+ClosedPresence = (mid h : ℤ) (c : GLFTConfig) (vol : ℤ) (q : GlftQuotes) → closed_form_quotes mid h c vol ≡ Closed.Quotes q → Presence h c q

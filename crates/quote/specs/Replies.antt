@@ -2,8 +2,8 @@
 use Rattle.std.specs.Prelude.{◌≡◌, ℕ, ◌+◌, ◌≤◌, not, T, ℤ, pos, negsuc, is_nan}
 use Rattle.plan.specs.Plan.{cap}
 use Rattle.prices.specs.Refusals.{crossed}
-use Rattle.amounts.specs.Amounts.{amountLimit}
-use Rattle.quote.specs.Quotes.{exactQuotes}
+use Rattle.amounts.specs.Amounts.{amount_limit}
+use Rattle.quote.specs.Quotes.{exact_quotes}
 use Rattle.model.specs.declared.GLFTConfig.{GLFTConfig}
 use Rattle.prices.specs.declared.Price.{Price}
 use Rattle.prices.specs.declared.Price.TheVariants.{At, Absent}
@@ -12,7 +12,7 @@ use Rattle.quote.specs.declared.ExactQuotes.TheVariants.{Quotes, OverStepCap, Re
 
 -- a price is positive and within the amount limit
 unfoldable pub PriceKept : Price → Type 0
-PriceKept (At (pos n)) = (1 ≤ n) × (n ≤ amountLimit)
+PriceKept (At (pos n)) = (1 ≤ n) × (n ≤ amount_limit)
 PriceKept (At (negsuc n)) = ⊥
 PriceKept Absent = Unit {0}
 
@@ -23,4 +23,4 @@ ReplyKept (OverStepCap need b s) = T (not (is_nan need)) × (s + b ≡ cap)
 ReplyKept (Refused n) = n ≤ crossed
 
 abbrev pub RepliesKept : Type 0
-RepliesKept = (mid h : ℤ) (c : GLFTConfig) (vol : ℤ) (t : ℕ) → ReplyKept (exactQuotes mid h c vol t)
+RepliesKept = (mid h : ℤ) (c : GLFTConfig) (vol : ℤ) (t : ℕ) → ReplyKept (exact_quotes mid h c vol t)

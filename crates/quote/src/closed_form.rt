@@ -1,6 +1,6 @@
 // The distances of the closed form.
 ghost use Rattle.std.specs.Prelude.{◌≡◌};
-ghost use Rattle.quote.specs.ClosedForm.{slope, formBid, formAsk, closedFormDistances};
+ghost use Rattle.quote.specs.ClosedForm.{slope, form_bid, form_ask, closed_form_distances};
 
 use distances::{Distance, Sides};
 use model::Model;
@@ -15,7 +15,7 @@ fn slope_of(m: Model) -> f64
 }
 
 fn bid_of(allowed: bool, base: f64, c: f64, q: f64) -> Distance
-    ensures { result ≡ formBid allowed base c q }
+    ensures { result ≡ form_bid allowed base c q }
 {
     if allowed {
         return Distance::At(base + (2.0 * q + 1.0) / 2.0 * c);
@@ -24,7 +24,7 @@ fn bid_of(allowed: bool, base: f64, c: f64, q: f64) -> Distance
 }
 
 fn ask_of(allowed: bool, base: f64, c: f64, q: f64) -> Distance
-    ensures { result ≡ formAsk allowed base c q }
+    ensures { result ≡ form_ask allowed base c q }
 {
     if allowed {
         return Distance::At(base - (2.0 * q - 1.0) / 2.0 * c);
@@ -34,7 +34,7 @@ fn ask_of(allowed: bool, base: f64, c: f64, q: f64) -> Distance
 
 // The two distances at q lots: refused by 11.
 pub(crate) fn distances(m: Model, q: i64) -> Sides
-    ensures { result ≡ closedFormDistances m q }
+    ensures { result ≡ closed_form_distances m q }
 {
     let c = slope_of(m);
     if elementary::is_positive_finite(c) {

@@ -1,6 +1,6 @@
 // Whether a horizon is too long: the steps of the first plan, before anything runs.
 ghost use Rattle.std.specs.Prelude.{◌≡◌};
-ghost use Rattle.quote.specs.Horizon.{deskPlan};
+ghost use Rattle.quote.specs.Horizon.{desk_plan};
 
 use amounts::seconds_to_terminal;
 use model::{GLFTConfig, Model, ModelAnswer};
@@ -15,7 +15,7 @@ pub fn first_plan(
     volatility: i64,
     current_time: u64,
 ) -> FirstPlan
-    ensures { result ≡ deskPlan mid_price inventory config volatility current_time }
+    ensures { result ≡ desk_plan mid_price inventory config volatility current_time }
 {
     let terminal = config.terminal_time;
     match Model::exact(mid_price, inventory, config, volatility, current_time) {

@@ -5,7 +5,7 @@ mod quotes;
 pub mod refusals;
 
 ghost use Rattle.std.specs.Prelude.{◌≡◌};
-ghost use Rattle.quote.specs.Quotes.{exactQuotes, optimalQuotes, closedFormQuotes};
+ghost use Rattle.quote.specs.Quotes.{exact_quotes, optimal_quotes, closed_form_quotes};
 
 pub use amounts::{BILLION, Billionths, to_billionths};
 pub use elementary::Check;
@@ -49,7 +49,7 @@ impl GLFTStrategy {
         volatility: i64,
         current_time: u64,
     ) -> ExactQuotes
-        ensures { result ≡ exactQuotes mid_price inventory config volatility current_time }
+        ensures { result ≡ exact_quotes mid_price inventory config volatility current_time }
     {
         let terminal = config.terminal_time;
         let least = config.min_spread;
@@ -71,7 +71,7 @@ impl GLFTStrategy {
         volatility: i64,
         current_time: u64,
     ) -> OptimalQuotes
-        ensures { result ≡ optimalQuotes mid_price inventory config volatility current_time }
+        ensures { result ≡ optimal_quotes mid_price inventory config volatility current_time }
     {
         match GLFTStrategy::exact_quotes(mid_price, inventory, config, volatility, current_time) {
             ExactQuotes::Quotes(q, steps) => OptimalQuotes::Quotes(q, steps),
@@ -88,7 +88,7 @@ impl GLFTStrategy {
         config: GLFTConfig,
         volatility: i64,
     ) -> ClosedFormQuotes
-        ensures { result ≡ closedFormQuotes mid_price inventory config volatility }
+        ensures { result ≡ closed_form_quotes mid_price inventory config volatility }
     {
         let least = config.min_spread;
         match Model::closed_form(mid_price, inventory, config, volatility) {

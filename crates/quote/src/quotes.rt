@@ -1,9 +1,9 @@
 // From answers before prices to quotes.
 ghost use Rattle.std.specs.Prelude.{◌≡◌, T};
-ghost use Rattle.distances.specs.FloatEntry.{floatEntry};
-ghost use Rattle.amounts.specs.Amounts.{amountOk};
-ghost use Rattle.quote.specs.Quotes.{withSteps, exactBy, closedBy, quotesByAnswer};
-ghost use Rattle.prices.specs.Prices.{each, widened, judge, buildQuotes};
+ghost use Rattle.distances.specs.FloatEntry.{float_entry};
+ghost use Rattle.amounts.specs.Amounts.{amount_ok};
+ghost use Rattle.quote.specs.Quotes.{with_steps, exact_by, closed_by, quotes_by_answer};
+ghost use Rattle.prices.specs.Prices.{each, widened, judge, build_quotes};
 ghost use Rattle.model.specs.Model.{input_of};
 
 use crate::{ClosedFormQuotes, ExactQuotes};
@@ -15,7 +15,7 @@ use prices::{Price, QuotesAnswer, Rounded};
 
 // The quotes of two sides in whole billionths: widened to the min spread, then judged.
 fn priced(mid: i64, least: i64, bid: Price, ask: Price) -> QuotesAnswer
-    requires { T (amountOk mid) × T (amountOk least) × T (each amountOk bid) × T (each amountOk ask) }
+    requires { T (amount_ok mid) × T (amount_ok least) × T (each amount_ok bid) × T (each amount_ok ask) }
     ensures { result ≡ judge (widened mid least bid ask) }
 {
     match prices::widen(mid, least, bid, ask) {
@@ -26,8 +26,8 @@ fn priced(mid: i64, least: i64, bid: Price, ask: Price) -> QuotesAnswer
 
 // Builds the quotes from the distances: rounded, widened and judged.
 fn build_quotes(mid: i64, least: i64, bid: Distance, ask: Distance) -> QuotesAnswer
-    requires { T (amountOk mid) × T (amountOk least) }
-    ensures { result ≡ buildQuotes mid least bid ask }
+    requires { T (amount_ok mid) × T (amount_ok least) }
+    ensures { result ≡ build_quotes mid least bid ask }
 {
     match prices::round_sides(bid, ask) {
         Rounded::Sides(b, a) => priced(mid, least, b, a),
@@ -36,7 +36,7 @@ fn build_quotes(mid: i64, least: i64, bid: Distance, ask: Distance) -> QuotesAns
 }
 
 fn with_steps(b: QuotesAnswer, steps: u32) -> ExactQuotes
-    ensures { result ≡ withSteps steps b }
+    ensures { result ≡ with_steps steps b }
 {
     match b {
         QuotesAnswer::Quotes(q) => ExactQuotes::Quotes(q, steps),
@@ -46,8 +46,8 @@ fn with_steps(b: QuotesAnswer, steps: u32) -> ExactQuotes
 
 // The exact quotes of an answer before prices.
 pub(crate) fn from_answer(mid: i64, least: i64, answer: Answer) -> ExactQuotes
-    requires { T (amountOk mid) × T (amountOk least) }
-    ensures { result ≡ exactBy mid least answer }
+    requires { T (amount_ok mid) × T (amount_ok least) }
+    ensures { result ≡ exact_by mid least answer }
 {
     match answer {
         Answer::Distances(bid, ask, steps) => with_steps(build_quotes(mid, least, bid, ask), steps),
@@ -58,8 +58,8 @@ pub(crate) fn from_answer(mid: i64, least: i64, answer: Answer) -> ExactQuotes
 
 // The exact quotes of a model at q lots.
 pub(crate) fn exact_of(mid: i64, least: i64, m: Model, q: i64, tau: f64) -> ExactQuotes
-    requires { T (amountOk mid) × T (amountOk least) }
-    ensures { result ≡ exactBy mid least (floatEntry m.k m.base (input_of m tau) q).answer }
+    requires { T (amount_ok mid) × T (amount_ok least) }
+    ensures { result ≡ exact_by mid least (float_entry m.k m.base (input_of m tau) q).answer }
 {
     let r = distances::float_entry(m.k, m.base, model::run_input(m, tau), q);
     let answer = r.answer;
@@ -68,8 +68,8 @@ pub(crate) fn exact_of(mid: i64, least: i64, m: Model, q: i64, tau: f64) -> Exac
 
 // The quotes of the closed form's distances.
 pub(crate) fn closed_of(mid: i64, least: i64, sides: Sides) -> ClosedFormQuotes
-    requires { T (amountOk mid) × T (amountOk least) }
-    ensures { result ≡ closedBy mid least sides }
+    requires { T (amount_ok mid) × T (amount_ok least) }
+    ensures { result ≡ closed_by mid least sides }
 {
     match sides {
         Sides::Distances(bid, ask) => {
@@ -85,7 +85,7 @@ pub(crate) fn closed_of(mid: i64, least: i64, sides: Sides) -> ClosedFormQuotes
 // The exact quotes of any answer before prices: refused by 2 where the mid or the min spread is beyond
 // the limit, then as the answer is, then by 11 where a distance is not finite, 13 and 14.
 pub fn quotes_by(mid_price: i64, min_spread: i64, answer: Answer) -> ExactQuotes
-    ensures { result ≡ quotesByAnswer mid_price min_spread answer }
+    ensures { result ≡ quotes_by_answer mid_price min_spread answer }
 {
     if amount_fits(mid_price) {
         if amount_fits(min_spread) {

@@ -4,14 +4,14 @@ use Prim.Native.Nat.{ℕ}
 use mathlib.Core.Bool.{false}
 use mathlib.Core.List.{List}
 use lib.ListN.{length, drop}
-use Rattle.record.specs.Record.{Read, taken, refused, numbers, fields, recordFrom, asHeld, heldAs, readAs, readRecord}
+use Rattle.record.specs.Record.{Read, taken, refused, numbers, fields, record_from, as_held, held_as, read_as, read_record}
 
-held_same : (x : Read (List ℕ)) → heldAs false x ≡ x
-unfolding heldAs asHeld
+held_same : (x : Read (List ℕ)) → held_as false x ≡ x
+unfolding held_as as_held
 held_same (taken v rest) = refl
 held_same (refused k) = refl
 
 -- with its holding it is the record
-pub as-it-is : (s : List ℕ) (at : ℕ) → readAs false s at ≡ readRecord s at
-unfolding readAs readRecord
-as-it-is s at = ap (recordFrom (length s)) (held_same (numbers fields (drop at s)))
+pub as_it_is : (s : List ℕ) (at : ℕ) → read_as false s at ≡ read_record s at
+unfolding read_as read_record
+as_it_is s at = ap (record_from (length s)) (held_same (numbers fields (drop at s)))

@@ -12,94 +12,94 @@ use lib.Seq.{append_snoc}
 use lib.Dec.{ltb, eqb}
 use Rattle.record.specs.Record.{taken, ◌then◌, group, groups}
 use Rattle.buffers.specs.Over.{over}
-use Rattle.record.specs.Save.{inGroupsBy, in_groups}
+use Rattle.record.specs.Save.{in_groups_by, in_groups}
 use Rattle.record.specs.Promises.{Bytes, FewestGroups}
 use Rattle.record.proofs.Left.{after}
-use Rattle.buffers.proofs.Texts.{Wrote, wrote-length, wrote_none, wrote-byte, wrote_as}
+use Rattle.buffers.proofs.Texts.{Wrote, wrote_length, wrote_none, wrote_byte, wrote_as}
 
 -- ---- more turns than enough change nothing
-enough : (j k n : ℕ) → n ≤ j → n ≤ k → inGroupsBy j (ltb n 128) n ≡ inGroupsBy k (ltb n 128) n
-unfolding inGroupsBy
+enough : (j k n : ℕ) → n ≤ j → n ≤ k → in_groups_by j (ltb n 128) n ≡ in_groups_by k (ltb n 128) n
+unfolding in_groups_by
 enough zero zero n h g = refl
 enough zero (suc k) n h g = rw (lt-ltb n 128 (omega arith))
 enough (suc j) zero n h g = rw (lt-ltb n 128 (omega arith))
 enough (suc j) (suc k) n h g = go (ltb n 128) (ltb-false n 128) (λ m. enough j k (n / 128) (omega arith) (omega arith))
   where
-    go : (t : Bool) → (t ≡ false → 128 ≤ n) → (128 ≤ n → inGroupsBy j (ltb (n / 128) 128) (n / 128) ≡ inGroupsBy k (ltb (n / 128) 128) (n / 128))
-        → inGroupsBy (suc j) t n ≡ inGroupsBy (suc k) t n
+    go : (t : Bool) → (t ≡ false → 128 ≤ n) → (128 ≤ n → in_groups_by j (ltb (n / 128) 128) (n / 128) ≡ in_groups_by k (ltb (n / 128) 128) (n / 128))
+        → in_groups_by (suc j) t n ≡ in_groups_by (suc k) t n
     go true f r = refl
     go false f r = ap (λ (l : List ℕ). (n % 128 + 128) ∷ l) (r (f refl))
 
-pub one-group : (n : ℕ) → n < 128 → in_groups n ≡ n ∷ []
-unfolding in_groups inGroupsBy
-one-group zero h = refl
-one-group (suc n) h = rw (lt-ltb (suc n) 128 h)
+pub one_group : (n : ℕ) → n < 128 → in_groups n ≡ n ∷ []
+unfolding in_groups in_groups_by
+one_group zero h = refl
+one_group (suc n) h = rw (lt-ltb (suc n) 128 h)
 
-pub more-groups : (n : ℕ) → 128 ≤ n → in_groups n ≡ (n % 128 + 128) ∷ in_groups (n / 128)
-unfolding in_groups inGroupsBy
-more-groups zero h = absurd (omega arith)
-more-groups (suc n) h =
+pub more_groups : (n : ℕ) → 128 ≤ n → in_groups n ≡ (n % 128 + 128) ∷ in_groups (n / 128)
+unfolding in_groups in_groups_by
+more_groups zero h = absurd (omega arith)
+more_groups (suc n) h =
     rw (le-ltb (suc n) 128 h) (ap (λ (l : List ℕ). (suc n % 128 + 128) ∷ l) (enough n (suc n / 128) (suc n / 128) (omega arith) (le_refl (suc n / 128))))
 
 -- ---- how many groups: is the number below 128
-some-group : (n : ℕ) → 0 < length (in_groups n)
-some-group n = go (ltb n 128) (ltb-true n 128) (ltb-false n 128)
+some_group : (n : ℕ) → 0 < length (in_groups n)
+some_group n = go (ltb n 128) (ltb-true n 128) (ltb-false n 128)
   where
     go : (t : Bool) → (t ≡ true → n < 128) → (t ≡ false → 128 ≤ n) → 0 < length (in_groups n)
-    go true f g = rw (one-group n (f refl)) (omega arith)
-    go false f g = rw (more-groups n (g refl)) (omega arith)
+    go true f g = rw (one_group n (f refl)) (omega arith)
+    go false f g = rw (more_groups n (g refl)) (omega arith)
 
-pub fewest-groups : FewestGroups
-fewest-groups zero n = go (ltb n 128) (ltb-true n 128) (ltb-false n 128)
+pub fewest_groups : FewestGroups
+fewest_groups zero n = go (ltb n 128) (ltb-true n 128) (ltb-false n 128)
   where
     go : (t : Bool) → (t ≡ true → n < 128) → (t ≡ false → 128 ≤ n) → (length (in_groups n) ≤ 1) ↔ (n < 128 ^ 1)
-    go true f g = (λ h. f refl, λ h. rw (one-group n (f refl)) (le_refl 1))
-    go false f g = (λ h. absurd (omega (arith, rw (more-groups n (g refl)) at h, some-group (n / 128))), λ h. absurd (omega (arith, g refl)))
-fewest-groups (suc k) n = go (ltb n 128) (ltb-true n 128) (ltb-false n 128) (fewest-groups k (n / 128))
+    go true f g = (λ h. f refl, λ h. rw (one_group n (f refl)) (le_refl 1))
+    go false f g = (λ h. absurd (omega (arith, rw (more_groups n (g refl)) at h, some_group (n / 128))), λ h. absurd (omega (arith, g refl)))
+fewest_groups (suc k) n = go (ltb n 128) (ltb-true n 128) (ltb-false n 128) (fewest_groups k (n / 128))
   where
     go : (t : Bool) → (t ≡ true → n < 128) → (t ≡ false → 128 ≤ n) → (length (in_groups (n / 128)) ≤ suc k) ↔ (n / 128 < 128 ^ suc k)
         → (length (in_groups n) ≤ suc (suc k)) ↔ (n < 128 ^ suc (suc k))
     go true f g r = (
       λ h. omega (arith, f refl, pow-suc 128 (suc k), pow-suc 128 k, one-le-pow k 128 (omega arith)),
-      λ h. rw (one-group n (f refl)) (omega arith),
+      λ h. rw (one_group n (f refl)) (omega arith),
     )
     go false f g r = (
-      λ h. omega (arith, pow-suc 128 (suc k), r.0 (omega (arith, rw (more-groups n (g refl)) at h))),
-      λ h. rw (more-groups n (g refl)) (omega (arith, r.1 (omega (arith, pow-suc 128 (suc k))))),
+      λ h. omega (arith, pow-suc 128 (suc k), r.0 (omega (arith, rw (more_groups n (g refl)) at h))),
+      λ h. rw (more_groups n (g refl)) (omega (arith, r.1 (omega (arith, pow-suc 128 (suc k))))),
     )
 
 -- ---- what is written is read: the groups of a number, of which so many may come; after others it is not zero
 module _ (n : ℕ) (later : Bool) (r : List ℕ) where
-  not-zero : (b : Bool) → (b ≡ true → 0 < n) → (b && eqb n 0) ≡ false
-  not-zero false f = refl
-  not-zero true f = ne_eqb n 0 (λ e. omega (arith, f refl))
+  not_zero : (b : Bool) → (b ≡ true → 0 < n) → (b && eqb n 0) ≡ false
+  not_zero false f = refl
+  not_zero true f = ne_eqb n 0 (λ e. omega (arith, f refl))
 
-  last-read : (k : ℕ) → n < 128 → (later ≡ true → 0 < n) → groups (suc k) later (in_groups n ++ r) ≡ taken n r
+  last_read : (k : ℕ) → n < 128 → (later ≡ true → 0 < n) → groups (suc k) later (in_groups n ++ r) ≡ taken n r
   unfolding groups group
-  last-read k h z = rw (one-group n h, lt-ltb n 128 h, not-zero later z)
+  last_read k h z = rw (one_group n h, lt-ltb n 128 h, not_zero later z)
 
-  more-read : (k : ℕ) → 128 ≤ n → groups k true (in_groups (n / 128) ++ r) ≡ taken (n / 128) r → groups (suc k) later (in_groups n ++ r) ≡ taken n r
+  more_read : (k : ℕ) → 128 ≤ n → groups k true (in_groups (n / 128) ++ r) ≡ taken (n / 128) r → groups (suc k) later (in_groups n ++ r) ≡ taken n r
   unfolding groups group ◌then◌
-  more-read k h e = rw (more-groups n h, le-ltb (n % 128 + 128) 128 (omega arith), e) (ap (λ (m : ℕ). taken m r) (omega arith))
+  more_read k h e = rw (more_groups n h, le-ltb (n % 128 + 128) 128 (omega arith), e) (ap (λ (m : ℕ). taken m r) (omega arith))
 
-pub groups-read : (k n : ℕ) (later : Bool) (r : List ℕ) → n < 128 ^ suc k → (later ≡ true → 0 < n) → groups (suc k) later (in_groups n ++ r) ≡ taken n r
-groups-read zero n later r h z = last-read n later r zero h z
-groups-read (suc k) n later r h z = go (ltb n 128) (ltb-true n 128) (ltb-false n 128) (groups-read k (n / 128) true r (omega (arith, pow-suc 128 (suc k))))
+pub groups_read : (k n : ℕ) (later : Bool) (r : List ℕ) → n < 128 ^ suc k → (later ≡ true → 0 < n) → groups (suc k) later (in_groups n ++ r) ≡ taken n r
+groups_read zero n later r h z = last_read n later r zero h z
+groups_read (suc k) n later r h z = go (ltb n 128) (ltb-true n 128) (ltb-false n 128) (groups_read k (n / 128) true r (omega (arith, pow-suc 128 (suc k))))
   where
     go : (t : Bool) → (t ≡ true → n < 128) → (t ≡ false → 128 ≤ n) → ((true ≡ true → 0 < n / 128) → groups (suc k) true (in_groups (n / 128) ++ r) ≡ taken (n / 128) r)
         → groups (suc (suc k)) later (in_groups n ++ r) ≡ taken n r
-    go true f g s = last-read n later r (suc k) (f refl) z
-    go false f g s = more-read n later r (suc k) (g refl) (s (λ e. omega (arith, g refl)))
+    go true f g s = last_read n later r (suc k) (f refl) z
+    go false f g s = more_read n later r (suc k) (g refl) (s (λ e. omega (arith, g refl)))
 
 -- ---- what is read was written so
-bytes-tail : (b : ℕ) (l : List ℕ) → Bytes (b ∷ l) → Bytes l
-bytes-tail b l h i = h (suc i)
+bytes_tail : (b : ℕ) (l : List ℕ) → Bytes (b ∷ l) → Bytes l
+bytes_tail b l h i = h (suc i)
 
-pub groups-written : (k : ℕ) (later : Bool) (l : List ℕ) (n : ℕ) (r : List ℕ) → Bytes l → groups k later l ≡ taken n r → (l ≡ in_groups n ++ r) × (later ≡ true → 0 < n)
+pub groups_written : (k : ℕ) (later : Bool) (l : List ℕ) (n : ℕ) (r : List ℕ) → Bytes l → groups k later l ≡ taken n r → (l ≡ in_groups n ++ r) × (later ≡ true → 0 < n)
 unfolding groups group
-groups-written zero later l n r h e = let z : ◌≡◌ {A = ℕ} 0 1 = cc in absurd (omega arith)
-groups-written (suc k) later [] n r h e = let z : ◌≡◌ {A = ℕ} 0 1 = cc in absurd (omega arith)
-groups-written (suc k) later (b ∷ l) n r h e = go (ltb b 128) (ltb-true b 128) (ltb-false b 128) (later && eqb b 0) refl (groups-written k true l) e
+groups_written zero later l n r h e = let z : ◌≡◌ {A = ℕ} 0 1 = cc in absurd (omega arith)
+groups_written (suc k) later [] n r h e = let z : ◌≡◌ {A = ℕ} 0 1 = cc in absurd (omega arith)
+groups_written (suc k) later (b ∷ l) n r h e = go (ltb b 128) (ltb-true b 128) (ltb-false b 128) (later && eqb b 0) refl (groups_written k true l) e
   where
     alone : (later : Bool) → (later && eqb b 0) ≡ false → later ≡ true → 0 < b
     alone false e d = let z : ◌≡◌ {A = ℕ} 0 1 = cc in absurd (omega arith)
@@ -109,7 +109,7 @@ groups-written (suc k) later (b ∷ l) n r h e = go (ltb b 128) (ltb-true b 128)
     more m g p =
         let q : (b % 128 + 128 * m) / 128 ≡ m = omega arith in
         let x : (b % 128 + 128 * m) % 128 + 128 ≡ b = omega (arith, h 0) in
-        sym (more-groups (b % 128 + 128 * m) (omega arith) ∙ rw (q, x))
+        sym (more_groups (b % 128 + 128 * m) (omega arith) ∙ rw (q, x))
 
     go : (t : Bool) → (t ≡ true → b < 128) → (t ≡ false → 128 ≤ b) → (z : Bool) → (later && eqb b 0) ≡ z
         → ((m : ℕ) (q : List ℕ) → Bytes l → groups k true l ≡ taken m q → (l ≡ in_groups m ++ q) × (true ≡ true → 0 < m))
@@ -118,13 +118,13 @@ groups-written (suc k) later (b ∷ l) n r h e = go (ltb b 128) (ltb-true b 128)
     go true f g false i s d =
         let x : b ≡ n = cc in
         let y : l ≡ r = cc in
-        rw (← x, ← y, one-group b (f refl)) (refl, alone later i)
+        rw (← x, ← y, one_group b (f refl)) (refl, alone later i)
     go false f g z i s d =
         let x = after (groups k true l) (λ m q. taken (b % 128 + 128 * m) q) n r d in
         let m = x.0 in
         let y : b % 128 + 128 * m ≡ n = cc in
         let w : x.1 ≡ r = cc in
-        let p = s m x.1 (bytes-tail b l h) x.2 in (
+        let p = s m x.1 (bytes_tail b l h) x.2 in (
           ap (λ (v : List ℕ). b ∷ v) (p.0 ∙ ap (λ (v : List ℕ). in_groups m ++ v) w) ∙ ap (λ (v : List ℕ). v ++ r) (more m (g refl) (p.1 refl) ∙ ap in_groups y),
           λ e. omega (arith, p.1 refl),
         )
@@ -135,27 +135,27 @@ pub record Grouping (n : ℕ) (l out : List ℕ) (at rest : ℕ) : Type 0 where
   pub wrote : Wrote l so_far out at
   pub whole : so_far ++ in_groups rest ≡ in_groups n
 
-pub grouping-none : (n : ℕ) (l : List ℕ) → Grouping n l l 0 n
-grouping-none n l = record { so_far = []; wrote = wrote_none l; whole = refl }
+pub grouping_none : (n : ℕ) (l : List ℕ) → Grouping n l l 0 n
+grouping_none n l = record { so_far = []; wrote = wrote_none l; whole = refl }
 
 module _ (n : ℕ) (l out : List ℕ) (at rest : ℕ) (fits : length (in_groups n) ≤ length l) (g : Grouping n l out at rest) where
   lengths : at + length (in_groups rest) ≡ length (in_groups n)
-  lengths = ap (λ (m : ℕ). m + length (in_groups rest)) g.wrote.up-to ∙ sym (length-append g.so_far (in_groups rest)) ∙ ap length g.whole
+  lengths = ap (λ (m : ℕ). m + length (in_groups rest)) g.wrote.up_to_lem ∙ sym (length-append g.so_far (in_groups rest)) ∙ ap length g.whole
 
-  pub grouping-room : (at < length l) × (length out ≡ length l)
-  grouping-room =
-      let h : at < length l = omega (arith, lengths, some-group rest) in
-      (h, wrote-length l g.so_far out at g.wrote (omega arith))
+  pub grouping_room : (at < length l) × (length out ≡ length l)
+  grouping_room =
+      let h : at < length l = omega (arith, lengths, some_group rest) in
+      (h, wrote_length l g.so_far out at g.wrote (omega arith))
 
-  pub grouping-more : 128 ≤ rest → Grouping n l (set out at (rest % 128 + 128)) (at + 1) (rest / 128)
-  grouping-more h =
+  pub grouping_more : 128 ≤ rest → Grouping n l (set out at (rest % 128 + 128)) (at + 1) (rest / 128)
+  grouping_more h =
       record {
         so_far = g.so_far ++ ((rest % 128 + 128) ∷ []);
-        wrote = wrote-byte l g.so_far out at (rest % 128 + 128) g.wrote grouping-room.0;
-        whole = append_snoc g.so_far (rest % 128 + 128) (in_groups (rest / 128)) ∙ ap (λ (m : List ℕ). g.so_far ++ m) (sym (more-groups rest h)) ∙ g.whole;
+        wrote = wrote_byte l g.so_far out at (rest % 128 + 128) g.wrote grouping_room.0;
+        whole = append_snoc g.so_far (rest % 128 + 128) (in_groups (rest / 128)) ∙ ap (λ (m : List ℕ). g.so_far ++ m) (sym (more_groups rest h)) ∙ g.whole;
       }
 
-  pub grouping-last : rest < 128 → (set out at rest ≡ over (in_groups n) l) × (at + 1 ≡ length (in_groups n))
-  grouping-last h =
-      wrote_as l (g.so_far ++ (rest ∷ [])) (in_groups n) (set out at rest) (at + 1) (wrote-byte l g.so_far out at rest g.wrote grouping-room.0)
-      (ap (λ (m : List ℕ). g.so_far ++ m) (sym (one-group rest h)) ∙ g.whole)
+  pub grouping_last : rest < 128 → (set out at rest ≡ over (in_groups n) l) × (at + 1 ≡ length (in_groups n))
+  grouping_last h =
+      wrote_as l (g.so_far ++ (rest ∷ [])) (in_groups n) (set out at rest) (at + 1) (wrote_byte l g.so_far out at rest g.wrote grouping_room.0)
+      (ap (λ (m : List ℕ). g.so_far ++ m) (sym (one_group rest h)) ∙ g.whole)

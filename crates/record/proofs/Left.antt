@@ -7,7 +7,7 @@ use mathlib.Core.List.{List, [], ◌∷◌, ◌++◌, append_assoc}
 use lib.ListN.{length, drop, length-append, length-drop}
 use lib.Seq.{drop_at, drop-drop}
 use lib.Dec.{ltb, eqb}
-use Rattle.record.specs.Record.{Read, taken, refused, ◌then◌, group, groups, mostGroups, number, numbers, fields}
+use Rattle.record.specs.Record.{Read, taken, refused, ◌then◌, group, groups, most_groups, number, numbers, fields}
 
 -- r is what is left of l, of which m bytes at least were taken
 pub record Left (m : ℕ) (l r : List ℕ) : Type 0 where
@@ -27,11 +27,11 @@ first b l r e = record { before = b ∷ []; whole = ap (λ (m : List ℕ). b ∷
 further : (b : ℕ) (l r : List ℕ) → Left 1 l r → Left 1 (b ∷ l) r
 further b l r p = record { before = b ∷ p.before; whole = ap (λ (m : List ℕ). b ∷ m) p.whole; some = omega arith }
 
-groups-left : (k : ℕ) (later : Bool) (l : List ℕ) (n : ℕ) (r : List ℕ) → groups k later l ≡ taken n r → Left 1 l r
+groups_left : (k : ℕ) (later : Bool) (l : List ℕ) (n : ℕ) (r : List ℕ) → groups k later l ≡ taken n r → Left 1 l r
 unfolding groups group
-groups-left zero later l n r e = let z : ◌≡◌ {A = ℕ} 0 1 = cc in absurd (omega arith)
-groups-left (suc k) later [] n r e = let z : ◌≡◌ {A = ℕ} 0 1 = cc in absurd (omega arith)
-groups-left (suc k) later (b ∷ l) n r e = go (ltb b 128) (later && eqb b 0) (groups-left k true l) e
+groups_left zero later l n r e = let z : ◌≡◌ {A = ℕ} 0 1 = cc in absurd (omega arith)
+groups_left (suc k) later [] n r e = let z : ◌≡◌ {A = ℕ} 0 1 = cc in absurd (omega arith)
+groups_left (suc k) later (b ∷ l) n r e = go (ltb b 128) (later && eqb b 0) (groups_left k true l) e
   where
     go : (t z : Bool) → ((m : ℕ) (q : List ℕ) → groups k true l ≡ taken m q → Left 1 l q) → group t z b l (groups k true l then λ m q. taken (b % 128 + 128 * m) q) ≡ taken n r → Left 1 (b ∷ l) r
     go true true f d = let z : ◌≡◌ {A = ℕ} 0 1 = cc in absurd (omega arith)
@@ -41,15 +41,15 @@ groups-left (suc k) later (b ∷ l) n r e = go (ltb b 128) (later && eqb b 0) (g
         let y : x.1 ≡ r = cc in
         further b l r (f x.0 r (x.2 ∙ ap (taken x.0) y))
 
-numbers-left : (n : ℕ) (l v r : List ℕ) → numbers n l ≡ taken v r → Left n l r
+numbers_left_lem : (n : ℕ) (l v r : List ℕ) → numbers n l ≡ taken v r → Left n l r
 unfolding numbers number
-numbers-left zero l v r e = record { before = []; whole = cc; some = omega arith }
-numbers-left (suc n) l v r e =
+numbers_left_lem zero l v r e = record { before = []; whole = cc; some = omega arith }
+numbers_left_lem (suc n) l v r e =
     let x = after (numbers n l) _ v r e in
     let y = after (number x.1) _ v r x.3 in
     let z : y.1 ≡ r = cc in
-    let p = numbers-left n l x.0 x.1 x.2 in
-    let q = groups-left mostGroups false x.1 y.0 y.1 y.2 in
+    let p = numbers_left_lem n l x.0 x.1 x.2 in
+    let q = groups_left most_groups false x.1 y.0 y.1 y.2 in
     record {
       before = p.before ++ q.before;
       whole = p.whole ∙ ap (λ (m : List ℕ). p.before ++ m) (q.whole ∙ ap (λ (m : List ℕ). q.before ++ m) z) ∙ sym (append_assoc p.before q.before r);
@@ -58,16 +58,16 @@ numbers-left (suc n) l v r e =
 
 -- ---- a record at a place of a sheet: the place after it
 module _ (s : List ℕ) (at : ℕ) (v r : List ℕ) (e : numbers fields (drop at s) ≡ taken v r) where
-  lengths : length s - at ≡ length (numbers-left fields (drop at s) v r e).before + length r
+  lengths : length s - at ≡ length (numbers_left_lem fields (drop at s) v r e).before + length r
   lengths =
-      let p = numbers-left fields (drop at s) v r e in
+      let p = numbers_left_lem fields (drop at s) v r e in
       sym (length-drop at s) ∙ ap length p.whole ∙ length-append p.before r
 
-  pub next-moves : (at < length s - length r) × (length s - length r ≤ length s)
-  next-moves = (omega (arith, lengths, (numbers-left fields (drop at s) v r e).some), omega arith)
+  pub next_moves : (at < length s - length r) × (length s - length r ≤ length s)
+  next_moves = (omega (arith, lengths, (numbers_left_lem fields (drop at s) v r e).some), omega arith)
 
-  pub next-left : drop (length s - length r) s ≡ r
-  next-left =
-      let p = numbers-left fields (drop at s) v r e in
+  pub next_left : drop (length s - length r) s ≡ r
+  next_left =
+      let p = numbers_left_lem fields (drop at s) v r e in
       let k : length s - length r ≡ at + length p.before = omega (arith, lengths, p.some) in
       rw k (sym (drop-drop (length p.before) at s) ∙ ap (drop (length p.before)) p.whole ∙ drop_at p.before r (length p.before) refl)

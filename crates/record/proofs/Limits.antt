@@ -11,53 +11,53 @@ use lib.Signed.{le_z, non_neg}
 use lib.Dec.{T, leb, eqb, leb→le}
 use mir.Syntax.{w64}
 use mir.Val.{Fits, to_z, of_z}
-use Rattle.amounts.specs.Amounts.{amountLimit, timeLimit, amountOk, timeOk}
-use Rattle.model.specs.Configuration.{configLimits}
-use Rattle.model.specs.Model.{modelLimits}
+use Rattle.amounts.specs.Amounts.{amount_limit, time_limit, amount_ok, time_ok}
+use Rattle.model.specs.Configuration.{config_limits}
+use Rattle.model.specs.Model.{model_limits}
 use Rattle.amounts.proofs.Limits.{kept}
-use Rattle.record.specs.Record.{holdingBy, holding, recordOf, configOf, mostBound, recordOk}
+use Rattle.record.specs.Record.{holding_by, holding, record_of, config_of, most_bound, record_ok}
 
 -- ---- an amount within the limit, as the machine holds it
-pub same_bits : (z : ℤ) → nat_abs z ≤ amountLimit → to_z w64 (of_z w64 z) ≡ z
+pub same_bits : (z : ℤ) → nat_abs z ≤ amount_limit → to_z w64 (of_z w64 z) ≡ z
 same_bits (pos n) h = kept (pos n) (omega arith)
 same_bits (negsuc n) h = kept (negsuc n) (omega arith)
 
 -- one that is not below zero can be cast
-pub casts : (z : ℤ) → T (le_z (pos 0) z) → nat_abs z ≤ amountLimit → T (non_neg (to_z w64 (of_z w64 z))) × Fits w64 (nat_abs (to_z w64 (of_z w64 z)))
+pub casts : (z : ℤ) → T (le_z (pos 0) z) → nat_abs z ≤ amount_limit → T (non_neg (to_z w64 (of_z w64 z))) × Fits w64 (nat_abs (to_z w64 (of_z w64 z)))
 casts (pos n) p h = rw (same_bits (pos n) h) (tt, omega arith)
 casts (negsuc n) p h = absurd p
 
 -- ---- stored numbers
 -- two bounds that hold together
-same-bound : (a b x y : ℕ) → (a ≤ b → x ≤ y) → (b < a → y < x) → leb a b ≡ leb x y
-same-bound a b x y f g = go (leb a b) refl
+same_bound : (a b x y : ℕ) → (a ≤ b → x ≤ y) → (b < a → y < x) → leb a b ≡ leb x y
+same_bound a b x y f g = go (leb a b) refl
   where
     go : (t : Bool) → leb a b ≡ t → leb a b ≡ leb x y
     go true e = e ∙ sym (le-leb x y (f (leb-true a b e)))
     go false e = e ∙ sym (lt-leb x y (g (leb-false a b e)))
 
 -- a stored holding is at most twice the limit
-pub holding-limit : (n m : ℕ) → leb (nat_abs (holding n)) m ≡ leb n (2 * m)
-unfolding holding holdingBy
-holding-limit n m = go (eqb (n % 2) 0) refl
+pub holding_limit : (n m : ℕ) → leb (nat_abs (holding n)) m ≡ leb n (2 * m)
+unfolding holding holding_by
+holding_limit n m = go (eqb (n % 2) 0) refl
   where
-    go : (t : Bool) → eqb (n % 2) 0 ≡ t → leb (nat_abs (holdingBy t (n / 2))) m ≡ leb n (2 * m)
-    go true e = let h = eqb-true (n % 2) 0 e in same-bound (n / 2) m n (2 * m) (λ k. omega arith) (λ k. omega arith)
-    go false e = let h = eqb-false (n % 2) 0 e in same-bound (suc (n / 2)) m n (2 * m) (λ k. omega arith) (λ k. omega arith)
+    go : (t : Bool) → eqb (n % 2) 0 ≡ t → leb (nat_abs (holding_by t (n / 2))) m ≡ leb n (2 * m)
+    go true e = let h = eqb-true (n % 2) 0 e in same_bound (n / 2) m n (2 * m) (λ k. omega arith) (λ k. omega arith)
+    go false e = let h = eqb-false (n % 2) 0 e in same_bound (suc (n / 2)) m n (2 * m) (λ k. omega arith) (λ k. omega arith)
 
 -- what a record that passes has stored
 pub record Bounds (v : List ℕ) : Type 0 where
-  pub mid : get_or v 0 0 ≤ amountLimit
-  pub holds : get_or v 1 0 ≤ 2 * amountLimit
-  pub volatility : get_or v 2 0 ≤ amountLimit
-  pub risk : get_or v 3 0 ≤ amountLimit
-  pub k : get_or v 4 0 ≤ amountLimit
-  pub scale : get_or v 5 0 ≤ amountLimit
-  pub bound : get_or v 6 0 ≤ mostBound
-  pub lot : get_or v 7 0 ≤ amountLimit
-  pub terminal : get_or v 8 0 ≤ timeLimit
-  pub current : get_or v 9 0 ≤ timeLimit
-  pub spread : get_or v 10 0 ≤ amountLimit
+  pub mid : get_or v 0 0 ≤ amount_limit
+  pub holds : get_or v 1 0 ≤ 2 * amount_limit
+  pub volatility : get_or v 2 0 ≤ amount_limit
+  pub risk : get_or v 3 0 ≤ amount_limit
+  pub k : get_or v 4 0 ≤ amount_limit
+  pub scale : get_or v 5 0 ≤ amount_limit
+  pub bound : get_or v 6 0 ≤ most_bound
+  pub lot : get_or v 7 0 ≤ amount_limit
+  pub terminal : get_or v 8 0 ≤ time_limit
+  pub current : get_or v 9 0 ≤ time_limit
+  pub spread : get_or v 10 0 ≤ amount_limit
 
 -- the drift of a stored record passes by itself
 all_pass : (m h v r k a l s t c b : Bool) → T (m && h && v && (r && k && a && l && s && true && t) && c && b)
@@ -75,14 +75,14 @@ all_pass true true true true true true true true true false b x = absurd x
 all_pass true true true true true true true true true true false x = absurd x
 all_pass true true true true true true true true true true true x = (tt, tt, tt, tt, tt, tt, tt, tt, tt, tt, tt)
 
-pub bounds : (v : List ℕ) → T (recordOk (recordOf v)) → Bounds v
-unfolding recordOk recordOf configOf modelLimits amountOk timeOk configLimits
+pub bounds : (v : List ℕ) → T (record_ok (record_of v)) → Bounds v
+unfolding record_ok record_of config_of model_limits amount_ok time_ok config_limits
 bounds v h =
-    let small : ℕ → Bool = λ i. leb (get_or v i 0) amountLimit in
-    let p = all_pass (small 0) (leb (nat_abs (holding (get_or v 1 0))) amountLimit) (small 2) (small 3) (small 4) (small 5) (small 7) (small 10) (small 8) (small 9) (leb (get_or v 6 0) mostBound) h in
+    let small : ℕ → Bool = λ i. leb (get_or v i 0) amount_limit in
+    let p = all_pass (small 0) (leb (nat_abs (holding (get_or v 1 0))) amount_limit) (small 2) (small 3) (small 4) (small 5) (small 7) (small 10) (small 8) (small 9) (leb (get_or v 6 0) most_bound) h in
     record {
       mid = leb→le _ _ p.0;
-      holds = leb→le (get_or v 1 0) (2 * amountLimit) (subst T (holding-limit (get_or v 1 0) amountLimit) p.1);
+      holds = leb→le (get_or v 1 0) (2 * amount_limit) (subst T (holding_limit (get_or v 1 0) amount_limit) p.1);
       volatility = leb→le _ _ p.2;
       risk = leb→le _ _ p.3;
       k = leb→le _ _ p.4;

@@ -1,9 +1,9 @@
 -- What holds of every record, as named statements. Each is proved once, in proofs/. Definitions only.
 use Rattle.std.specs.Prelude.{◌≡◌, ◌↔◌, true, ℕ, suc, ◌+◌, ◌-◌, ◌^◌, ◌<◌, ◌≤◌, List, [], ◌∷◌, ◌++◌, ℤ, pos, length, get_or, take, drop}
 use Rattle.amounts.specs.Amounts.{billion}
-use Rattle.record.specs.Record.{taken, number, stored, holding, readRecord, configOf}
+use Rattle.record.specs.Record.{taken, number, stored, holding, read_record, config_of}
 use Rattle.buffers.specs.Over.{over}
-use Rattle.record.specs.Save.{in_groups, saveOk, recordRoom, saved, savedIn}
+use Rattle.record.specs.Save.{in_groups, save_ok, record_room, saved, saved_in}
 use Rattle.record.specs.declared.record.Record.{Record}
 use Rattle.record.specs.declared.record.RecordAnswer.TheVariants as RecordAnswer
 use Rattle.record.specs.declared.save.SaveAnswer.TheVariants as SaveAnswer
@@ -18,13 +18,13 @@ HoldingsStored = ((h : ℤ) → holding (stored h) ≡ h) × ((n : ℕ) → stor
 
 -- ---- change request 7: stored records mean drift 0
 abbrev pub RecordsDriftless : Type 0
-RecordsDriftless = (r : Record) → (configOf r).drift ≡ pos 0
+RecordsDriftless = (r : Record) → (config_of r).drift ≡ pos 0
 
 -- ---- reading goes on, and stays within the sheet: after a record, and after one that 2 refuses
 abbrev pub RecordsMove : Type 0
 RecordsMove = (s : List ℕ) (at next : ℕ)
-    → ((r : Record) → readRecord s at ≡ RecordAnswer.Record r next → (at < next) × (next ≤ length s))
-    × ((k : ℕ) → readRecord s at ≡ RecordAnswer.Skipped k next → (at < next) × (next ≤ length s))
+    → ((r : Record) → read_record s at ≡ RecordAnswer.Record r next → (at < next) × (next ≤ length s))
+    × ((k : ℕ) → read_record s at ≡ RecordAnswer.Skipped k next → (at < next) × (next ≤ length s))
 
 -- ==== change request 1: records saved
 -- a list as a slice of bytes holds it
@@ -41,12 +41,12 @@ SavesFit = (r : Record) (b : List ℕ) (n : ℕ) → saved r b ≡ SaveAnswer.Sa
 
 -- ---- what the reader takes without 6, 7 or 2 comes out as the very bytes that went in
 abbrev pub SavedAsRead : Type 0
-SavedAsRead = (s : List ℕ) (at : ℕ) (r : Record) (next : ℕ) → Bytes s → readRecord s at ≡ RecordAnswer.Record r next
-    → (b : List ℕ) → recordRoom ≤ length b
-    → (saved r b ≡ SaveAnswer.Saved (next - at)) × (savedIn r b ≡ over (take (next - at) (drop at s)) b)
+SavedAsRead = (s : List ℕ) (at : ℕ) (r : Record) (next : ℕ) → Bytes s → read_record s at ≡ RecordAnswer.Record r next
+    → (b : List ℕ) → record_room ≤ length b
+    → (saved r b ≡ SaveAnswer.Saved (next - at)) × (saved_in r b ≡ over (take (next - at) (drop at s)) b)
 
 -- ---- a record within the limits is saved, and reads back to its own numbers, whatever stands before and after it; the next place is where it ended
 abbrev pub ReadAsSaved : Type 0
-ReadAsSaved = (r : Record) (b : List ℕ) → saveOk r ≡ true → recordRoom ≤ length b
+ReadAsSaved = (r : Record) (b : List ℕ) → save_ok r ≡ true → record_room ≤ length b
     → (n : ℕ) × (saved r b ≡ SaveAnswer.Saved n)
-    × ((u t : List ℕ) → readRecord (u ++ take n (savedIn r b) ++ t) (length u) ≡ RecordAnswer.Record r (length u + n))
+    × ((u t : List ℕ) → read_record (u ++ take n (saved_in r b) ++ t) (length u) ≡ RecordAnswer.Record r (length u + n))

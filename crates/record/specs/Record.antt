@@ -1,10 +1,10 @@
 -- Document 01, module 6: a record, eleven numbers in groups of seven bits. Definitions only.
 use Rattle.std.specs.Prelude.{ℕ, zero, suc, ◌+◌, ◌-◌, ◌*◌, ◌/◌, ◌%◌, Bool, true, false, ◌&&◌, List, [], ◌∷◌, ◌++◌, ℤ, pos, negsuc, set, length, get_or, drop, ltb, leb, eqb}
 use Rattle.amounts.specs.Refusals.{limits}
-use Rattle.amounts.specs.Amounts.{timeOk}
-use Rattle.model.specs.Model.{modelLimits}
+use Rattle.amounts.specs.Amounts.{time_ok}
+use Rattle.model.specs.Model.{model_limits}
 use Rattle.model.specs.declared.GLFTConfig.{GLFTConfig}
-use Rattle.record.specs.Refusals.{cutShort, malformed}
+use Rattle.record.specs.Refusals.{cut_short, malformed}
 use Rattle.record.specs.declared.record.NumbersAnswer.{NumbersAnswer}
 use Rattle.record.specs.declared.record.NumbersAnswer.TheVariants as NumbersAnswer
 use Rattle.record.specs.declared.record.Record.{Record}
@@ -32,15 +32,15 @@ group false z b l r = r
 -- the groups from here on, of which so many may come; have there been others before. Where none may come, the last byte's top bit asked for one too many.
 unfoldable pub groups : ℕ → Bool → List ℕ → Read ℕ
 groups zero later l = refused malformed
-groups (suc k) later [] = refused cutShort
+groups (suc k) later [] = refused cut_short
 groups (suc k) later (b ∷ l) = group (ltb b 128) (later && eqb b 0) b l (groups k true l then λ n r. taken (b % 128 + 128 * n) r)
 
 -- the most groups of a number
-abbrev pub mostGroups : ℕ
-mostGroups = 8
+abbrev pub most_groups : ℕ
+most_groups = 8
 
 unfoldable pub number : List ℕ → Read ℕ
-number l = groups mostGroups false l
+number l = groups most_groups false l
 
 -- n numbers in order
 unfoldable pub numbers : ℕ → List ℕ → Read (List ℕ)
@@ -48,13 +48,13 @@ numbers zero l = taken [] l
 numbers (suc n) l = numbers n l then λ v r. number r then λ x q. taken (v ++ (x ∷ [])) q
 
 -- what `read_numbers` answers of some bytes, n of them: the place after the numbers; and what it leaves where they go
-unfoldable pub numbersAnswer : ℕ → Read (List ℕ) → NumbersAnswer
-numbersAnswer n (taken v rest) = NumbersAnswer.Taken (n - length rest)
-numbersAnswer n (refused k) = NumbersAnswer.Refused k
+unfoldable pub numbers_answer : ℕ → Read (List ℕ) → NumbersAnswer
+numbers_answer n (taken v rest) = NumbersAnswer.Taken (n - length rest)
+numbers_answer n (refused k) = NumbersAnswer.Refused k
 
-unfoldable pub numbersLeft : Read (List ℕ) → List ℕ → List ℕ
-numbersLeft (taken v rest) out = v
-numbersLeft (refused k) out = out
+unfoldable pub numbers_left : Read (List ℕ) → List ℕ → List ℕ
+numbers_left (taken v rest) out = v
+numbers_left (refused k) out = out
 
 -- ---- the holding h is stored as 2 h, or - 2 h - 1 if negative
 unfoldable pub stored : ℤ → ℕ
@@ -62,19 +62,19 @@ stored (pos n) = 2 * n
 stored (negsuc n) = 2 * suc n - 1
 
 -- what a stored number stands for: is it even, and its half
-unfoldable pub holdingBy : Bool → ℕ → ℤ
-holdingBy true n = pos n
-holdingBy false n = negsuc n
+unfoldable pub holding_by : Bool → ℕ → ℤ
+holding_by true n = pos n
+holding_by false n = negsuc n
 
 unfoldable pub holding : ℕ → ℤ
-holding n = holdingBy (eqb (n % 2) 0) (n / 2)
+holding n = holding_by (eqb (n % 2) 0) (n / 2)
 
 -- ---- the record of eleven numbers: mid, holding, volatility, risk aversion, k, A, bound, lot size, terminal, current, min spread
 abbrev pub fields : ℕ
 fields = 11
 
-unfoldable pub recordOf : List ℕ → Record
-recordOf v =
+unfoldable pub record_of : List ℕ → Record
+record_of v =
     record {
       mid_price = pos (get_or v 0 0);
       inventory = holding (get_or v 1 0);
@@ -90,8 +90,8 @@ recordOf v =
     }
 
 -- the configuration in a record; change request 7: stored records mean drift 0
-unfoldable pub configOf : Record → GLFTConfig
-configOf r =
+unfoldable pub config_of : Record → GLFTConfig
+config_of r =
     record {
       risk_aversion = r.risk_aversion;
       order_intensity_k = r.order_intensity_k;
@@ -104,39 +104,39 @@ configOf r =
     }
 
 -- the largest bound that is read, 2 ^ 32 - 1
-abbrev pub mostBound : ℕ
-mostBound = 4_294_967_295
+abbrev pub most_bound : ℕ
+most_bound = 4_294_967_295
 
 -- every amount and time within its limit, and the bound too, or 2
-unfoldable pub recordOk : Record → Bool
-recordOk r =
-    modelLimits r.mid_price r.inventory (configOf r) r.volatility && timeOk r.current_time && leb r.max_inventory_lots mostBound
+unfoldable pub record_ok : Record → Bool
+record_ok r =
+    model_limits r.mid_price r.inventory (config_of r) r.volatility && time_ok r.current_time && leb r.max_inventory_lots most_bound
 
 -- ---- the record at a place of a sheet, and the next place; past the end there is no byte
-unfoldable pub recordIf : Bool → Record → ℕ → RecordAnswer
-recordIf true r next = RecordAnswer.Record r next
-recordIf false r next = RecordAnswer.Skipped limits next
+unfoldable pub record_if : Bool → Record → ℕ → RecordAnswer
+record_if true r next = RecordAnswer.Record r next
+record_if false r next = RecordAnswer.Skipped limits next
 
 -- by its eleven numbers
-abbrev pub recordBy : List ℕ → ℕ → RecordAnswer
-recordBy v next = let r = recordOf v in recordIf (recordOk r) r next
+abbrev pub record_by : List ℕ → ℕ → RecordAnswer
+record_by v next = let r = record_of v in record_if (record_ok r) r next
 
 -- of a sheet of n bytes
-unfoldable pub recordFrom : ℕ → Read (List ℕ) → RecordAnswer
-recordFrom n (taken v rest) = recordBy v (n - length rest)
-recordFrom n (refused k) = RecordAnswer.Refused k
+unfoldable pub record_from : ℕ → Read (List ℕ) → RecordAnswer
+record_from n (taken v rest) = record_by v (n - length rest)
+record_from n (refused k) = RecordAnswer.Refused k
 
-unfoldable pub readRecord : List ℕ → ℕ → RecordAnswer
-readRecord s at = recordFrom (length s) (numbers fields (drop at s))
+unfoldable pub read_record : List ℕ → ℕ → RecordAnswer
+read_record s at = record_from (length s) (numbers fields (drop at s))
 
 -- ---- change request 4: the same, with its holding or with one of 0 in its place
-unfoldable pub asHeld : Bool → List ℕ → List ℕ
-asHeld false v = v
-asHeld true v = set v 1 0
+unfoldable pub as_held : Bool → List ℕ → List ℕ
+as_held false v = v
+as_held true v = set v 1 0
 
-unfoldable pub heldAs : Bool → Read (List ℕ) → Read (List ℕ)
-heldAs flat (taken v rest) = taken (asHeld flat v) rest
-heldAs flat (refused k) = refused k
+unfoldable pub held_as : Bool → Read (List ℕ) → Read (List ℕ)
+held_as flat (taken v rest) = taken (as_held flat v) rest
+held_as flat (refused k) = refused k
 
-unfoldable pub readAs : Bool → List ℕ → ℕ → RecordAnswer
-readAs flat s at = recordFrom (length s) (heldAs flat (numbers fields (drop at s)))
+unfoldable pub read_as : Bool → List ℕ → ℕ → RecordAnswer
+read_as flat s at = record_from (length s) (held_as flat (numbers fields (drop at s)))

@@ -2,13 +2,13 @@
 use Rattle.std.specs.Prelude.{ℕ}
 
 -- a record that ends inside itself
-abbrev pub cutShort : ℕ
-cutShort = 6
+abbrev pub cut_short : ℕ
+cut_short = 6
 
 -- a number of more than 8 groups, or of several groups whose last is zero
 abbrev pub malformed : ℕ
 malformed = 7
 
 -- a record's buffer under 88 bytes
-abbrev pub smallRecordBuffer : ℕ
-smallRecordBuffer = 20
+abbrev pub small_record_buffer : ℕ
+small_record_buffer = 20

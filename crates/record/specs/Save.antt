@@ -2,8 +2,8 @@
 use Rattle.std.specs.Prelude.{ℕ, zero, suc, ◌+◌, ◌*◌, ◌/◌, ◌%◌, Bool, true, false, ◌&&◌, List, [], ◌∷◌, ◌++◌, pos, nat_abs, length, ltb, leb}
 use Rattle.std.specs.Int.Signed.{le_z}
 use Rattle.amounts.specs.Refusals.{limits}
-use Rattle.record.specs.Refusals.{smallRecordBuffer}
-use Rattle.record.specs.Record.{mostGroups, fields, stored, recordOk}
+use Rattle.record.specs.Refusals.{small_record_buffer}
+use Rattle.record.specs.Record.{most_groups, fields, stored, record_ok}
 use Rattle.buffers.specs.Over.{over}
 use Rattle.record.specs.declared.record.Record.{Record}
 use Rattle.record.specs.declared.save.SaveAnswer.{SaveAnswer}
@@ -11,22 +11,22 @@ use Rattle.record.specs.declared.save.SaveAnswer.TheVariants as SaveAnswer
 
 -- ---- a number in groups of seven bits, lowest first, the top bit set where another follows
 -- is the number below 128, so that its group is the last; as many turns as the number says are enough
-unfoldable pub inGroupsBy : ℕ → Bool → ℕ → List ℕ
-inGroupsBy zero t n = n ∷ []
-inGroupsBy (suc k) true n = n ∷ []
-inGroupsBy (suc k) false n = (n % 128 + 128) ∷ inGroupsBy k (ltb (n / 128) 128) (n / 128)
+unfoldable pub in_groups_by : ℕ → Bool → ℕ → List ℕ
+in_groups_by zero t n = n ∷ []
+in_groups_by (suc k) true n = n ∷ []
+in_groups_by (suc k) false n = (n % 128 + 128) ∷ in_groups_by k (ltb (n / 128) 128) (n / 128)
 
 unfoldable pub in_groups : ℕ → List ℕ
-in_groups n = inGroupsBy n (ltb n 128) n
+in_groups n = in_groups_by n (ltb n 128) n
 
 -- numbers one after the other
-unfoldable pub allInGroups : List ℕ → List ℕ
-allInGroups [] = []
-allInGroups (n ∷ v) = in_groups n ++ allInGroups v
+unfoldable pub all_in_groups : List ℕ → List ℕ
+all_in_groups [] = []
+all_in_groups (n ∷ v) = in_groups n ++ all_in_groups v
 
 -- ---- a record's eleven numbers in the sheet's order, and its bytes
-unfoldable pub numbersOf : Record → List ℕ
-numbersOf r =
+unfoldable pub numbers_of : Record → List ℕ
+numbers_of r =
     nat_abs r.mid_price
     ∷ stored r.inventory
     ∷ nat_abs r.volatility
@@ -40,35 +40,35 @@ numbersOf r =
     ∷ nat_abs r.min_spread
     ∷ []
 
-unfoldable pub recordBytes : Record → List ℕ
-recordBytes r = allInGroups (numbersOf r)
+unfoldable pub record_bytes : Record → List ℕ
+record_bytes r = all_in_groups (numbers_of r)
 
 -- ---- what can be saved: every number within its limit, and none below zero but the holding, or 2
-unfoldable pub noneBelow : Record → Bool
-noneBelow r =
+unfoldable pub none_below : Record → Bool
+none_below r =
     le_z (pos 0) r.mid_price && le_z (pos 0) r.volatility && le_z (pos 0) r.risk_aversion && le_z (pos 0) r.order_intensity_k
     && le_z (pos 0) r.intensity_scale_a && le_z (pos 0) r.lot_size && le_z (pos 0) r.min_spread
 
-unfoldable pub saveOk : Record → Bool
-saveOk r = recordOk r && noneBelow r
+unfoldable pub save_ok : Record → Bool
+save_ok r = record_ok r && none_below r
 
 -- ---- the least buffer for a record: the most groups for each of its numbers, 88 bytes
-abbrev pub recordRoom : ℕ
-recordRoom = fields * mostGroups
+abbrev pub record_room : ℕ
+record_room = fields * most_groups
 
 -- ---- what `save_record` answers, and what it leaves in the buffer: has that the room, can the record be saved
-unfoldable pub savedIf : Bool → Bool → List ℕ → SaveAnswer
-savedIf false k t = SaveAnswer.Refused smallRecordBuffer
-savedIf true false t = SaveAnswer.Refused limits
-savedIf true true t = SaveAnswer.Saved (length t)
+unfoldable pub saved_if : Bool → Bool → List ℕ → SaveAnswer
+saved_if false k t = SaveAnswer.Refused small_record_buffer
+saved_if true false t = SaveAnswer.Refused limits
+saved_if true true t = SaveAnswer.Saved (length t)
 
-unfoldable pub savedInIf : Bool → Bool → List ℕ → List ℕ → List ℕ
-savedInIf false k t b = b
-savedInIf true false t b = b
-savedInIf true true t b = over t b
+unfoldable pub saved_in_if : Bool → Bool → List ℕ → List ℕ → List ℕ
+saved_in_if false k t b = b
+saved_in_if true false t b = b
+saved_in_if true true t b = over t b
 
 abbrev pub saved : Record → List ℕ → SaveAnswer
-saved r b = savedIf (leb recordRoom (length b)) (saveOk r) (recordBytes r)
+saved r b = saved_if (leb record_room (length b)) (save_ok r) (record_bytes r)
 
-abbrev pub savedIn : Record → List ℕ → List ℕ
-savedIn r b = savedInIf (leb recordRoom (length b)) (saveOk r) (recordBytes r) b
+abbrev pub saved_in : Record → List ℕ → List ℕ
+saved_in r b = saved_in_if (leb record_room (length b)) (save_ok r) (record_bytes r) b

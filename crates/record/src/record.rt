@@ -1,6 +1,6 @@
 // Reads a record: eleven numbers in groups of seven bits.
 ghost use Rattle.std.specs.Prelude.{◌≡◌, ◌≤◌, length, drop, T};
-ghost use Rattle.record.specs.Record.{numbers, numbersAnswer, numbersLeft, configOf, holding, asHeld, recordOf, recordOk, recordBy, readAs, readRecord};
+ghost use Rattle.record.specs.Record.{numbers, numbers_answer, numbers_left, config_of, holding, as_held, record_of, record_ok, record_by, read_as, read_record};
 ghost use Rattle.record.specs.Inner.{NumberIs, Stored};
 
 use crate::refusals::{CUT_SHORT, MALFORMED};
@@ -106,7 +106,7 @@ fn place_in(s: &[u8], at: usize) -> usize
 // The place after n numbers.
 fn place_after(s: &[u8], at: usize, n: usize) -> NumbersAnswer
     requires { at ≤ length s.now }
-    ensures { result ≡ numbersAnswer (length s.now) (numbers n (drop at s.now)) }
+    ensures { result ≡ numbers_answer (length s.now) (numbers n (drop at s.now)) }
 {
     let mut next = at;
     let mut i: usize = 0;
@@ -127,7 +127,7 @@ fn place_after(s: &[u8], at: usize, n: usize) -> NumbersAnswer
 // Stores the numbers from a place on as they are read: before a refusal some may be stored.
 fn take_numbers(s: &[u8], at: usize, out: &mut [u64]) -> NumbersAnswer
     requires { at ≤ length s.now }
-    ensures value { result ≡ numbersAnswer (length s.now) (numbers (length out.old) (drop at s.now)) }
+    ensures value { result ≡ numbers_answer (length s.now) (numbers (length out.old) (drop at s.now)) }
     ensures stored { Stored (numbers (length out.old) (drop at s.now)) out.new }
 {
     let mut next = at;
@@ -150,8 +150,8 @@ fn take_numbers(s: &[u8], at: usize, out: &mut [u64]) -> NumbersAnswer
 // Reads as many numbers as a slice has places, from a place of some bytes on: refused by 6 and 7, which
 // leaves the slice as it is.
 pub fn read_numbers(s: &[u8], at: usize, out: &mut [u64]) -> NumbersAnswer
-    ensures value { result ≡ numbersAnswer (length s.now) (numbers (length out.old) (drop at s.now)) }
-    ensures out_after { out.new ≡ numbersLeft (numbers (length out.old) (drop at s.now)) out.old }
+    ensures value { result ≡ numbers_answer (length s.now) (numbers (length out.old) (drop at s.now)) }
+    ensures out_after { out.new ≡ numbers_left (numbers (length out.old) (drop at s.now)) out.old }
 {
     let start = place_in(s, at);
     match place_after(s, start, out.len()) {
@@ -162,7 +162,7 @@ pub fn read_numbers(s: &[u8], at: usize, out: &mut [u64]) -> NumbersAnswer
 
 // Whether every number is within its limit. A stored holding is about twice its size.
 fn within_limits(v: [u64; FIELDS]) -> bool
-    ensures { result ≡ recordOk (recordOf v) }
+    ensures { result ≡ record_ok (record_of v) }
 {
     let config = (v[3] <= MOST)
         & (v[4] <= MOST)
@@ -190,8 +190,8 @@ pub fn holding_of(stored: u64) -> i64
 }
 
 fn record_of(v: [u64; FIELDS]) -> Record
-    requires { T (recordOk (recordOf v)) }
-    ensures { result ≡ recordOf v }
+    requires { T (record_ok (record_of v)) }
+    ensures { result ≡ record_of v }
 {
     Record {
         mid_price: v[0] as i64,
@@ -210,7 +210,7 @@ fn record_of(v: [u64; FIELDS]) -> Record
 
 // The desk that a record means: a stored record has drift 0.
 pub fn config_of(r: Record) -> GLFTConfig
-    ensures { result ≡ configOf r }
+    ensures { result ≡ config_of r }
 {
     GLFTConfig {
         risk_aversion: r.risk_aversion,
@@ -226,7 +226,7 @@ pub fn config_of(r: Record) -> GLFTConfig
 
 // The numbers as they are, or with a holding of 0 in the place of theirs.
 fn numbers_of(v: [u64; FIELDS], flat: bool) -> [u64; FIELDS]
-    ensures { result ≡ asHeld flat v }
+    ensures { result ≡ as_held flat v }
 {
     let mut values = v;
     if flat {
@@ -237,7 +237,7 @@ fn numbers_of(v: [u64; FIELDS], flat: bool) -> [u64; FIELDS]
 
 // The record of eleven numbers in the sheet's order, with the place after them: refused by 2.
 pub fn record_of_numbers(numbers: [u64; FIELDS], next: usize) -> RecordAnswer
-    ensures { result ≡ recordBy numbers next }
+    ensures { result ≡ record_by numbers next }
 {
     if within_limits(numbers) {
         return RecordAnswer::Record(record_of(numbers), next);
@@ -247,7 +247,7 @@ pub fn record_of_numbers(numbers: [u64; FIELDS], next: usize) -> RecordAnswer
 
 // The record at a place of a sheet, with its holding or without: refused by 6, 7 and 2.
 pub fn read_as(sheet: &[u8], at: usize, flat: bool) -> RecordAnswer
-    ensures { result ≡ readAs flat sheet.now at }
+    ensures { result ≡ read_as flat sheet.now at }
 {
     let mut found: [u64; FIELDS] = [0; FIELDS];
     let start = place_in(sheet, at);
@@ -259,7 +259,7 @@ pub fn read_as(sheet: &[u8], at: usize, flat: bool) -> RecordAnswer
 
 // The record at a place of a sheet: refused by 6, 7 and 2.
 pub fn read_record(sheet: &[u8], at: usize) -> RecordAnswer
-    ensures { result ≡ readRecord sheet.now at }
+    ensures { result ≡ read_record sheet.now at }
 {
     read_as(sheet, at, false)
 }

@@ -1,9 +1,9 @@
 // Saves a record: eleven numbers in groups of seven bits, each in the fewest.
 ghost use Rattle.std.specs.Prelude.{◌≡◌, ◌≤◌, length, T};
-ghost use Rattle.amounts.specs.Amounts.{amountOk};
+ghost use Rattle.amounts.specs.Amounts.{amount_ok};
 ghost use Rattle.record.specs.Record.{fields, stored};
 ghost use Rattle.buffers.specs.Over.{over};
-ghost use Rattle.record.specs.Save.{in_groups, allInGroups, numbersOf, noneBelow, saveOk, saved, savedIn};
+ghost use Rattle.record.specs.Save.{in_groups, all_in_groups, numbers_of, none_below, save_ok, saved, saved_in};
 
 use crate::record::{FIELDS, MOST_GROUPS, Record, config_of};
 use crate::refusals::SMALL_RECORD_BUFFER;
@@ -40,9 +40,9 @@ fn write_number(out: &mut [u8], n: u64) -> usize
 // Numbers one after the other.
 fn write_numbers(out: &mut [u8], v: [u64; FIELDS]) -> usize
     requires v_len { length v ≡ fields }
-    requires v_in_bounds { length (allInGroups v) ≤ length out.old }
-    ensures out_after { out.new ≡ over (allInGroups v) out.old }
-    ensures value { result ≡ length (allInGroups v) }
+    requires v_in_bounds { length (all_in_groups v) ≤ length out.old }
+    ensures out_after { out.new ≡ over (all_in_groups v) out.old }
+    ensures value { result ≡ length (all_in_groups v) }
 {
     let mut at: usize = 0;
     let mut i: usize = 0;
@@ -56,7 +56,7 @@ fn write_numbers(out: &mut [u8], v: [u64; FIELDS]) -> usize
 
 // A holding as it is stored: 2h, or -2h - 1 where it is negative.
 fn stored_of(h: i64) -> u64
-    requires { T (amountOk h) }
+    requires { T (amount_ok h) }
     ensures { result ≡ stored h }
 {
     if h < 0 {
@@ -67,8 +67,8 @@ fn stored_of(h: i64) -> u64
 
 // A record's numbers, in the sheet's order.
 fn numbers_of(r: Record) -> [u64; FIELDS]
-    requires { T (saveOk r) }
-    ensures { result ≡ numbersOf r }
+    requires { T (save_ok r) }
+    ensures { result ≡ numbers_of r }
 {
     [
         r.mid_price as u64,
@@ -86,8 +86,8 @@ fn numbers_of(r: Record) -> [u64; FIELDS]
 }
 
 // Whether no amount but the holding is below zero.
-fn none_below(r: Record) -> bool
-    ensures { result ≡ noneBelow r }
+fn none_below_lem(r: Record) -> bool
+    ensures { result ≡ none_below r }
 {
     (0 <= r.mid_price)
         & (0 <= r.volatility)
@@ -100,18 +100,18 @@ fn none_below(r: Record) -> bool
 
 // Whether a record can be saved.
 fn can_save(r: Record) -> bool
-    ensures { result ≡ saveOk r }
+    ensures { result ≡ save_ok r }
 {
     model::limits_fit(r.mid_price, r.inventory, config_of(r), r.volatility)
         & (r.current_time <= GLFTConfig::MAX_TIME)
-        & none_below(r)
+        & none_below_lem(r)
 }
 
 // Writes a record at the start of a buffer, as `read_record` reads it: refused by 20, then 2, which
 // leaves the buffer as it is.
 pub fn save_record(r: Record, out: &mut [u8]) -> SaveAnswer
     ensures value { result ≡ saved r out.old }
-    ensures out_after { out.new ≡ savedIn r out.old }
+    ensures out_after { out.new ≡ saved_in r out.old }
 {
     if out.len() < RECORD_ROOM {
         return SaveAnswer::Refused(SMALL_RECORD_BUFFER);

@@ -3,10 +3,10 @@
 // standard error.
 ghost use Rattle.std.specs.Prelude.{◌≡◌, ◌+◌, ◌<◌, ◌≤◌, length, take};
 ghost use Rattle.feed.specs.Feed.{Fed};
-ghost use Rattle.record.specs.Record.{readRecord};
+ghost use Rattle.record.specs.Record.{read_record};
 ghost use Rattle.buffers.specs.Over.{over};
-ghost use Rattle.sheet.specs.Sheet.{mostBytes};
-ghost use Rattle.record.specs.Save.{recordRoom};
+ghost use Rattle.sheet.specs.Sheet.{most_bytes};
+ghost use Rattle.record.specs.Save.{record_room};
 ghost use Rattle.resave.specs.Resave.{piece, onward, kept};
 
 use feed::{Feed, first};
@@ -27,10 +27,10 @@ struct Kept {
 
 // Saves the record at a place of a sheet, if the reader takes it, at the start of a buffer that has the room.
 fn keep_record(s: &[u8], at: usize, out: &mut [u8]) -> Kept
-    requires { recordRoom ≤ length out.old }
-    ensures count_value { result.count ≡ length (piece (readRecord s.now at)) }
-    ensures next_value { result.next ≡ onward (length s.now) (readRecord s.now at) }
-    ensures out_after { out.new ≡ over (piece (readRecord s.now at)) out.old }
+    requires { record_room ≤ length out.old }
+    ensures count_value { result.count ≡ length (piece (read_record s.now at)) }
+    ensures next_value { result.next ≡ onward (length s.now) (read_record s.now at) }
+    ensures out_after { out.new ≡ over (piece (read_record s.now at)) out.old }
 {
     match sheet::read_record(s, at) {
         RecordAnswer::Record(r, next) => match sheet::save_record(r, out) {
@@ -47,9 +47,9 @@ fn keep_record(s: &[u8], at: usize, out: &mut [u8]) -> Kept
 
 // Puts what is kept of a sheet into a buffer, and answers how many bytes that takes.
 fn keep(s: &[u8], out: &mut [u8]) -> usize
-    requires { mostBytes + recordRoom ≤ length out.old }
+    requires { most_bytes + record_room ≤ length out.old }
     ensures out_after { take result out.new ≡ kept s.now }
-    ensures upper_bound { result ≤ mostBytes }
+    ensures upper_bound { result ≤ most_bytes }
 {
     if s.len() > MOST_BYTES {
         return 0;
@@ -72,20 +72,20 @@ fn write_kept(s: &[u8]) -> bool {
 }
 
 fn blank() -> [u8; ROOM]
-    ensures { mostBytes + recordRoom ≡ length result }
+    ensures { most_bytes + record_room ≡ length result }
 {
     [0; ROOM]
 }
 
 fn blank_input() -> [u8; INPUT]
-    ensures { mostBytes + 1 ≡ length result }
+    ensures { most_bytes + 1 ≡ length result }
 {
     [0; INPUT]
 }
 
 // Reads a sheet into a buffer that tells one that is too long.
 fn read(input: &mut [u8]) -> Feed
-    requires { mostBytes < length input.old }
+    requires { most_bytes < length input.old }
     ensures { Fed (length input.old) result }
 {
     feed::read_sheet(input)

@@ -4,35 +4,35 @@ use Rattle.elementary.specs.Float.{positive}
 use Rattle.elementary.specs.Reply.{Reply, value, refusal}
 use Rattle.operator.specs.Vectors.{tab, at, every}
 use Rattle.operator.specs.Operator.{rows}
-use Rattle.series.specs.Series.{Operator, operatorOver, taylorStep}
-use Rattle.series.specs.Slices.{SliceSum, stepOver, Sizes, Fit}
+use Rattle.series.specs.Series.{Operator, operator_over, taylor_step}
+use Rattle.series.specs.Slices.{SliceSum, step_over, Sizes, Fit}
 use Rattle.operator.specs.Slices.{Ones}
 
 -- ---- m rows of two lists: before row n l's, and from there r's from the far end
-unfoldable pub filledOut : ℕ → ℕ → List Float → List Float → List Float
-filledOut m n l r = tab m (λ i. cond (ltb i n) (at l i) (at r (m - 1 - i)))
+unfoldable pub filled_out : ℕ → ℕ → List Float → List Float → List Float
+filled_out m n l r = tab m (λ i. cond (ltb i n) (at l i) (at r (m - 1 - i)))
 
 -- all rows of a bound b from rows 0 to b
 abbrev pub mirrored : ℕ → List Float → List Float → List Float
-mirrored b l r = filledOut (rows b) (suc b) l r
+mirrored b l r = filled_out (rows b) (suc b) l r
 
 -- ---- n rows of a slice: all rows; or, where half is true, those up to the centre
-unfoldable pub fullSize : Bool → ℕ → ℕ
-fullSize false n = n
-fullSize true n = rows (n - 1)
+unfoldable pub full_size : Bool → ℕ → ℕ
+full_size false n = n
+full_size true n = rows (n - 1)
 
 -- the left factors of all rows, from left and right ones: what is right of a row is left of its mirror image
-unfoldable pub fullFactors : Bool → ℕ → List Float → List Float → List Float
-fullFactors false n l r = l
-fullFactors true n l r = mirrored (n - 1) l r
+unfoldable pub full_factors : Bool → ℕ → List Float → List Float → List Float
+full_factors false n l r = l
+full_factors true n l r = mirrored (n - 1) l r
 
 -- and any other vector, which is its own mirror
 abbrev pub full : Bool → ℕ → List Float → List Float
-full half n l = fullFactors half n l l
+full half n l = full_factors half n l l
 
 -- the operator over all rows
-abbrev pub fullOperator : Bool → ℕ → List Float → List Float → List Float → Operator
-fullOperator half n d left right = operatorOver (fullSize half n) (full half n d) (fullFactors half n left right) (fullFactors half n right left)
+abbrev pub full_operator : Bool → ℕ → List Float → List Float → List Float → Operator
+full_operator half n d left right = operator_over (full_size half n) (full half n d) (full_factors half n left right) (full_factors half n right left)
 
 -- the centre's factors are equal: what is right of it mirrors what is left
 unfoldable pub Centred : Bool → ℕ → List Float → List Float → Type 0
@@ -51,10 +51,10 @@ SumIs n r l x = StepIs (r && every n (λ i. positive (at l i))) l x
 abbrev pub StandsFor : Bool → List Float → List Float → Float → List Float → List Float → SliceSum → Type 0
 StandsFor half v diag eta left right r =
     let n = length v in
-    SumIs (fullSize half n) r.settled (full half n r.sum) (taylorStep (fullOperator half n diag left right) eta (full half n v))
+    SumIs (full_size half n) r.settled (full half n r.sum) (taylor_step (full_operator half n diag left right) eta (full half n v))
 
 -- over slices it is the one over all rows that they stand for, where the centre's factors are equal and each row that is made plainly has factors of 1.0
 abbrev pub StepStands : Type 0
 StepStands = (half plain : Bool) (v diag left right term : List Float) (eta : Float) → 2 ≤ length v → Sizes (length v) diag left right term
     → Centred half (length v) left right → (plain ≡ true → Ones (length v) left right)
-    → let r = stepOver half plain v diag eta left right term in StandsFor half v diag eta left right r × Fit r.sum
+    → let r = step_over half plain v diag eta left right term in StandsFor half v diag eta left right r × Fit r.sum

@@ -13,8 +13,8 @@ pub record Operator : Type 0 where
   pub left : List Float
   pub right : List Float
 
-abbrev pub operatorOver : ℕ → List Float → List Float → List Float → Operator
-operatorOver n d l r = record { n = n; diagonal = d; left = l; right = r }
+abbrev pub operator_over : ℕ → List Float → List Float → List Float → Operator
+operator_over n d l r = record { n = n; diagonal = d; left = l; right = r }
 
 -- eta_dt × (left × lower + right × upper) - diagonal × centre
 unfoldable pub row_at : Operator → Float → List Float → ℕ → Float
@@ -31,8 +31,8 @@ unfoldable pub plus : ℕ → List Float → List Float → List Float
 plus n s t = tab n (λ i. at s i ⊕ at t i)
 
 -- is each entry of the term and of the sum finite
-unfoldable pub bothFinite : ℕ → List Float → List Float → Bool
-bothFinite n s t = every n (λ i. finite (at t i) && finite (at s i))
+unfoldable pub both_finite : ℕ → List Float → List Float → Bool
+both_finite n s t = every n (λ i. finite (at t i) && finite (at s i))
 
 -- a term is at most 1e-16 of its sum in magnitude, and so for every entry
 abbrev pub tolerance : Float
@@ -55,22 +55,22 @@ judge false c n t s = summed (refusal numerical)
 judge true false n t s = summing t s
 judge true true n t s = summed (given (every n (λ i. lt 0ᶠ (at s i))) numerical (value s))
 
-unfoldable pub nextTerm : Operator → Float → ℕ → List Float → List Float → Sum
-nextTerm p eta j t s =
+unfoldable pub next_term : Operator → Float → ℕ → List Float → List Float → Sum
+next_term p eta j t s =
     let t' = term p eta j t in
     let s' = plus p.n s t' in
-    judge (bothFinite p.n s' t') (converged p.n s' t') p.n t' s'
+    judge (both_finite p.n s' t') (converged p.n s' t') p.n t' s'
 
 -- at most k terms more, the next one being term j
 unfoldable pub series : ℕ → Operator → Float → ℕ → Sum → Reply (List Float)
 series zero p eta j (summed r) = r
 series (suc k) p eta j (summed r) = r
 series zero p eta j (summing t s) = refusal numerical
-series (suc k) p eta j (summing t s) = series k p eta (suc j) (nextTerm p eta j t s)
+series (suc k) p eta j (summing t s) = series k p eta (suc j) (next_term p eta j t s)
 
 -- the sum from v, term 0, within 100 terms
-abbrev pub mostTerms : ℕ
-mostTerms = 100
+abbrev pub most_terms : ℕ
+most_terms = 100
 
-unfoldable pub taylorStep : Operator → Float → List Float → Reply (List Float)
-taylorStep p eta v = series mostTerms p eta 1 (summing v v)
+unfoldable pub taylor_step : Operator → Float → List Float → Reply (List Float)
+taylor_step p eta v = series most_terms p eta 1 (summing v v)

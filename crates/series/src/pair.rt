@@ -3,9 +3,9 @@
 ghost use Rattle.std.specs.Prelude.{◌≡◌, length, true, false};
 ghost use Rattle.elementary.specs.Float.{◌⊗◌};
 ghost use Rattle.operator.specs.Vectors.{tab};
-ghost use Rattle.series.specs.Series.{operatorOver};
-ghost use Rattle.series.specs.Slices.{sliceRow, sliceTerm, sum_of, withTerm, seriesOver};
-ghost use Rattle.series.specs.Pairs.{pair_of, operatorOf, partialOf};
+ghost use Rattle.series.specs.Series.{operator_over};
+ghost use Rattle.series.specs.Slices.{slice_row, slice_term, sum_of, with_term, series_over};
+ghost use Rattle.series.specs.Pairs.{pair_of, operator_of, partial_of};
 
 use crate::taylor::MAX_TAYLOR_ORDER;
 
@@ -56,7 +56,7 @@ fn times(factor: f64, x: f64) -> f64
 // The operator on x. Beside the end row stand 0.0 and the centre, and beside the centre, on both sides,
 // the end row.
 fn applied(op: TwoRows, x: Pair) -> Pair
-    ensures { pair_of result ≡ tab 2 (sliceRow true false (operatorOf op) op.eta_dt (pair_of x)) }
+    ensures { pair_of result ≡ tab 2 (slice_row true false (operator_of op) op.eta_dt (pair_of x)) }
 {
     let upper = times(op.right.end, x.centre);
     let either = times(op.left.centre, x.end);
@@ -68,7 +68,7 @@ fn applied(op: TwoRows, x: Pair) -> Pair
 
 // A term, the sum with it, and whether that has converged.
 fn with_term(term: Pair, sum: Pair) -> Partial
-    ensures { partialOf result ≡ withTerm 2 (pair_of sum) (pair_of term) }
+    ensures { partial_of result ≡ with_term 2 (pair_of sum) (pair_of term) }
 {
     let end = sum.end + term.end;
     let centre = sum.centre + term.centre;
@@ -83,14 +83,14 @@ fn with_term(term: Pair, sum: Pair) -> Partial
 
 // Term 1, from v itself.
 fn first_pair(op: TwoRows, v: Pair) -> Partial
-    ensures { partialOf result ≡ withTerm 2 (pair_of v) (sliceTerm true false (operatorOf op) op.eta_dt 1 (pair_of v)) }
+    ensures { partial_of result ≡ with_term 2 (pair_of v) (slice_term true false (operator_of op) op.eta_dt 1 (pair_of v)) }
 {
     with_term(applied(op, v), v)
 }
 
 // A later term, from the one before it.
 fn next_pair(op: TwoRows, s: Partial, order: u32) -> Partial
-    ensures { partialOf result ≡ withTerm 2 (pair_of s.sum) (sliceTerm true false (operatorOf op) op.eta_dt order (pair_of s.term)) }
+    ensures { partial_of result ≡ with_term 2 (pair_of s.sum) (slice_term true false (operator_of op) op.eta_dt order (pair_of s.term)) }
 {
     let inv = 1.0 / (order as f64);
     let x = applied(op, s.term);
@@ -103,7 +103,7 @@ fn next_pair(op: TwoRows, s: Partial, order: u32) -> Partial
 
 // The series from v, at its end.
 fn sum_series(op: TwoRows, v: Pair) -> Partial
-    ensures { partialOf result ≡ seriesOver true false (operatorOf op) op.eta_dt (pair_of v) }
+    ensures { partial_of result ≡ series_over true false (operator_of op) op.eta_dt (pair_of v) }
 {
     let mut s = first_pair(op, v);
     let mut order: u32 = 2;
@@ -124,7 +124,7 @@ pub(crate) fn taylor_pair(
     term: &mut [f64],
 ) -> bool
     requires { (length v.old ≡ 2) × (length diag.now ≡ 2) × (length left.now ≡ 2) × (length right.now ≡ 2) × (length term.old ≡ 2) }
-    ensures { sum_of term.new v.new result ≡ seriesOver true false (operatorOver 2 diag.now left.now right.now) eta_dt v.old }
+    ensures { sum_of term.new v.new result ≡ series_over true false (operator_over 2 diag.now left.now right.now) eta_dt v.old }
 {
     let op = TwoRows {
         eta_dt,

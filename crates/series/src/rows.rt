@@ -3,7 +3,7 @@ ghost use Rattle.std.specs.Prelude.{◌≡◌, ◌<◌, length};
 ghost use Rattle.elementary.specs.Float.{◌⊕◌, ◌⊖◌, ◌⊗◌, 0ᶠ};
 ghost use Rattle.operator.specs.Vectors.{at};
 ghost use Rattle.operator.specs.Slices.{past};
-ghost use Rattle.series.specs.Slices.{besideOf};
+ghost use Rattle.series.specs.Slices.{beside_of};
 
 use operator::past_last;
 
@@ -56,7 +56,7 @@ pub(crate) fn beside(
     upper: f64,
 ) -> f64
     requires { (i < length left.now) × (i < length right.now) }
-    ensures { result ≡ besideOf plain (at left.now i) (at right.now i) lower upper }
+    ensures { result ≡ beside_of plain (at left.now i) (at right.now i) lower upper }
 {
     if plain {
         return lower + upper;

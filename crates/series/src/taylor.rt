@@ -1,8 +1,8 @@
 // One step of the exponential by its Taylor series. Every slice has an entry for each row, or, where
 // `half` is true, for each row up to the centre: the others mirror them.
 ghost use Rattle.std.specs.Prelude.{◌≡◌, ◌≤◌, false, length};
-ghost use Rattle.series.specs.Series.{small, converged, operatorOver};
-ghost use Rattle.series.specs.Slices.{fiveSized, sliceTerm, sum_of, withTerm, seriesOver, stepOver, Sizes};
+ghost use Rattle.series.specs.Series.{small, converged, operator_over};
+ghost use Rattle.series.specs.Slices.{five_sized, slice_term, sum_of, with_term, series_over, step_over, Sizes};
 
 const TAYLOR_TOL: f64 = 1e-16;
 
@@ -54,8 +54,8 @@ fn first_term(
 ) -> bool
     requires in_bounds { 2 ≤ length v.old }
     requires sizes { Sizes (length v.old) diag.now left.now right.now out.old }
-    ensures { sum_of out.new v.new result ≡ withTerm (length v.old) v.old
-        (sliceTerm half false (operatorOver (length v.old) diag.now left.now right.now) eta_dt 1 v.old) }
+    ensures { sum_of out.new v.new result ≡ with_term (length v.old) v.old
+        (slice_term half false (operator_over (length v.old) diag.now left.now right.now) eta_dt 1 v.old) }
 {
     let mut lower = 0.0;
     let mut i: usize = 0;
@@ -89,8 +89,8 @@ fn next_term(
 ) -> bool
     requires in_bounds { 2 ≤ length x.old }
     requires sizes { Sizes (length x.old) diag.now left.now right.now v.old }
-    ensures { sum_of x.new v.new result ≡ withTerm (length x.old) v.old
-        (sliceTerm half plain (operatorOver (length x.old) diag.now left.now right.now) eta_dt order x.old) }
+    ensures { sum_of x.new v.new result ≡ with_term (length x.old) v.old
+        (slice_term half plain (operator_over (length x.old) diag.now left.now right.now) eta_dt order x.old) }
 {
     let inv = 1.0 / (order as f64);
     let first = crate::rows::row_at(x, diag, eta_dt, left, right, 0, 0.0, x[1]) * inv;
@@ -128,7 +128,7 @@ fn taylor_rows(
     requires in_bounds { 2 ≤ length v.old }
     requires sizes { Sizes (length v.old) diag.now left.now right.now term.old }
     ensures { sum_of term.new v.new result
-        ≡ seriesOver half plain (operatorOver (length v.old) diag.now left.now right.now) eta_dt v.old }
+        ≡ series_over half plain (operator_over (length v.old) diag.now left.now right.now) eta_dt v.old }
 {
     let mut settled = first_term(v, diag, eta_dt, left, right, half, term);
     let mut order: u32 = 2;
@@ -141,7 +141,7 @@ fn taylor_rows(
 
 // Whether there are at least two rows, and all slices are of one length.
 fn step_fits(n: usize, diag: usize, left: usize, right: usize, term: usize) -> bool
-    ensures { result ≡ fiveSized n diag left right term }
+    ensures { result ≡ five_sized n diag left right term }
 {
     (2 <= n) & ((diag == n) & (left == n)) & ((right == n) & (term == n))
 }
@@ -161,7 +161,7 @@ pub fn taylor_step(
     plain: bool,
     term: &mut [f64],
 ) -> bool
-    ensures { sum_of term.new v.new result ≡ stepOver half plain v.old diag.now eta_dt left.now right.now term.old }
+    ensures { sum_of term.new v.new result ≡ step_over half plain v.old diag.now eta_dt left.now right.now term.old }
 {
     if !step_fits(v.len(), diag.len(), left.len(), right.len(), term.len()) {
         return false;

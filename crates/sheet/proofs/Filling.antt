@@ -13,65 +13,65 @@ use types.Run.{OneOf}
 use borrow.Author.Tests.{le-leb, lt-leb}
 use borrow.Rule.Slice.PartMut.{mid_of, put_mid, mid_len, put_same}
 use Rattle.buffers.specs.Over.{over}
-use Rattle.buffers.proofs.Texts.{Wrote, wrote_none, wrote-length, wrote-part}
-use Rattle.lines.specs.Refusals.{smallBuffer}
-use Rattle.lines.specs.Lines.{leastRoom, hasRoom}
-use Rattle.ladders.specs.Refusals.{smallLadderBuffer}
+use Rattle.buffers.proofs.Texts.{Wrote, wrote_none, wrote_length, wrote_part}
+use Rattle.lines.specs.Refusals.{small_buffer}
+use Rattle.lines.specs.Lines.{least_room, has_room}
+use Rattle.ladders.specs.Refusals.{small_ladder_buffer}
 use Rattle.sheet.specs.Sheet.{Step, line, end, answered, left, refuse}
-use Rattle.sheet.specs.Kinds.{roomOf, textAt}
-use Rattle.sheet.specs.Inner.{textIn}
-use Rattle.sheet.specs.Fill.{Fill, up_to, after, fillBy, fill, filledIf, leftIf, filledAs, leftAs}
+use Rattle.sheet.specs.Kinds.{room_of, text_at}
+use Rattle.sheet.specs.Inner.{text_in}
+use Rattle.sheet.specs.Fill.{Fill, up_to, after, fill_by, fill, filled_if, left_if, filled_as, left_as}
 use Rattle.sheet.specs.declared.text.Kind.{Kind}
 use Rattle.sheet.specs.declared.line.LineAnswer.{LineAnswer}
 use Rattle.sheet.specs.declared.line.LineAnswer.TheVariants as LineAnswer
 use Rattle.sheet.specs.declared.fill.FillAnswer.TheVariants as FillAnswer
 use Rattle.sheet.specs.contracts.line.LineAnswer.{the_type}
-use Rattle.sheet.proofs.Texts.{with-room, room-least, text-end, text-before, text-written, texts-fit, texts-move}
+use Rattle.sheet.proofs.Texts.{with_room, room_least, text_end, text_before, text_written, texts_fit, texts_move}
 
 -- ---- the turns: more than enough change nothing
-done : (j : ℕ) (m : Bool) (x : Step) (k : Kind) (s : List ℕ) (at room : ℕ) → x ≡ end → fillBy j m x k s at room ≡ up_to [] at
-unfolding fillBy
+done : (j : ℕ) (m : Bool) (x : Step) (k : Kind) (s : List ℕ) (at room : ℕ) → x ≡ end → fill_by j m x k s at room ≡ up_to [] at
+unfolding fill_by
 done zero m x k s at room e = refl
 done (suc j) false x k s at room e = refl
 done (suc j) true x k s at room e = rw e
 
 enough : (i j : ℕ) (k : Kind) (s : List ℕ) (at room : ℕ) → length s ≤ i + at → length s ≤ j + at
-    → fillBy i (leb (roomOf k) room) (textAt k s at) k s at room ≡ fillBy j (leb (roomOf k) room) (textAt k s at) k s at room
-unfolding fillBy
-enough zero j k s at room h g = sym (done j (leb (roomOf k) room) (textAt k s at) k s at room (text-end k s at (omega arith)))
-enough (suc i) zero k s at room h g = done (suc i) (leb (roomOf k) room) (textAt k s at) k s at room (text-end k s at (omega arith))
-enough (suc i) (suc j) k s at room h g = go (leb (roomOf k) room) (textAt k s at) refl (λ next rest m. enough i j k s next rest (omega arith) (omega arith))
+    → fill_by i (leb (room_of k) room) (text_at k s at) k s at room ≡ fill_by j (leb (room_of k) room) (text_at k s at) k s at room
+unfolding fill_by
+enough zero j k s at room h g = sym (done j (leb (room_of k) room) (text_at k s at) k s at room (text_end k s at (omega arith)))
+enough (suc i) zero k s at room h g = done (suc i) (leb (room_of k) room) (text_at k s at) k s at room (text_end k s at (omega arith))
+enough (suc i) (suc j) k s at room h g = go (leb (room_of k) room) (text_at k s at) refl (λ next rest m. enough i j k s next rest (omega arith) (omega arith))
   where
-    go : (b : Bool) (x : Step) → textAt k s at ≡ x
-        → ((next rest : ℕ) → at < next → fillBy i (leb (roomOf k) rest) (textAt k s next) k s next rest ≡ fillBy j (leb (roomOf k) rest) (textAt k s next) k s next rest)
-        → fillBy (suc i) b x k s at room ≡ fillBy (suc j) b x k s at room
+    go : (b : Bool) (x : Step) → text_at k s at ≡ x
+        → ((next rest : ℕ) → at < next → fill_by i (leb (room_of k) rest) (text_at k s next) k s next rest ≡ fill_by j (leb (room_of k) rest) (text_at k s next) k s next rest)
+        → fill_by (suc i) b x k s at room ≡ fill_by (suc j) b x k s at room
     go false x e f = refl
     go true end e f = refl
     go true (refuse n) e f = refl
-    go true (line t next) e f = ap (after t) (f next (room - length t) (texts-move k s at t next e).0)
+    go true (line t next) e f = ap (after t) (f next (room - length t) (texts_move k s at t next e).0)
 
 -- ---- a fill by its first step
 module _ (k : Kind) (s : List ℕ) (at room : ℕ) where
-  pub fill-full : room < roomOf k → fill k s at room ≡ up_to [] at
-  unfolding fill fillBy
-  fill-full h = rw (lt-leb (roomOf k) room h) (full (length s))
+  pub fill_full : room < room_of k → fill k s at room ≡ up_to [] at
+  unfolding fill fill_by
+  fill_full h = rw (lt-leb (room_of k) room h) (full (length s))
     where
-      full : (j : ℕ) → fillBy j false (textAt k s at) k s at room ≡ up_to [] at
+      full : (j : ℕ) → fill_by j false (text_at k s at) k s at room ≡ up_to [] at
       full zero = refl
       full (suc j) = refl
 
-  pub fill_end : textAt k s at ≡ end → fill k s at room ≡ up_to [] at
+  pub fill_end : text_at k s at ≡ end → fill k s at room ≡ up_to [] at
   unfolding fill
-  fill_end e = done (length s) (leb (roomOf k) room) (textAt k s at) k s at room e
+  fill_end e = done (length s) (leb (room_of k) room) (text_at k s at) k s at room e
 
-  pub fill-text : (t : List ℕ) (next : ℕ) → roomOf k ≤ room → textAt k s at ≡ line t next → fill k s at room ≡ after t (fill k s next (room - length t))
-  unfolding fill fillBy
-  fill-text t next h e =
-      rw (le-leb (roomOf k) room h, e)
-      (go (length s) (text-before k s at t next e) (λ j g. enough j (length s) k s next (room - length t) (omega (arith, (texts-move k s at t next e).0)) (omega arith)))
+  pub fill_text : (t : List ℕ) (next : ℕ) → room_of k ≤ room → text_at k s at ≡ line t next → fill k s at room ≡ after t (fill k s next (room - length t))
+  unfolding fill fill_by
+  fill_text t next h e =
+      rw (le-leb (room_of k) room h, e)
+      (go (length s) (text_before k s at t next e) (λ j g. enough j (length s) k s next (room - length t) (omega (arith, (texts_move k s at t next e).0)) (omega arith)))
     where
-      go : (i : ℕ) → at < i → ((j : ℕ) → i ≡ suc j → fillBy j (leb (roomOf k) (room - length t)) (textAt k s next) k s next (room - length t) ≡ fill k s next (room - length t))
-          → fillBy i true (line t next) k s at room ≡ after t (fill k s next (room - length t))
+      go : (i : ℕ) → at < i → ((j : ℕ) → i ≡ suc j → fill_by j (leb (room_of k) (room - length t)) (text_at k s next) k s next (room - length t) ≡ fill k s next (room - length t))
+          → fill_by i true (line t next) k s at room ≡ after t (fill k s next (room - length t))
       go zero p f = absurd (omega arith)
       go (suc j) p f = ap (after t) (f j refl)
 
@@ -79,9 +79,9 @@ after_none : (f : Fill) → after [] f ≡ f
 unfolding after
 after_none (up_to u next) = refl
 
-after-after : (t u : List ℕ) (f : Fill) → after t (after u f) ≡ after (t ++ u) f
+after_after : (t u : List ℕ) (f : Fill) → after t (after u f) ≡ after (t ++ u) f
 unfolding after
-after-after t u (up_to v next) = ap (λ (w : List ℕ). up_to w next) (sym (append_assoc t u v))
+after_after t u (up_to v next) = ap (λ (w : List ℕ). up_to w next) (sym (append_assoc t u v))
 
 -- ---- a fill from a place on into a buffer that came as l: n bytes of texts are in, and the next text is at a place
 pub record Filling (k : Kind) (s : List ℕ) (at : ℕ) (l out : List ℕ) (n next : ℕ) : Type 0 where
@@ -90,17 +90,17 @@ pub record Filling (k : Kind) (s : List ℕ) (at : ℕ) (l out : List ℕ) (n ne
   pub room : n ≤ length l
   pub so_far : fill k s at (length l) ≡ after text (fill k s next (length l - n))
 
-pub filling-none : (k : Kind) (s : List ℕ) (at : ℕ) (l : List ℕ) → Filling k s at l l 0 at
-filling-none k s at l = record { text = []; wrote = wrote_none l; room = omega arith; so_far = rw (sub-zero (length l), after_none (fill k s at (length l))) }
+pub filling_none : (k : Kind) (s : List ℕ) (at : ℕ) (l : List ℕ) → Filling k s at l l 0 at
+filling_none k s at l = record { text = []; wrote = wrote_none l; room = omega arith; so_far = rw (sub-zero (length l), after_none (fill k s at (length l))) }
 
 -- what `next_text` wrote into the part that was lent
-text_in : (b : Bool) (x : Step) (j next : ℕ) (part back : List ℕ) → LineAnswer.Written j next ≡ answered b x → back ≡ left b x part
+text_in_lem : (b : Bool) (x : Step) (j next : ℕ) (part back : List ℕ) → LineAnswer.Written j next ≡ answered b x → back ≡ left b x part
     → (t : List ℕ) × (x ≡ line t next) × (j ≡ length t) × (back ≡ over t part)
 unfolding answered left
-text_in false x j next part back e o = let z : ◌≡◌ {A = ℕ} 0 1 = cc in absurd (omega arith)
-text_in true (line t m) j next part back e o = let z : m ≡ next = cc in (t, ap (line t) z, cc, o)
-text_in true end j next part back e o = let z : ◌≡◌ {A = ℕ} 0 1 = cc in absurd (omega arith)
-text_in true (refuse n) j next part back e o = let z : ◌≡◌ {A = ℕ} 0 1 = cc in absurd (omega arith)
+text_in_lem false x j next part back e o = let z : ◌≡◌ {A = ℕ} 0 1 = cc in absurd (omega arith)
+text_in_lem true (line t m) j next part back e o = let z : m ≡ next = cc in (t, ap (line t) z, cc, o)
+text_in_lem true end j next part back e o = let z : ◌≡◌ {A = ℕ} 0 1 = cc in absurd (omega arith)
+text_in_lem true (refuse n) j next part back e o = let z : ◌≡◌ {A = ℕ} 0 1 = cc in absurd (omega arith)
 
 -- the answer is no text: where no step is refused, the sheet is at its end
 none_left : (x : Step) (r : LineAnswer) → ((n : ℕ) → x ≡ refuse n → ⊥) → OneOf (1 ∷ 2 ∷ []) (tag_of the_type r) → r ≡ answered true x → x ≡ end
@@ -114,63 +114,63 @@ module _ (k : Kind) (s : List ℕ) (at : ℕ) (l out : List ℕ) (n next : ℕ) 
   abbrev part : List ℕ
   part = mid_of n (length out - n) out
 
-  pub filling-length : length out ≡ length l
-  filling-length = wrote-length l f.text out n f.wrote f.room
+  pub filling_length : length out ≡ length l
+  filling_length = wrote_length l f.text out n f.wrote f.room
 
   -- it has the room, so the text in it is the one at the place
-  part-is : roomOf k ≤ length out - n → textIn k (length part) s next ≡ textAt k s next
-  part-is h = with-room k (length part) s next (rw (mid_len n (length out) out (le_refl (length out))) h)
+  part_is : room_of k ≤ length out - n → text_in k (length part) s next ≡ text_at k s next
+  part_is h = with_room k (length part) s next (rw (mid_len n (length out) out (le_refl (length out))) h)
 
   -- a text more
-  pub text-added : (b : Bool) (j place : ℕ) (back : List ℕ) → roomOf k ≤ length out - n → LineAnswer.Written j place ≡ answered b (textIn k (length part) s next)
-      → back ≡ left b (textIn k (length part) s next) part
+  pub text_added : (b : Bool) (j place : ℕ) (back : List ℕ) → room_of k ≤ length out - n → LineAnswer.Written j place ≡ answered b (text_in k (length part) s next)
+      → back ≡ left b (text_in k (length part) s next) part
       → (n + j ≤ length l) × (next < place) × (place ≤ length s) × Filling k s at l (put_mid n (length out - n) out back) (n + j) place
-  text-added b j place back h e o =
-      let w = text_in b (textIn k (length part) s next) j place part back e o in
+  text_added b j place back h e o =
+      let w = text_in_lem b (text_in k (length part) s next) j place part back e o in
       let t = w.0 in
-      let x = sym (part-is h) ∙ w.1 in
-      let m = texts-move k s next t place x in
-      let fits : n + j ≤ length l = omega (arith, filling-length, w.2, texts-fit k s next t place x) in
+      let x = sym (part_is h) ∙ w.1 in
+      let m = texts_move k s next t place x in
+      let fits : n + j ≤ length l = omega (arith, filling_length, w.2, texts_fit k s next t place x) in
       let r : length l - n - length t ≡ length l - (n + j) = omega (arith, w.2) in (
         fits,
         m.0,
         m.1,
         record {
           text = f.text ++ t;
-          wrote = wrote-part l f.text t out back n j f.wrote w.3 w.2;
+          wrote = wrote_part l f.text t out back n j f.wrote w.3 w.2;
           room = fits;
-          so_far = f.so_far ∙ rw (fill-text k s next (length l - n) t place (omega (arith, filling-length)) x, r) (after-after f.text t (fill k s place (length l - (n + j))));
+          so_far = f.so_far ∙ rw (fill_text k s next (length l - n) t place (omega (arith, filling_length)) x, r) (after_after f.text t (fill k s place (length l - (n + j))));
         },
       )
 
   -- nothing more: no room, or no text
-  filling-done : leastRoom ≤ length l → roomOf k ≤ length l → fill k s next (length l - n) ≡ up_to [] next → (FillAnswer.Filled n next ≡ filledAs k s at l) × (out ≡ leftAs k s at l)
-  unfolding filledIf leftIf after
-  filling-done h g e =
-      rw (le-leb leastRoom (length l) h, le-leb (roomOf k) (length l) g, f.so_far, e, append-nil f.text) (ap (λ (j : ℕ). FillAnswer.Filled j next) f.wrote.up-to, f.wrote.is)
+  filling_done : least_room ≤ length l → room_of k ≤ length l → fill k s next (length l - n) ≡ up_to [] next → (FillAnswer.Filled n next ≡ filled_as k s at l) × (out ≡ left_as k s at l)
+  unfolding filled_if left_if after
+  filling_done h g e =
+      rw (le-leb least_room (length l) h, le-leb (room_of k) (length l) g, f.so_far, e, append-nil f.text) (ap (λ (j : ℕ). FillAnswer.Filled j next) f.wrote.up_to_lem, f.wrote.is)
 
-  pub filling-full : leastRoom ≤ length l → roomOf k ≤ length l → length out - n < roomOf k → (FillAnswer.Filled n next ≡ filledAs k s at l) × (out ≡ leftAs k s at l)
-  filling-full h g m = filling-done h g (fill-full k s next (length l - n) (omega (arith, filling-length)))
+  pub filling_full : least_room ≤ length l → room_of k ≤ length l → length out - n < room_of k → (FillAnswer.Filled n next ≡ filled_as k s at l) × (out ≡ left_as k s at l)
+  filling_full h g m = filling_done h g (fill_full k s next (length l - n) (omega (arith, filling_length)))
 
   -- the answer is no text, so the sheet is at its end
-  pub filling-end : (r : LineAnswer) (back : List ℕ) → leastRoom ≤ length l → roomOf k ≤ length l → roomOf k ≤ length out - n → OneOf (1 ∷ 2 ∷ []) (tag_of the_type r)
-      → r ≡ answered (hasRoom part) (textIn k (length part) s next) → back ≡ left (hasRoom part) (textIn k (length part) s next) part
-      → (FillAnswer.Filled n next ≡ filledAs k s at l) × (put_mid n (length out - n) out back ≡ leftAs k s at l)
+  pub filling_end : (r : LineAnswer) (back : List ℕ) → least_room ≤ length l → room_of k ≤ length l → room_of k ≤ length out - n → OneOf (1 ∷ 2 ∷ []) (tag_of the_type r)
+      → r ≡ answered (has_room part) (text_in k (length part) s next) → back ≡ left (has_room part) (text_in k (length part) s next) part
+      → (FillAnswer.Filled n next ≡ filled_as k s at l) × (put_mid n (length out - n) out back ≡ left_as k s at l)
   unfolding left
-  filling-end r back h g m c e o =
-      let x = part-is m in
-      let b : hasRoom part ≡ true = le-leb leastRoom (length part) (rw (mid_len n (length out) out (le_refl (length out))) (le_trans (room-least k) m)) in
-      let z = none_left (textAt k s next) r (text-written k s next) c (e ∙ rw (b, x)) in
-      let p = filling-done h g (fill_end k s next (length l - n) z) in
+  filling_end r back h g m c e o =
+      let x = part_is m in
+      let b : has_room part ≡ true = le-leb least_room (length part) (rw (mid_len n (length out) out (le_refl (length out))) (le_trans (room_least k) m)) in
+      let z = none_left (text_at k s next) r (text_written k s next) c (e ∙ rw (b, x)) in
+      let p = filling_done h g (fill_end k s next (length l - n) z) in
       let q : back ≡ part = o ∙ rw (b, x, z) in
       (p.0, rw q (put_same n (length out - n) out) ∙ p.1)
 
 -- ---- no room
 module _ (k : Kind) (s : List ℕ) (at : ℕ) (l : List ℕ) where
-  pub no-fill : length l < leastRoom → (FillAnswer.Refused smallBuffer ≡ filledAs k s at l) × (l ≡ leftAs k s at l)
-  unfolding filledIf leftIf
-  no-fill h = rw (lt-leb leastRoom (length l) h) (refl, refl)
+  pub no_fill : length l < least_room → (FillAnswer.Refused small_buffer ≡ filled_as k s at l) × (l ≡ left_as k s at l)
+  unfolding filled_if left_if
+  no_fill h = rw (lt-leb least_room (length l) h) (refl, refl)
 
-  pub short-fill : leastRoom ≤ length l → length l < roomOf k → (FillAnswer.Refused smallLadderBuffer ≡ filledAs k s at l) × (l ≡ leftAs k s at l)
-  unfolding filledIf leftIf
-  short-fill h g = rw (le-leb leastRoom (length l) h, lt-leb (roomOf k) (length l) g) (refl, refl)
+  pub short_fill : least_room ≤ length l → length l < room_of k → (FillAnswer.Refused small_ladder_buffer ≡ filled_as k s at l) × (l ≡ left_as k s at l)
+  unfolding filled_if left_if
+  short_fill h g = rw (le-leb least_room (length l) h, lt-leb (room_of k) (length l) g) (refl, refl)

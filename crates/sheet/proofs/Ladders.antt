@@ -10,113 +10,113 @@ use borrow.Author.Tests.{leb-true, leb-false, ne_eqb}
 use lib.IntN.{ℤ}
 use lib.ListN.{length}
 use lib.Dec.{leb, eqb, lit<}
-use Rattle.model.specs.Model.{checkCall}
+use Rattle.model.specs.Model.{check_call}
 use Rattle.model.specs.declared.GLFTConfig.{GLFTConfig}
 use Rattle.elementary.specs.declared.Check.{Check}
 use Rattle.elementary.specs.declared.Check.TheVariants as Check
-use Rattle.lots.proofs.OneRun.{check-refusals}
-use Rattle.record.specs.Record.{configOf, readAs}
+use Rattle.lots.proofs.OneRun.{check_refusals}
+use Rattle.record.specs.Record.{config_of, read_as}
 use Rattle.record.specs.declared.record.Record.{Record}
-use Rattle.lines.specs.Lines.{refusalLine, leastRoom, Text, text, refusal, wrote, textLeft}
+use Rattle.lines.specs.Lines.{refusal_line, least_room, Text, text, refusal, wrote, text_left}
 use Rattle.lines.specs.declared.line.LineWritten.TheVariants as LineWritten
-use Rattle.lines.proofs.Widths.{refusal-most}
-use Rattle.ladders.specs.Refusals.{smallLadderBuffer}
-use Rattle.ladders.specs.Ladder.{ladder, ladderRoom, mostLadder, ladderIf, ladderFor, ladderAnswer}
+use Rattle.lines.proofs.Widths.{refusal_most}
+use Rattle.ladders.specs.Refusals.{small_ladder_buffer}
+use Rattle.ladders.specs.Ladder.{ladder, ladder_room, most_ladder, ladder_if, ladder_for, ladder_answer}
 use Rattle.ladders.specs.declared.ladder.LadderAnswer.TheVariants as LadderAnswer
-use Rattle.ladders.proofs.Rungs.{ladder-most}
-use Rattle.ladders.proofs.LadderLaws.{ladder-own-mirror, ladders-bounded}
+use Rattle.ladders.proofs.Rungs.{ladder_most}
+use Rattle.ladders.proofs.LadderLaws.{ladder_own_mirror, ladders_bounded}
 use Rattle.sheet.specs.Sheet.{line, refuse}
-use Rattle.sheet.specs.Ladders.{refusedBy, ladderText, recordLadder, wholeBy, wholeLadder, ladderAt, RecordLadderMirror}
+use Rattle.sheet.specs.Ladders.{refused_by, ladder_text, record_ladder, whole_by, whole_ladder, ladder_at, RecordLadderMirror}
 use Rattle.sheet.specs.Promises.{LaddersFit, LaddersMove, LaddersWritten}
-use Rattle.sheet.proofs.Steps.{step-written}
+use Rattle.sheet.proofs.Steps.{step_written}
 use Rattle.sheet.proofs.Due.{step_kept}
 
 -- ---- a record's text fits the buffer
-number_small : (mid : ℤ) (c : GLFTConfig) (vol : ℤ) (t n : ℕ) → checkCall mid c vol t ≡ Check.Refused n → n < 21
-number_small mid c vol t n e = elim ((check-refusals mid c vol t n).0 e).0 [ inl k ↦ omega arith | inr k ↦ elim k [ inl i ↦ omega arith | inr i ↦ omega arith ] ]
+number_small : (mid : ℤ) (c : GLFTConfig) (vol : ℤ) (t n : ℕ) → check_call mid c vol t ≡ Check.Refused n → n < 21
+number_small mid c vol t n e = elim ((check_refusals mid c vol t n).0 e).0 [ inl k ↦ omega arith | inr k ↦ elim k [ inl i ↦ omega arith | inr i ↦ omega arith ] ]
 
-number-most : (mid : ℤ) (c : GLFTConfig) (vol : ℤ) (t n : ℕ) → checkCall mid c vol t ≡ Check.Refused n → n < 256
-number-most mid c vol t n e = omega (arith, number_small mid c vol t n e)
+number_most : (mid : ℤ) (c : GLFTConfig) (vol : ℤ) (t n : ℕ) → check_call mid c vol t ≡ Check.Refused n → n < 256
+number_most mid c vol t n e = omega (arith, number_small mid c vol t n e)
 
 -- the line of a refusal by any of these, but 21 has none
-by_number : (n : ℕ) (b : Bool) (t : List ℕ) → n < 256 → refusedBy b n ≡ text t → length t ≤ leastRoom
-unfolding refusedBy
+by_number : (n : ℕ) (b : Bool) (t : List ℕ) → n < 256 → refused_by b n ≡ text t → length t ≤ least_room
+unfolding refused_by
 by_number n true t h e = let z : ◌≡◌ {A = ℕ} 0 1 = cc in absurd (omega arith)
-by_number n false t h e = let z : refusalLine n ≡ t = cc in subst (λ (u : List ℕ). length u ≤ leastRoom) z (refusal-most n h)
+by_number n false t h e = let z : refusal_line n ≡ t = cc in subst (λ (u : List ℕ). length u ≤ least_room) z (refusal_most n h)
 
-text-most : (x : Check) (need room : ℕ) (u : List ℕ) → ((n : ℕ) → x ≡ Check.Refused n → n < 256) → (x ≡ Check.Passes → length u ≤ need) → leastRoom ≤ room
-    → (m : Bool) → (m ≡ true → need ≤ room) → (t : List ℕ) → ladderText (ladderIf x m u) ≡ text t → length t ≤ room
-unfolding ladderIf ladderText
-text-most (Check.Refused n) need room u few most h m f t e = le_trans (by_number n _ t (few n refl) e) h
-text-most Check.Passes need room u few most h false f t e = le_trans (by_number smallLadderBuffer _ t (lit< tt) e) h
-text-most Check.Passes need room u few most h true f t e = let z : u ≡ t = cc in subst (λ (v : List ℕ). length v ≤ room) z (le_trans (most refl) (f refl))
+text_most : (x : Check) (need room : ℕ) (u : List ℕ) → ((n : ℕ) → x ≡ Check.Refused n → n < 256) → (x ≡ Check.Passes → length u ≤ need) → least_room ≤ room
+    → (m : Bool) → (m ≡ true → need ≤ room) → (t : List ℕ) → ladder_text (ladder_if x m u) ≡ text t → length t ≤ room
+unfolding ladder_if ladder_text
+text_most (Check.Refused n) need room u few most h m f t e = le_trans (by_number n _ t (few n refl) e) h
+text_most Check.Passes need room u few most h false f t e = le_trans (by_number small_ladder_buffer _ t (lit< tt) e) h
+text_most Check.Passes need room u few most h true f t e = let z : u ≡ t = cc in subst (λ (v : List ℕ). length v ≤ room) z (le_trans (most refl) (f refl))
 
-record-most : (room : ℕ) (r : Record) (t : List ℕ) → recordLadder room r ≡ text t → leastRoom ≤ room → length t ≤ room
-unfolding recordLadder ladderFor
-record-most room r t e h =
+record_most : (room : ℕ) (r : Record) (t : List ℕ) → record_ladder room r ≡ text t → least_room ≤ room → length t ≤ room
+unfolding record_ladder ladder_for
+record_most room r t e h =
     let mid = r.mid_price in
-    let c = configOf r in
+    let c = config_of r in
     let vol = r.volatility in
     let now = r.current_time in
-    text-most (checkCall mid c vol now) (ladderRoom c) room (ladder mid c vol now) (number-most mid c vol now) (ladder-most mid c vol now) h (leb (ladderRoom c) room) (leb-true (ladderRoom c) room) t e
+    text_most (check_call mid c vol now) (ladder_room c) room (ladder mid c vol now) (number_most mid c vol now) (ladder_most mid c vol now) h (leb (ladder_room c) room) (leb-true (ladder_room c) room) t e
 
 -- with the most bytes there is always a text, the same for all of them
-text-whole : (x : Check) (need room : ℕ) (u : List ℕ) → ((n : ℕ) → x ≡ Check.Refused n → n < 21) → (x ≡ Check.Passes → need ≤ room)
-    → (m : Bool) → (m ≡ false → room < need) → ladderText (ladderIf x m u) ≡ text (wholeBy x u)
-unfolding ladderIf ladderText refusedBy wholeBy
-text-whole (Check.Refused n) need room u few most m f = rw (ne_eqb n smallLadderBuffer (λ e. omega (arith, few n refl)))
-text-whole Check.Passes need room u few most false f = absurd (omega (arith, most refl, f refl))
-text-whole Check.Passes need room u few most true f = refl
+text_whole : (x : Check) (need room : ℕ) (u : List ℕ) → ((n : ℕ) → x ≡ Check.Refused n → n < 21) → (x ≡ Check.Passes → need ≤ room)
+    → (m : Bool) → (m ≡ false → room < need) → ladder_text (ladder_if x m u) ≡ text (whole_by x u)
+unfolding ladder_if ladder_text refused_by whole_by
+text_whole (Check.Refused n) need room u few most m f = rw (ne_eqb n small_ladder_buffer (λ e. omega (arith, few n refl)))
+text_whole Check.Passes need room u few most false f = absurd (omega (arith, most refl, f refl))
+text_whole Check.Passes need room u few most true f = refl
 
-pub record-whole : (room : ℕ) → mostLadder ≤ room → (r : Record) → recordLadder room r ≡ text (wholeLadder r)
-unfolding recordLadder ladderFor wholeLadder
-record-whole room h r =
+pub record_whole : (room : ℕ) → most_ladder ≤ room → (r : Record) → record_ladder room r ≡ text (whole_ladder r)
+unfolding record_ladder ladder_for whole_ladder
+record_whole room h r =
     let mid = r.mid_price in
-    let c = configOf r in
+    let c = config_of r in
     let vol = r.volatility in
     let now = r.current_time in
-    text-whole (checkCall mid c vol now) (ladderRoom c) room (ladder mid c vol now) (number_small mid c vol now) (λ e. le_trans (ladders-bounded mid c vol now e) h) (leb (ladderRoom c) room) (leb-false (ladderRoom c) room)
+    text_whole (check_call mid c vol now) (ladder_room c) room (ladder mid c vol now) (number_small mid c vol now) (λ e. le_trans (ladders_bounded mid c vol now e) h) (leb (ladder_room c) room) (leb-false (ladder_room c) room)
 
-pub whole-most : (r : Record) → length (wholeLadder r) ≤ mostLadder
-whole-most r = record-most mostLadder r (wholeLadder r) (record-whole mostLadder (le_refl mostLadder) r) (omega arith)
+pub whole_most : (r : Record) → length (whole_ladder r) ≤ most_ladder
+whole_most r = record_most most_ladder r (whole_ladder r) (record_whole most_ladder (le_refl most_ladder) r) (omega arith)
 
 -- ---- at a place of a sheet
 module _ (room : ℕ) (s : List ℕ) (at : ℕ) where
   -- a buffer with the room for a line has it for the text
   abbrev Fits : List ℕ → Type 0
-  Fits t = leastRoom ≤ room → length t ≤ room
+  Fits t = least_room ≤ room → length t ≤ room
 
-  lines_fit : (k : ℕ) → k < 256 → Fits (refusalLine k)
-  lines_fit k h l = le_trans (refusal-most k h) l
+  lines_fit : (k : ℕ) → k < 256 → Fits (refusal_line k)
+  lines_fit k h l = le_trans (refusal_most k h) l
 
-  ladder-kept : (t : List ℕ) (next : ℕ) → ladderAt room s at ≡ line t next → Fits t × (at < next) × (next ≤ length s)
-  unfolding ladderAt
-  ladder-kept t next e = step_kept (recordLadder room) true Fits (record-most room) lines_fit s at t next e
+  ladder_kept : (t : List ℕ) (next : ℕ) → ladder_at room s at ≡ line t next → Fits t × (at < next) × (next ≤ length s)
+  unfolding ladder_at
+  ladder_kept t next e = step_kept (record_ladder room) true Fits (record_most room) lines_fit s at t next e
 
-  ladder-written : mostLadder ≤ room → (k : ℕ) → ladderAt room s at ≡ refuse k → ⊥
-  unfolding ladderAt
-  ladder-written h k e = step-written (recordLadder room) (λ r. (wholeLadder r, record-whole room h r)) s at (readAs true s at) k e
+  ladder_written : most_ladder ≤ room → (k : ℕ) → ladder_at room s at ≡ refuse k → ⊥
+  unfolding ladder_at
+  ladder_written h k e = step_written (record_ladder room) (λ r. (whole_ladder r, record_whole room h r)) s at (read_as true s at) k e
 
-pub ladders-fit : LaddersFit
-ladders-fit room s at t next e = (ladder-kept room s at t next e).0
+pub ladders_fit : LaddersFit
+ladders_fit room s at t next e = (ladder_kept room s at t next e).0
 
-pub ladders-move : LaddersMove
-ladders-move room s at t next e = let k = ladder-kept room s at t next e in (k.1, k.2)
+pub ladders_move : LaddersMove
+ladders_move room s at t next e = let k = ladder_kept room s at t next e in (k.1, k.2)
 
-pub ladders-written : LaddersWritten
-ladders-written room s at k h e = ladder-written room s at h k e
+pub ladders_written : LaddersWritten
+ladders_written room s at k h e = ladder_written room s at h k e
 
 -- ---- a record's text, from what `write_ladder` answers
-pub text-written : (x : Text) (b out : List ℕ) (n : ℕ) → LadderAnswer.Written n ≡ ladderAnswer x → out ≡ textLeft x b → (LineWritten.Written n ≡ wrote (ladderText x)) × (out ≡ textLeft (ladderText x) b)
-unfolding ladderAnswer ladderText wrote textLeft
-text-written (text t) b out n e o = (cc, o)
-text-written (refusal k) b out n e o = let z : ◌≡◌ {A = ℕ} 0 1 = cc in absurd (omega arith)
+pub text_written : (x : Text) (b out : List ℕ) (n : ℕ) → LadderAnswer.Written n ≡ ladder_answer x → out ≡ text_left x b → (LineWritten.Written n ≡ wrote (ladder_text x)) × (out ≡ text_left (ladder_text x) b)
+unfolding ladder_answer ladder_text wrote text_left
+text_written (text t) b out n e o = (cc, o)
+text_written (refusal k) b out n e o = let z : ◌≡◌ {A = ℕ} 0 1 = cc in absurd (omega arith)
 
-pub left-refused : (x : Text) (b out : List ℕ) (n : ℕ) → LadderAnswer.Refused n ≡ ladderAnswer x → out ≡ textLeft x b → (out ≡ b) × (ladderText x ≡ refusedBy (eqb n smallLadderBuffer) n)
-unfolding ladderAnswer ladderText textLeft
-left-refused (text t) b out n e o = let z : ◌≡◌ {A = ℕ} 0 1 = cc in absurd (omega arith)
-left-refused (refusal k) b out n e o = let z : k ≡ n = cc in (o, ap (λ (m : ℕ). refusedBy (eqb m smallLadderBuffer) m) z)
+pub left_refused : (x : Text) (b out : List ℕ) (n : ℕ) → LadderAnswer.Refused n ≡ ladder_answer x → out ≡ text_left x b → (out ≡ b) × (ladder_text x ≡ refused_by (eqb n small_ladder_buffer) n)
+unfolding ladder_answer ladder_text text_left
+left_refused (text t) b out n e o = let z : ◌≡◌ {A = ℕ} 0 1 = cc in absurd (omega arith)
+left_refused (refusal k) b out n e o = let z : k ≡ n = cc in (o, ap (λ (m : ℕ). refused_by (eqb m small_ladder_buffer) m) z)
 
-pub record-ladder-mirror : RecordLadderMirror
-unfolding configOf
-record-ladder-mirror r e i j k = ladder-own-mirror r.mid_price (configOf r) r.volatility r.current_time refl e i j k
+pub record_ladder_mirror : RecordLadderMirror
+unfolding config_of
+record_ladder_mirror r e i j k = ladder_own_mirror r.mid_price (config_of r) r.volatility r.current_time refl e i j k

@@ -1,11 +1,11 @@
 -- Whole texts of a kind, one after the other, in a lent buffer. Definitions only.
 use Rattle.std.specs.Prelude.{ℕ, zero, suc, ◌-◌, Bool, true, false, List, [], ◌++◌, length, leb}
-use Rattle.lines.specs.Refusals.{smallBuffer}
-use Rattle.ladders.specs.Refusals.{smallLadderBuffer}
+use Rattle.lines.specs.Refusals.{small_buffer}
+use Rattle.ladders.specs.Refusals.{small_ladder_buffer}
 use Rattle.buffers.specs.Over.{over}
-use Rattle.lines.specs.Lines.{hasRoom}
+use Rattle.lines.specs.Lines.{has_room}
 use Rattle.sheet.specs.Sheet.{Step, line, end, refuse}
-use Rattle.sheet.specs.Kinds.{roomOf, textAt}
+use Rattle.sheet.specs.Kinds.{room_of, text_at}
 use Rattle.sheet.specs.declared.text.Kind.{Kind}
 use Rattle.sheet.specs.declared.text.Kind.TheVariants as Kind
 use Rattle.sheet.specs.declared.fill.FillAnswer.{FillAnswer}
@@ -20,37 +20,37 @@ unfoldable pub after : List ℕ → Fill → Fill
 after t (up_to u next) = up_to (t ++ u) next
 
 -- the texts of a sheet from a place on that fit so many bytes: have these the room for any, the step at the place
-unfoldable pub fillBy : ℕ → Bool → Step → Kind → List ℕ → ℕ → ℕ → Fill
-fillBy zero m x k s at room = up_to [] at
-fillBy (suc j) false x k s at room = up_to [] at
-fillBy (suc j) true end k s at room = up_to [] at
-fillBy (suc j) true (refuse n) k s at room = up_to [] at
-fillBy (suc j) true (line t next) k s at room = let rest = room - length t in after t (fillBy j (leb (roomOf k) rest) (textAt k s next) k s next rest)
+unfoldable pub fill_by : ℕ → Bool → Step → Kind → List ℕ → ℕ → ℕ → Fill
+fill_by zero m x k s at room = up_to [] at
+fill_by (suc j) false x k s at room = up_to [] at
+fill_by (suc j) true end k s at room = up_to [] at
+fill_by (suc j) true (refuse n) k s at room = up_to [] at
+fill_by (suc j) true (line t next) k s at room = let rest = room - length t in after t (fill_by j (leb (room_of k) rest) (text_at k s next) k s next rest)
 
 -- each text takes the place a byte on at least, so as many turns as bytes are enough
 unfoldable pub fill : Kind → List ℕ → ℕ → ℕ → Fill
-fill k s at room = fillBy (length s) (leb (roomOf k) room) (textAt k s at) k s at room
+fill k s at room = fill_by (length s) (leb (room_of k) room) (text_at k s at) k s at room
 
 -- ---- what `fill_texts` answers, and what it leaves in the buffer: has that the room for a line, and for any text of the kind
-unfoldable pub filledIf : Bool → Bool → Fill → FillAnswer
-filledIf false m f = FillAnswer.Refused smallBuffer
-filledIf true false f = FillAnswer.Refused smallLadderBuffer
-filledIf true true (up_to t next) = FillAnswer.Filled (length t) next
+unfoldable pub filled_if : Bool → Bool → Fill → FillAnswer
+filled_if false m f = FillAnswer.Refused small_buffer
+filled_if true false f = FillAnswer.Refused small_ladder_buffer
+filled_if true true (up_to t next) = FillAnswer.Filled (length t) next
 
-unfoldable pub leftIf : Bool → Bool → Fill → List ℕ → List ℕ
-leftIf false m f b = b
-leftIf true false f b = b
-leftIf true true (up_to t next) b = over t b
+unfoldable pub left_if : Bool → Bool → Fill → List ℕ → List ℕ
+left_if false m f b = b
+left_if true false f b = b
+left_if true true (up_to t next) b = over t b
 
-abbrev pub filledAs : Kind → List ℕ → ℕ → List ℕ → FillAnswer
-filledAs k s at b = filledIf (hasRoom b) (leb (roomOf k) (length b)) (fill k s at (length b))
+abbrev pub filled_as : Kind → List ℕ → ℕ → List ℕ → FillAnswer
+filled_as k s at b = filled_if (has_room b) (leb (room_of k) (length b)) (fill k s at (length b))
 
-abbrev pub leftAs : Kind → List ℕ → ℕ → List ℕ → List ℕ
-leftAs k s at b = leftIf (hasRoom b) (leb (roomOf k) (length b)) (fill k s at (length b)) b
+abbrev pub left_as : Kind → List ℕ → ℕ → List ℕ → List ℕ
+left_as k s at b = left_if (has_room b) (leb (room_of k) (length b)) (fill k s at (length b)) b
 
 -- the lines: `fill_lines`
 abbrev pub filled : List ℕ → ℕ → List ℕ → FillAnswer
-filled s at b = filledAs Kind.Line s at b
+filled s at b = filled_as Kind.Line s at b
 
-abbrev pub leftIn : List ℕ → ℕ → List ℕ → List ℕ
-leftIn s at b = leftAs Kind.Line s at b
+abbrev pub left_in : List ℕ → ℕ → List ℕ → List ℕ
+left_in s at b = left_as Kind.Line s at b

@@ -1,29 +1,29 @@
 -- What the crate's own functions hand each other. No public contract cites this file. Definitions only.
 use Rattle.std.specs.Prelude.{ℕ, List}
-use Rattle.record.specs.Record.{readAs}
+use Rattle.record.specs.Record.{read_as}
 use Rattle.lines.specs.Lines.{Text}
 use Rattle.lines.specs.declared.line.LineWritten.{LineWritten}
 use Rattle.lines.specs.declared.line.LineWritten.TheVariants as LineWritten
 use Rattle.sheet.specs.declared.line.LineAnswer.{LineAnswer}
 use Rattle.sheet.specs.declared.line.LineAnswer.TheVariants as LineAnswer
-use Rattle.sheet.specs.Sheet.{lineText, Step, stepAt}
-use Rattle.sheet.specs.Ladders.{recordLadder}
-use Rattle.sheet.specs.Horizon.{planText}
-use Rattle.sheet.specs.Kinds.{isFlat}
+use Rattle.sheet.specs.Sheet.{line_text, Step, step_at}
+use Rattle.sheet.specs.Ladders.{record_ladder}
+use Rattle.sheet.specs.Horizon.{plan_text}
+use Rattle.sheet.specs.Kinds.{is_flat}
 use Rattle.record.specs.declared.record.Record.{Record}
 use Rattle.sheet.specs.declared.text.Kind.{Kind}
 use Rattle.sheet.specs.declared.text.Kind.TheVariants as Kind
 
 -- a record's line, its ladder or its plan, for a buffer of so many bytes
-unfoldable pub recordText : Kind → ℕ → Record → Text
-recordText Kind.Line room r = lineText r
-recordText Kind.Ladder room r = recordLadder room r
-recordText Kind.Plan room r = planText r
+unfoldable pub record_text : Kind → ℕ → Record → Text
+record_text Kind.Line room r = line_text r
+record_text Kind.Ladder room r = record_ladder room r
+record_text Kind.Plan room r = plan_text r
 
-abbrev pub textIn : Kind → ℕ → List ℕ → ℕ → Step
-textIn k room s at = stepAt (recordText k room) s at (readAs (isFlat k) s at)
+abbrev pub text_in : Kind → ℕ → List ℕ → ℕ → Step
+text_in k room s at = step_at (record_text k room) s at (read_as (is_flat k) s at)
 
 -- a step's answer, by that of a writer
-unfoldable pub steppedBy : LineWritten → ℕ → LineAnswer
-steppedBy (LineWritten.Written n) next = LineAnswer.Written n next
-steppedBy (LineWritten.Refused k) next = LineAnswer.Refused k
+unfoldable pub stepped_by : LineWritten → ℕ → LineAnswer
+stepped_by (LineWritten.Written n) next = LineAnswer.Written n next
+stepped_by (LineWritten.Refused k) next = LineAnswer.Refused k

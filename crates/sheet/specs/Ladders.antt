@@ -1,42 +1,42 @@
 -- Change requests 4 and 7: the ladders of a sheet's records. Definitions only.
 use Rattle.std.specs.Prelude.{◌≡◌, ℕ, ◌+◌, ◌*◌, Bool, true, false, List, eqb}
-use Rattle.model.specs.Model.{checkCall}
+use Rattle.model.specs.Model.{check_call}
 use Rattle.elementary.specs.declared.Check.{Check}
 use Rattle.elementary.specs.declared.Check.TheVariants as Check
-use Rattle.record.specs.Record.{configOf, readAs}
-use Rattle.ladders.specs.Refusals.{smallLadderBuffer}
-use Rattle.ladders.specs.Ladder.{ladder, ladderFor, LinesFace}
-use Rattle.lines.specs.Lines.{refusalLine, Text, text, refusal}
-use Rattle.sheet.specs.Sheet.{Step, stepAt}
+use Rattle.record.specs.Record.{config_of, read_as}
+use Rattle.ladders.specs.Refusals.{small_ladder_buffer}
+use Rattle.ladders.specs.Ladder.{ladder, ladder_for, LinesFace}
+use Rattle.lines.specs.Lines.{refusal_line, Text, text, refusal}
+use Rattle.sheet.specs.Sheet.{Step, step_at}
 use Rattle.record.specs.declared.record.Record.{Record}
 
 -- ---- a record's ladder, its holding left aside: what refuses it as a whole has a line, but for the buffer's own 21
-unfoldable pub refusedBy : Bool → ℕ → Text
-refusedBy true n = refusal n
-refusedBy false n = text (refusalLine n)
+unfoldable pub refused_by : Bool → ℕ → Text
+refused_by true n = refusal n
+refused_by false n = text (refusal_line n)
 
-unfoldable pub ladderText : Text → Text
-ladderText (text t) = text t
-ladderText (refusal n) = refusedBy (eqb n smallLadderBuffer) n
+unfoldable pub ladder_text : Text → Text
+ladder_text (text t) = text t
+ladder_text (refusal n) = refused_by (eqb n small_ladder_buffer) n
 
-unfoldable pub recordLadder : ℕ → Record → Text
-recordLadder room r = ladderText (ladderFor r.mid_price (configOf r) r.volatility r.current_time room)
+unfoldable pub record_ladder : ℕ → Record → Text
+record_ladder room r = ladder_text (ladder_for r.mid_price (config_of r) r.volatility r.current_time room)
 
 -- that of a buffer with room for any: no refusal by 21
-unfoldable pub wholeBy : Check → List ℕ → List ℕ
-wholeBy (Check.Refused n) t = refusalLine n
-wholeBy Check.Passes t = t
+unfoldable pub whole_by : Check → List ℕ → List ℕ
+whole_by (Check.Refused n) t = refusal_line n
+whole_by Check.Passes t = t
 
-unfoldable pub wholeLadder : Record → List ℕ
-wholeLadder r =
-    let c = configOf r in
-    wholeBy (checkCall r.mid_price c r.volatility r.current_time) (ladder r.mid_price c r.volatility r.current_time)
+unfoldable pub whole_ladder : Record → List ℕ
+whole_ladder r =
+    let c = config_of r in
+    whole_by (check_call r.mid_price c r.volatility r.current_time) (ladder r.mid_price c r.volatility r.current_time)
 
 -- at a place, with a buffer of so many bytes
-unfoldable pub ladderAt : ℕ → List ℕ → ℕ → Step
-ladderAt room s at = stepAt (recordLadder room) s at (readAs true s at)
+unfoldable pub ladder_at : ℕ → List ℕ → ℕ → Step
+ladder_at room s at = step_at (record_ladder room) s at (read_as true s at)
 
 -- that of a stored record with itself
 abbrev pub RecordLadderMirror : Type 0
-RecordLadderMirror = (r : Record) → let c = configOf r in checkCall r.mid_price c r.volatility r.current_time ≡ Check.Passes → (i j : ℕ) → i + j ≡ 2 * r.max_inventory_lots
+RecordLadderMirror = (r : Record) → let c = config_of r in check_call r.mid_price c r.volatility r.current_time ≡ Check.Passes → (i j : ℕ) → i + j ≡ 2 * r.max_inventory_lots
     → LinesFace r.mid_price c c r.volatility r.current_time i j

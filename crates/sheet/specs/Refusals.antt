@@ -2,5 +2,5 @@
 use Rattle.std.specs.Prelude.{ℕ}
 
 -- a sheet over 65,536 bytes
-abbrev pub longSheet : ℕ
-longSheet = 9
+abbrev pub long_sheet : ℕ
+long_sheet = 9

@@ -1,7 +1,7 @@
 // Puts whole texts into a lent buffer.
 ghost use Rattle.std.specs.Prelude.{◌≡◌};
-ghost use Rattle.sheet.specs.Kinds.{roomOf};
-ghost use Rattle.sheet.specs.Fill.{filledAs, leftAs, filled, leftIn};
+ghost use Rattle.sheet.specs.Kinds.{room_of};
+ghost use Rattle.sheet.specs.Fill.{filled_as, left_as, filled, left_in};
 
 use crate::line::LineAnswer;
 use crate::text::{Kind, next_text};
@@ -18,8 +18,8 @@ pub enum FillAnswer {
 }
 
 // The room for any text of a kind.
-fn room_of(kind: Kind) -> usize
-    ensures { result ≡ roomOf kind }
+fn room_of_lem(kind: Kind) -> usize
+    ensures { result ≡ room_of kind }
 {
     match kind {
         Kind::Line => LEAST_ROOM,
@@ -32,13 +32,13 @@ fn room_of(kind: Kind) -> usize
 // start, as many as fit: while there is room for any. Refused by 8, and by 21 where the buffer has
 // less than the room for any ladder, which leaves the buffer as it is.
 pub fn fill_texts(sheet: &[u8], at: usize, out: &mut [u8], kind: Kind) -> FillAnswer
-    ensures value { result ≡ filledAs kind sheet.now at out.old }
-    ensures out_after { out.new ≡ leftAs kind sheet.now at out.old }
+    ensures value { result ≡ filled_as kind sheet.now at out.old }
+    ensures out_after { out.new ≡ left_as kind sheet.now at out.old }
 {
     if out.len() < LEAST_ROOM {
         return FillAnswer::Refused(SMALL_BUFFER);
     }
-    let room = room_of(kind);
+    let room = room_of_lem(kind);
     if out.len() < room {
         return FillAnswer::Refused(SMALL_LADDER_BUFFER);
     }
@@ -57,7 +57,7 @@ pub fn fill_texts(sheet: &[u8], at: usize, out: &mut [u8], kind: Kind) -> FillAn
 // The same of the lines: refused by 8, which leaves the buffer as it is.
 pub fn fill_lines(sheet: &[u8], at: usize, out: &mut [u8]) -> FillAnswer
     ensures value { result ≡ filled sheet.now at out.old }
-    ensures out_after { out.new ≡ leftIn sheet.now at out.old }
+    ensures out_after { out.new ≡ left_in sheet.now at out.old }
 {
     fill_texts(sheet, at, out, Kind::Line)
 }

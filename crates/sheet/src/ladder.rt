@@ -1,8 +1,8 @@
 // Writes the ladder of a record.
 ghost use Rattle.std.specs.Prelude.{◌≡◌, ◌≤◌, length};
-ghost use Rattle.lines.specs.Lines.{leastRoom, hasRoom, wrote, textLeft};
+ghost use Rattle.lines.specs.Lines.{least_room, has_room, wrote, text_left};
 ghost use Rattle.sheet.specs.Sheet.{answered, left};
-ghost use Rattle.sheet.specs.Ladders.{recordLadder, ladderAt};
+ghost use Rattle.sheet.specs.Ladders.{record_ladder, ladder_at};
 
 use crate::line::LineAnswer;
 use crate::text::{Kind, next_text};
@@ -13,9 +13,9 @@ use record::{Record, config_of};
 
 // The ladder of a record, or the line of what refuses it as a whole: refused by 21.
 pub(crate) fn write_record_ladder(out: &mut [u8], r: Record) -> LineWritten
-    requires { leastRoom ≤ length out.old }
-    ensures value { result ≡ wrote (recordLadder (length out.old) r) }
-    ensures out_after { out.new ≡ textLeft (recordLadder (length out.old) r) out.old }
+    requires { least_room ≤ length out.old }
+    ensures value { result ≡ wrote (record_ladder (length out.old) r) }
+    ensures out_after { out.new ≡ text_left (record_ladder (length out.old) r) out.old }
 {
     match write_ladder(r.mid_price, config_of(r), r.volatility, r.current_time, out) {
         LadderAnswer::Written(n) => LineWritten::Written(n),
@@ -32,8 +32,8 @@ pub(crate) fn write_record_ladder(out: &mut [u8], r: Record) -> LineWritten
 // refuses it: refused by 8, and by 21 where the buffer has less than 64 bytes for each line, which
 // leaves the buffer as it is.
 pub fn next_ladder(sheet: &[u8], at: usize, out: &mut [u8]) -> LineAnswer
-    ensures value { result ≡ answered (hasRoom out.old) (ladderAt (length out.old) sheet.now at) }
-    ensures out_after { out.new ≡ left (hasRoom out.old) (ladderAt (length out.old) sheet.now at) out.old }
+    ensures value { result ≡ answered (has_room out.old) (ladder_at (length out.old) sheet.now at) }
+    ensures out_after { out.new ≡ left (has_room out.old) (ladder_at (length out.old) sheet.now at) out.old }
 {
     next_text(sheet, at, out, Kind::Ladder)
 }

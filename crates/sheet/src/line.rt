@@ -1,7 +1,7 @@
 // Writes the line of a record.
 ghost use Rattle.std.specs.Prelude.{◌≡◌};
-ghost use Rattle.lines.specs.Lines.{hasRoom, line_for, wrote, textLeft};
-ghost use Rattle.sheet.specs.Sheet.{recordLine, line_at, answered, left};
+ghost use Rattle.lines.specs.Lines.{has_room, line_for, wrote, text_left};
+ghost use Rattle.sheet.specs.Sheet.{record_line, line_at, answered, left};
 
 use crate::text::{Kind, next_text};
 use lines::{LineWritten, write_answer};
@@ -21,8 +21,8 @@ pub enum LineAnswer {
 
 // The line of a record.
 pub(crate) fn write_record(line: &mut [u8], r: Record) -> LineWritten
-    ensures value { result ≡ wrote (line_for (recordLine r) line.old) }
-    ensures line_after { line.new ≡ textLeft (line_for (recordLine r) line.old) line.old }
+    ensures value { result ≡ wrote (line_for (record_line r) line.old) }
+    ensures line_after { line.new ≡ text_left (line_for (record_line r) line.old) line.old }
 {
     let answer = GLFTStrategy::exact_quotes(
         r.mid_price,
@@ -36,8 +36,8 @@ pub(crate) fn write_record(line: &mut [u8], r: Record) -> LineWritten
 
 // Writes the line at a place of a sheet: refused by 8, which leaves the buffer as it is.
 pub fn next_line(sheet: &[u8], at: usize, line: &mut [u8]) -> LineAnswer
-    ensures value { result ≡ answered (hasRoom line.old) (line_at sheet.now at) }
-    ensures line_after { line.new ≡ left (hasRoom line.old) (line_at sheet.now at) line.old }
+    ensures value { result ≡ answered (has_room line.old) (line_at sheet.now at) }
+    ensures line_after { line.new ≡ left (has_room line.old) (line_at sheet.now at) line.old }
 {
     next_text(sheet, at, line, Kind::Line)
 }

@@ -1,9 +1,9 @@
 // The text that stands for a record of a sheet: its line, its ladder or its plan.
 ghost use Rattle.std.specs.Prelude.{◌≡◌, ◌≤◌, length};
-ghost use Rattle.lines.specs.Lines.{leastRoom, hasRoom, wrote, textLeft};
+ghost use Rattle.lines.specs.Lines.{least_room, has_room, wrote, text_left};
 ghost use Rattle.sheet.specs.Sheet.{answered, left};
-ghost use Rattle.sheet.specs.Kinds.{isFlat};
-ghost use Rattle.sheet.specs.Inner.{recordText, textIn, steppedBy};
+ghost use Rattle.sheet.specs.Kinds.{is_flat};
+ghost use Rattle.sheet.specs.Inner.{record_text, text_in, stepped_by};
 
 use crate::horizon::write_record_plan;
 use crate::ladder::write_record_ladder;
@@ -23,7 +23,7 @@ pub enum Kind {
 
 // Whether a record is read without its holding: for its ladder alone.
 fn is_flat(kind: Kind) -> bool
-    ensures { result ≡ isFlat kind }
+    ensures { result ≡ is_flat kind }
 {
     match kind {
         Kind::Line => false,
@@ -34,9 +34,9 @@ fn is_flat(kind: Kind) -> bool
 
 // A record's text.
 fn write_text(out: &mut [u8], r: Record, kind: Kind) -> LineWritten
-    requires { leastRoom ≤ length out.old }
-    ensures value { result ≡ wrote (recordText kind (length out.old) r) }
-    ensures out_after { out.new ≡ textLeft (recordText kind (length out.old) r) out.old }
+    requires { least_room ≤ length out.old }
+    ensures value { result ≡ wrote (record_text kind (length out.old) r) }
+    ensures out_after { out.new ≡ text_left (record_text kind (length out.old) r) out.old }
 {
     match kind {
         Kind::Line => write_record(out, r),
@@ -47,7 +47,7 @@ fn write_text(out: &mut [u8], r: Record, kind: Kind) -> LineWritten
 
 // A step's answer, by that of a writer.
 fn stepped(written: LineWritten, next: usize) -> LineAnswer
-    ensures { result ≡ steppedBy written next }
+    ensures { result ≡ stepped_by written next }
 {
     match written {
         LineWritten::Written(n) => LineAnswer::Written(n, next),
@@ -58,8 +58,8 @@ fn stepped(written: LineWritten, next: usize) -> LineAnswer
 // Writes what stands for the record at a place of a sheet, a text of some kind: refused by 8 and 21,
 // which leaves the buffer as it is.
 pub(crate) fn next_text(sheet: &[u8], at: usize, out: &mut [u8], kind: Kind) -> LineAnswer
-    ensures value { result ≡ answered (hasRoom out.old) (textIn kind (length out.old) sheet.now at) }
-    ensures out_after { out.new ≡ left (hasRoom out.old) (textIn kind (length out.old) sheet.now at) out.old }
+    ensures value { result ≡ answered (has_room out.old) (text_in kind (length out.old) sheet.now at) }
+    ensures out_after { out.new ≡ left (has_room out.old) (text_in kind (length out.old) sheet.now at) out.old }
 {
     if out.len() < LEAST_ROOM {
         return LineAnswer::Refused(SMALL_BUFFER);

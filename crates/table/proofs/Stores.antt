@@ -9,15 +9,15 @@ use lib.ListN.{length, get_or, set, take, drop, replicate, length-set, length-ma
 use lib.Seq.{length-take-le, take_all, take_at, take-suc, drop_at, drop-cons, drop-drop, set_at, append_snoc, sets-eq}
 use borrow.Rule.Slice.PartMut.{put_mid}
 use lib.Ieee.{Float, nan}
-use Rattle.elementary.specs.Checks.{verdict, first_of, firstFailing, checkOf}
+use Rattle.elementary.specs.Checks.{verdict, first_of, first_failing, check_of}
 use Rattle.elementary.specs.declared.Check.TheVariants as Check
 use Rattle.plan.specs.declared.RunInput.{RunInput}
 use Rattle.vector.specs.declared.ValueVector.{ValueVector}
 use Rattle.distances.specs.Distances.{lent}
-use Rattle.table.specs.Refusals.{smallTable}
-use Rattle.table.specs.Places.{tableRoom, rowsKept, row_at}
-use Rattle.table.specs.Table.{number, filled, next, bits, put_at, rowNumbers, with_row, clearedIf, clearedBy, cleared}
-use Rattle.table.proofs.Parts.{length-row}
+use Rattle.table.specs.Refusals.{small_table}
+use Rattle.table.specs.Places.{table_room, rows_kept, row_at}
+use Rattle.table.specs.Table.{number, filled, next, bits, put_at, row_numbers, with_row, cleared_if, cleared_by, cleared}
+use Rattle.table.proofs.Parts.{length_row}
 
 -- ---- a list that came as l, after i of as many numbers as it has are stored
 pub record Stored (l s out : List ℕ) (i : ℕ) : Type 0 where
@@ -26,8 +26,8 @@ pub record Stored (l s out : List ℕ) (i : ℕ) : Type 0 where
   pub size : length out ≡ length l
   pub is : out ≡ take i s ++ drop i l
 
-pub stored-none : (l s : List ℕ) → length l ≡ length s → Stored l s l 0
-stored-none l s e = record { few = omega arith; same = e; size = refl; is = refl }
+pub stored_none : (l s : List ℕ) → length l ≡ length s → Stored l s l 0
+stored_none l s e = record { few = omega arith; same = e; size = refl; is = refl }
 
 pub stored_more : (l s out : List ℕ) (i v : ℕ) → Stored l s out i → i < length out → v ≡ number s i → Stored l s (set out i v) (i + 1)
 stored_more l s out i v d h e =
@@ -40,27 +40,27 @@ stored_more l s out i v d h e =
           (sym (append_snoc (take i s) (number s i) (drop (suc i) l)));
     }
 
-pub stored-all : (l s out : List ℕ) (i : ℕ) → Stored l s out i → length out ≤ i → out ≡ s
-stored-all l s out i d h = d.is ∙ rw (take_all i s (omega arith), drop_of_length-le l {i = i} (omega arith), append-nil)
+pub stored_all : (l s out : List ℕ) (i : ℕ) → Stored l s out i → length out ≤ i → out ≡ s
+stored_all l s out i d h = d.is ∙ rw (take_all i s (omega arith), drop_of_length-le l {i = i} (omega arith), append-nil)
 
 -- zeros
-pub zeros-none : (l : List ℕ) → Stored l (replicate (length l) 0) l 0
-zeros-none l = stored-none l (replicate (length l) 0) (sym (length-replicate (length l) 0))
+pub zeros_none : (l : List ℕ) → Stored l (replicate (length l) 0) l 0
+zeros_none l = stored_none l (replicate (length l) 0) (sym (length-replicate (length l) 0))
 
-pub zeros-more : (l out : List ℕ) (i : ℕ) → Stored l (replicate (length l) 0) out i → i < length out → Stored l (replicate (length l) 0) (set out i 0) (i + 1)
-zeros-more l out i d h = stored_more l (replicate (length l) 0) out i 0 d h (sym (get_or-replicate (length l) i 0 0 (omega arith)))
+pub zeros_more : (l out : List ℕ) (i : ℕ) → Stored l (replicate (length l) 0) out i → i < length out → Stored l (replicate (length l) 0) (set out i 0) (i + 1)
+zeros_more l out i d h = stored_more l (replicate (length l) 0) out i 0 d h (sym (get_or-replicate (length l) i 0 0 (omega arith)))
 
 -- the bits of floats
-pub number-bits : (l : List Float) (i : ℕ) → i < length l → number (map bits l) i ≡ bits (get_or l i nan)
-number-bits [] i h = absurd (omega arith)
-number-bits (x ∷ l) zero h = refl
-number-bits (x ∷ l) (suc i) h = number-bits l i (omega arith)
+pub number_bits : (l : List Float) (i : ℕ) → i < length l → number (map bits l) i ≡ bits (get_or l i nan)
+number_bits [] i h = absurd (omega arith)
+number_bits (x ∷ l) zero h = refl
+number_bits (x ∷ l) (suc i) h = number_bits l i (omega arith)
 
 pub bits_none : (l : List ℕ) (f : List Float) → length l ≡ length f → Stored l (map bits f) l 0
-bits_none l f e = stored-none l (map bits f) (e ∙ sym (length-map f bits))
+bits_none l f e = stored_none l (map bits f) (e ∙ sym (length-map f bits))
 
-pub bits-more : (l : List ℕ) (f : List Float) (out : List ℕ) (i v : ℕ) → Stored l (map bits f) out i → i < length out → v ≡ bits (get_or f i nan) → Stored l (map bits f) (set out i v) (i + 1)
-bits-more l f out i v d h e = stored_more l (map bits f) out i v d h (e ∙ sym (number-bits f i (omega (arith, length-map f bits))))
+pub bits_more : (l : List ℕ) (f : List Float) (out : List ℕ) (i v : ℕ) → Stored l (map bits f) out i → i < length out → v ≡ bits (get_or f i nan) → Stored l (map bits f) (set out i v) (i + 1)
+bits_more l f out i v d h e = stored_more l (map bits f) out i v d h (e ∙ sym (number_bits f i (omega (arith, length-map f bits))))
 
 -- ---- a part that was lent comes back
 pub put_back : (i n : ℕ) (u t : List ℕ) → length u ≡ n → put_mid i (i + n - i) t u ≡ put_at i u t
@@ -79,23 +79,23 @@ seven l u v s n b e f g h k ku =
 
 pub row_made : (x : RunInput) (s n : ℕ) (w o : List Float) (l u v : List ℕ) (e f g h : ℕ) → length l ≡ 809 → length w ≡ 401
     → u ≡ map bits w → v ≡ map bits o → e ≡ bits x.alpha → f ≡ bits x.beta → g ≡ bits x.eta → h ≡ bits x.tau
-    → put_mid 408 401 (put_mid 7 401 (set (set (set (set (set (set (set l 0 s) 1 n) 2 x.bound) 3 e) 4 f) 5 g) 6 h) u) v ≡ rowNumbers x s (lent n w o)
-unfolding rowNumbers
+    → put_mid 408 401 (put_mid 7 401 (set (set (set (set (set (set (set l 0 s) 1 n) 2 x.bound) 3 e) 4 f) 5 g) 6 h) u) v ≡ row_numbers x s (lent n w o)
+unfolding row_numbers
 row_made x s n w o l u v e f g h k kw eu ev ee ef eg eh =
     seven l u v s n x.bound e f g h k (ap length eu ∙ length-map w bits ∙ kw) ∙ rw (eu, ev, ee, ef, eg, eh)
 
 -- ---- a row more: the two counts, and the row's part
-pub row_put : (x : RunInput) (s : ℕ) (v : ValueVector) (t u : List ℕ) (at f n : ℕ) → at ≡ row_at (next t) → f ≡ min rowsKept (suc (filled t)) → n ≡ suc (next t) % rowsKept
-    → length v.w ≡ 401 → length v.log_offset ≡ 401 → u ≡ rowNumbers x s v → put_mid at (at + 809 - at) (set (set t 0 f) 1 n) u ≡ with_row x s v t
+pub row_put : (x : RunInput) (s : ℕ) (v : ValueVector) (t u : List ℕ) (at f n : ℕ) → at ≡ row_at (next t) → f ≡ min rows_kept (suc (filled t)) → n ≡ suc (next t) % rows_kept
+    → length v.w ≡ 401 → length v.log_offset ≡ 401 → u ≡ row_numbers x s v → put_mid at (at + 809 - at) (set (set t 0 f) 1 n) u ≡ with_row x s v t
 unfolding with_row
-row_put x s v t u at f n ea ef en kw ko eu = put_back at 809 u (set (set t 0 f) 1 n) (ap length eu ∙ length-row x s v kw ko) ∙ rw (ea, ef, en, eu)
+row_put x s v t u at f n ea ef en kw ko eu = put_back at 809 u (set (set t 0 f) 1 n) (ap length eu ∙ length_row x s v kw ko) ∙ rw (ea, ef, en, eu)
 
 -- ---- clearing
 module _ (t : List ℕ) where
-  pub clear-passes : (out : List ℕ) → tableRoom ≤ length t → out ≡ replicate (length t) 0 → (Check.Passes ≡ clearedBy t) × (out ≡ cleared t)
-  unfolding checkOf firstFailing first_of verdict clearedIf
-  clear-passes out h e = rw (le-leb tableRoom (length t) h) (refl, e)
+  pub clear_passes : (out : List ℕ) → table_room ≤ length t → out ≡ replicate (length t) 0 → (Check.Passes ≡ cleared_by t) × (out ≡ cleared t)
+  unfolding check_of first_failing first_of verdict cleared_if
+  clear_passes out h e = rw (le-leb table_room (length t) h) (refl, e)
 
-  pub clear-refused : length t < tableRoom → (Check.Refused smallTable ≡ clearedBy t) × (t ≡ cleared t)
-  unfolding checkOf firstFailing first_of verdict clearedIf
-  clear-refused h = rw (lt-leb tableRoom (length t) h) (refl, refl)
+  pub clear_refused : length t < table_room → (Check.Refused small_table ≡ cleared_by t) × (t ≡ cleared t)
+  unfolding check_of first_failing first_of verdict cleared_if
+  clear_refused h = rw (lt-leb table_room (length t) h) (refl, refl)

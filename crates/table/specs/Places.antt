@@ -2,30 +2,30 @@
 use Rattle.std.specs.Prelude.{ℕ, ◌+◌, ◌*◌}
 
 -- the fewest numbers of a table
-abbrev pub tableRoom : ℕ
-tableRoom = 4096
+abbrev pub table_room : ℕ
+table_room = 4096
 
 -- how many vectors it keeps
-abbrev pub rowsKept : ℕ
-rowsKept = 4
+abbrev pub rows_kept : ℕ
+rows_kept = 4
 
 -- ---- two counts, and then the rows: seven numbers, 401 weights and 401 offsets each
 -- the count of filled rows, and the row that a new vector takes
-abbrev pub filledAt : ℕ
-filledAt = 0
+abbrev pub filled_at : ℕ
+filled_at = 0
 
 abbrev pub next_at : ℕ
 next_at = 1
 
-abbrev pub rowSize : ℕ
-rowSize = 809
+abbrev pub row_size : ℕ
+row_size = 809
 
 abbrev pub row_at : ℕ → ℕ
-row_at r = 2 + r * rowSize
+row_at r = 2 + r * row_size
 
 -- ---- in row r: the steps that its vector took, the vector's length, and what it was made from
-abbrev pub stepsAt : ℕ → ℕ
-stepsAt r = row_at r
+abbrev pub steps_at : ℕ → ℕ
+steps_at r = row_at r
 
 abbrev pub length_at : ℕ → ℕ
 length_at r = row_at r + 1
@@ -33,21 +33,21 @@ length_at r = row_at r + 1
 abbrev pub bound_at : ℕ → ℕ
 bound_at r = row_at r + 2
 
-abbrev pub alphaAt : ℕ → ℕ
-alphaAt r = row_at r + 3
+abbrev pub alpha_at : ℕ → ℕ
+alpha_at r = row_at r + 3
 
-abbrev pub betaAt : ℕ → ℕ
-betaAt r = row_at r + 4
+abbrev pub beta_at : ℕ → ℕ
+beta_at r = row_at r + 4
 
-abbrev pub etaAt : ℕ → ℕ
-etaAt r = row_at r + 5
+abbrev pub eta_at : ℕ → ℕ
+eta_at r = row_at r + 5
 
-abbrev pub tauAt : ℕ → ℕ
-tauAt r = row_at r + 6
+abbrev pub tau_at : ℕ → ℕ
+tau_at r = row_at r + 6
 
 -- weight i and offset i, from 0 to 400
-abbrev pub weightAt : ℕ → ℕ → ℕ
-weightAt r i = row_at r + 7 + i
+abbrev pub weight_at : ℕ → ℕ → ℕ
+weight_at r i = row_at r + 7 + i
 
-abbrev pub offsetAt : ℕ → ℕ → ℕ
-offsetAt r i = row_at r + 408 + i
+abbrev pub offset_at : ℕ → ℕ → ℕ
+offset_at r i = row_at r + 408 + i

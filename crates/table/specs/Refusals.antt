@@ -2,9 +2,9 @@
 use Rattle.std.specs.Prelude.{ℕ}
 
 -- a table of fewer than 4,096 numbers
-abbrev pub smallTable : ℕ
-smallTable = 23
+abbrev pub small_table : ℕ
+small_table = 23
 
 -- a count of filled rows, a next row, or a filled row's steps, bound or length that no call leaves
-abbrev pub badTable : ℕ
-badTable = 24
+abbrev pub bad_table : ℕ
+bad_table = 24

@@ -6,12 +6,12 @@ mod rows;
 mod writing;
 
 ghost use Rattle.std.specs.Prelude.{◌≡◌, true, ◌≤◌, length};
-ghost use Rattle.quote.specs.Quotes.{quotesByAnswer};
-ghost use Rattle.distances.specs.Reading.{answerFrom};
-ghost use Rattle.vector.specs.Values.{valueVector};
+ghost use Rattle.quote.specs.Quotes.{quotes_by_answer};
+ghost use Rattle.distances.specs.Reading.{answer_from};
+ghost use Rattle.vector.specs.Values.{value_vector};
 ghost use Rattle.model.specs.declared.ModelAnswer.TheVariants as ModelAnswer;
-ghost use Rattle.table.specs.Places.{tableRoom};
-ghost use Rattle.table.specs.Table.{keptIn, usedWith, tableUsed, clearedBy, cleared, tableOk};
+ghost use Rattle.table.specs.Places.{table_room};
+ghost use Rattle.table.specs.Table.{kept_in, used_with, table_used, cleared_by, cleared, table_ok};
 ghost use Rattle.table.specs.declared.rows.Found.TheVariants as Found;
 
 use elementary::Check;
@@ -23,7 +23,7 @@ use vector::RunInput;
 
 // Sets every number of a table to 0: refused by 23, and by nothing else.
 pub fn clear_table(table: &mut [u64]) -> Check
-    ensures value { result ≡ clearedBy table.old }
+    ensures value { result ≡ cleared_by table.old }
     ensures table_after { table.new ≡ cleared table.old }
 {
     if TABLE_ROOM <= table.len() {
@@ -43,9 +43,9 @@ fn made_quotes(
     q: i64,
     input: RunInput,
 ) -> ExactQuotes
-    requires { (tableRoom ≤ length table.old) × (tableOk table.old ≡ true) }
-    ensures value { result ≡ quotesByAnswer mid least (answerFrom (valueVector input) k base q) }
-    ensures table_after { table.new ≡ keptIn Found.Nothing result input (valueVector input).vector table.old }
+    requires { (table_room ≤ length table.old) × (table_ok table.old ≡ true) }
+    ensures value { result ≡ quotes_by_answer mid least (answer_from (value_vector input) k base q) }
+    ensures table_after { table.new ≡ kept_in Found.Nothing result input (value_vector input).vector table.old }
 {
     let a = vector::value_vector(input);
     let outcome = a.outcome;
@@ -78,9 +78,9 @@ fn made_quotes(
 
 // The quotes of a model at q lots: from the first row that agrees, or from a vector that is made.
 fn model_quotes(table: &mut [u64], mid: i64, least: i64, m: Model, q: i64, tau: f64) -> ExactQuotes
-    requires { (tableRoom ≤ length table.old) × (tableOk table.old ≡ true) }
-    ensures value { result ≡ (usedWith (ModelAnswer.Model m q) mid least tau table.old).reply }
-    ensures table_after { table.new ≡ (usedWith (ModelAnswer.Model m q) mid least tau table.old).table }
+    requires { (table_room ≤ length table.old) × (table_ok table.old ≡ true) }
+    ensures value { result ≡ (used_with (ModelAnswer.Model m q) mid least tau table.old).reply }
+    ensures table_after { table.new ≡ (used_with (ModelAnswer.Model m q) mid least tau table.old).table }
 {
     let input = model::run_input(m, tau);
     match rows::find(table, input) {
@@ -100,8 +100,8 @@ pub fn table_quotes(
     volatility: i64,
     current_time: u64,
 ) -> ExactQuotes
-    ensures value { result ≡ (tableUsed table.old mid_price inventory config volatility current_time).reply }
-    ensures table_after { table.new ≡ (tableUsed table.old mid_price inventory config volatility current_time).table }
+    ensures value { result ≡ (table_used table.old mid_price inventory config volatility current_time).reply }
+    ensures table_after { table.new ≡ (table_used table.old mid_price inventory config volatility current_time).table }
 {
     match rows::check_table(table) {
         Check::Passes => {}

@@ -1,10 +1,10 @@
 // The rows of a table as they stand: the check of 24, the first row that agrees, and its answer.
 ghost use Rattle.std.specs.Prelude.{◌≡◌, true, ◌≤◌, length};
-ghost use Rattle.elementary.specs.Checks.{firstFailing, checkOf};
+ghost use Rattle.elementary.specs.Checks.{first_failing, check_of};
 ghost use Rattle.operator.specs.Vectors.{every};
-ghost use Rattle.distances.specs.Reading.{answerFrom};
-ghost use Rattle.table.specs.Places.{tableRoom, rowsKept};
-ghost use Rattle.table.specs.Table.{filled, countsOk, row_ok, tableOk, tableChecks, agrees, found, rowVector};
+ghost use Rattle.distances.specs.Reading.{answer_from};
+ghost use Rattle.table.specs.Places.{table_room, rows_kept};
+ghost use Rattle.table.specs.Table.{filled, counts_ok, row_ok, table_ok, table_checks, agrees, found, row_vector};
 
 use crate::places::{
     ALPHA, BETA, BOUND, ETA, FILLED, LENGTH, NEXT, OFFSETS, ROW, ROWS, STEPS, TABLE_ROOM, TAU,
@@ -24,14 +24,14 @@ pub(crate) enum Found {
 
 // Whether the two counts are such as calls leave them.
 fn counts_fit(filled: u64, next: u64) -> bool
-    ensures { result ≡ countsOk filled next }
+    ensures { result ≡ counts_ok filled next }
 {
     (filled <= ROWS) & ((next <= 3) & ((ROWS <= filled) | (next == filled)))
 }
 
 // Whether a row's steps, bound and length are.
 fn row_fits(table: &[u64], r: usize) -> bool
-    requires { (tableRoom ≤ length table.now) × (r ≤ 3) }
+    requires { (table_room ≤ length table.now) × (r ≤ 3) }
     ensures { result ≡ row_ok table.now r }
 {
     let at = row_at(r);
@@ -45,7 +45,7 @@ fn row_fits(table: &[u64], r: usize) -> bool
 
 // Whether those of the first n rows are.
 fn rows_fit(table: &[u64], n: usize) -> bool
-    requires { (tableRoom ≤ length table.now) × (n ≤ rowsKept) }
+    requires { (table_room ≤ length table.now) × (n ≤ rows_kept) }
     ensures { result ≡ every n (row_ok table.now) }
 {
     let mut r: usize = 0;
@@ -60,8 +60,8 @@ fn rows_fit(table: &[u64], n: usize) -> bool
 
 // Whether a table passes the check of 24: an unfilled row is not looked at, and no float.
 fn table_fits(table: &[u64]) -> bool
-    requires { tableRoom ≤ length table.now }
-    ensures { result ≡ tableOk table.now }
+    requires { table_room ≤ length table.now }
+    ensures { result ≡ table_ok table.now }
 {
     let filled = table[FILLED];
     if counts_fit(filled, table[NEXT]) {
@@ -72,7 +72,7 @@ fn table_fits(table: &[u64]) -> bool
 
 // Whether a table passes: refused by 23, then 24.
 pub(crate) fn check_table(table: &[u64]) -> Check
-    ensures { result ≡ checkOf (firstFailing (tableChecks table.now)) }
+    ensures { result ≡ check_of (first_failing (table_checks table.now)) }
 {
     if TABLE_ROOM <= table.len() {
         if table_fits(table) {
@@ -85,7 +85,7 @@ pub(crate) fn check_table(table: &[u64]) -> Check
 
 // Whether a row's vector was made from this input: the bound agrees, and each float bit for bit.
 fn row_agrees(table: &[u64], r: usize, input: RunInput) -> bool
-    requires { (tableRoom ≤ length table.now) × (r ≤ 3) }
+    requires { (table_room ≤ length table.now) × (r ≤ 3) }
     ensures { result ≡ agrees table.now input r }
 {
     let at = row_at(r);
@@ -98,7 +98,7 @@ fn row_agrees(table: &[u64], r: usize, input: RunInput) -> bool
 
 // The first filled row that agrees.
 pub(crate) fn find(table: &[u64], input: RunInput) -> Found
-    requires { (tableRoom ≤ length table.now) × (filled table.now ≤ rowsKept) }
+    requires { (table_room ≤ length table.now) × (filled table.now ≤ rows_kept) }
     ensures { result ≡ found table.now input }
 {
     let rows = table[FILLED] as usize;
@@ -114,8 +114,8 @@ pub(crate) fn find(table: &[u64], input: RunInput) -> Found
 
 // The answer at q lots from a row as it stands, whose weights and offsets are lent: none is copied.
 pub(crate) fn answer_of_row(table: &[u64], r: usize, k: f64, base: f64, q: i64) -> Answer
-    requires { (tableRoom ≤ length table.now) × (r ≤ 3) × (row_ok table.now r ≡ true) }
-    ensures { result ≡ answerFrom (rowVector table.now r) k base q }
+    requires { (table_room ≤ length table.now) × (r ≤ 3) × (row_ok table.now r ≡ true) }
+    ensures { result ≡ answer_from (row_vector table.now r) k base q }
 {
     let at = row_at(r);
     distances::answer_in_bits(

@@ -2,8 +2,8 @@
 ghost use Rattle.std.specs.Prelude.{◌≡◌, map, ◌≤◌, ◌%◌, suc, min, length, replicate};
 ghost use Rattle.plan.specs.Plan.{room};
 ghost use Rattle.distances.specs.Distances.{lent};
-ghost use Rattle.table.specs.Places.{tableRoom, rowsKept, rowSize};
-ghost use Rattle.table.specs.Table.{bits, next, rowNumbers, with_row};
+ghost use Rattle.table.specs.Places.{table_room, rows_kept, row_size};
+ghost use Rattle.table.specs.Table.{bits, next, row_numbers, with_row};
 
 use crate::places::{
     ALPHA, BETA, BOUND, ETA, FILLED, LENGTH, NEXT, OFFSETS, ROW, ROWS, STEPS, TAU, WEIGHTS, row_at,
@@ -36,8 +36,8 @@ fn write_bits(out: &mut [u64], floats: &[f64])
 
 // The numbers of a row: the steps, the vector's length, what it was made from, weights and offsets.
 fn write_row<'a>(row: &mut [u64], input: RunInput, steps: u32, n: usize, w: &'a [f64], o: &'a [f64])
-    requires { (length row.old ≡ rowSize) × (length w.now ≡ room) × (length o.now ≡ room) }
-    ensures { row.new ≡ rowNumbers input steps (lent n w.now o.now) }
+    requires { (length row.old ≡ row_size) × (length w.now ≡ room) × (length o.now ≡ room) }
+    ensures { row.new ≡ row_numbers input steps (lent n w.now o.now) }
 {
     row[STEPS] = steps as u64;
     row[LENGTH] = n as u64;
@@ -52,7 +52,7 @@ fn write_row<'a>(row: &mut [u64], input: RunInput, steps: u32, n: usize, w: &'a 
 
 // One row more, of four at the most.
 fn one_more(filled: u64) -> u64
-    ensures { result ≡ min rowsKept (suc filled) }
+    ensures { result ≡ min rows_kept (suc filled) }
 {
     if filled < ROWS {
         return filled + 1;
@@ -63,7 +63,7 @@ fn one_more(filled: u64) -> u64
 // The row after a row, the first after the last.
 fn row_after(next: u64) -> u64
     requires { next ≤ 3 }
-    ensures { result ≡ suc next % rowsKept }
+    ensures { result ≡ suc next % rows_kept }
 {
     (next + 1) % ROWS
 }
@@ -77,7 +77,7 @@ pub(crate) fn add_row<'a>(
     w: &'a [f64],
     o: &'a [f64],
 )
-    requires { (tableRoom ≤ length table.old) × (next table.old ≤ 3) × (length w.now ≡ room) × (length o.now ≡ room) }
+    requires { (table_room ≤ length table.old) × (next table.old ≤ 3) × (length w.now ≡ room) × (length o.now ≡ room) }
     ensures { table.new ≡ with_row input steps (lent n w.now o.now) table.old }
 {
     let next = table[NEXT];

@@ -7,27 +7,27 @@ use lib.Ieee.{Float, binary64, fits}
 use lib.Ieee.Bits.{of_bits-fits}
 use lib.Ieee.Fits.{nan-fits, add-fits, div-fits}
 use Rattle.elementary.specs.Float.{0ᶠ, 1ᶠ}
-use Rattle.elementary.specs.Checks.{Verdict, passes, refused, firstFailing}
+use Rattle.elementary.specs.Checks.{Verdict, passes, refused, first_failing}
 use Rattle.operator.specs.Vectors.{fill}
 use Rattle.operator.specs.Operator.{rows}
 use Rattle.series.specs.Slices.{Fit}
-use Rattle.series.proofs.Terms.{fit-tab}
-use Rattle.plan.specs.Input.{inputChecks}
-use Rattle.plan.specs.Plan.{Ended, vector, overCap, failed, Fixed, cap, room}
+use Rattle.series.proofs.Terms.{fit_tab}
+use Rattle.plan.specs.Input.{input_checks}
+use Rattle.plan.specs.Plan.{Ended, vector, over_cap, failed, Fixed, cap, room}
 use Rattle.plan.proofs.Begun.{EndOk}
 use Rattle.vector.specs.Run.{divided, run}
-use Rattle.vector.specs.Values.{padded, vectorOf, blankVector, refusedVector, vectorBy, vectorIf, vectorOver, valueVector}
-use Rattle.vector.specs.Promises.{FitVector, After, divided-only, rebalanced}
+use Rattle.vector.specs.Values.{padded, vector_of, blank_vector, refused_vector, vector_by, vector_if, vector_over, value_vector}
+use Rattle.vector.specs.Promises.{FitVector, After, divided_only, rebalanced}
 use Rattle.plan.specs.declared.RunInput.{RunInput}
 use Rattle.vector.specs.declared.ValueVector.{ValueVector}
 use Rattle.vector.proofs.Spent.{run_ok}
 
 -- ---- lists whose entries are binary64s
 -- one float, however often
-fit-fill : (n : ℕ) (x : Float) → T (fits binary64 x) → Fit (fill n x)
-fit-fill zero x h i = nan-fits binary64
-fit-fill (suc n) x h zero = h
-fit-fill (suc n) x h (suc i) = fit-fill n x h i
+fit_fill : (n : ℕ) (x : Float) → T (fits binary64 x) → Fit (fill n x)
+fit_fill zero x h i = nan-fits binary64
+fit_fill (suc n) x h zero = h
+fit_fill (suc n) x h (suc i) = fit_fill n x h i
 
 -- one after the other
 fit_append : (l r : List Float) → Fit l → Fit r → Fit (l ++ r)
@@ -37,53 +37,53 @@ fit_append (x ∷ l) r f g (suc i) = fit_append l r (λ j. f (suc j)) g i
 
 -- 0.0s and 1.0s
 zeros : (n : ℕ) → Fit (fill n 0ᶠ)
-zeros n = fit-fill n 0ᶠ (of_bits-fits binary64 _)
+zeros n = fit_fill n 0ᶠ (of_bits-fits binary64 _)
 
 ones : (n : ℕ) → Fit (fill n 1ᶠ)
-ones n = fit-fill n 1ᶠ (of_bits-fits binary64 _)
+ones n = fit_fill n 1ᶠ (of_bits-fits binary64 _)
 
 -- 0.0 in the places after them
-fit-padded : (n : ℕ) (l : List Float) → Fit l → Fit (padded n l)
+fit_padded : (n : ℕ) (l : List Float) → Fit l → Fit (padded n l)
 unfolding padded
-fit-padded n l f = fit_append l _ f (zeros (room - n))
+fit_padded n l f = fit_append l _ f (zeros (room - n))
 
 -- ---- the weights and offsets of a run
 abbrev Both : List Float → List Float → Type 0
 Both w o = Fit w × Fit o
 
 -- a weight is a quotient or 1.0; an offset is as before or a sum
-after-fit : (p : Fixed) (o v w' o' : List Float) → Fit o → After p o v w' o' → Both w' o'
+after_fit : (p : Fixed) (o v w' o' : List Float) → Fit o → After p o v w' o' → Both w' o'
 unfolding divided
-after-fit p o v w' o' f (divided-only d e) = (subst Fit (sym d) (fit-tab _ _ (λ i. div-fits binary64 _ _)), subst Fit (sym e) f)
-after-fit p o v w' o' f (rebalanced d e) = (subst Fit (sym d) (ones p.n), subst Fit (sym e) (fit-tab _ _ (λ i. add-fits binary64 _ _)))
+after_fit p o v w' o' f (divided_only d e) = (subst Fit (sym d) (fit_tab _ _ (λ i. div-fits binary64 _ _)), subst Fit (sym e) f)
+after_fit p o v w' o' f (rebalanced d e) = (subst Fit (sym d) (ones p.n), subst Fit (sym e) (fit_tab _ _ (λ i. add-fits binary64 _ _)))
 
 -- so are those that a run begins with and ends with
-run-fit : (x : RunInput) → EndOk cap Both (run x)
-run-fit = run_ok Both (λ n. (ones n, zeros n)) (λ p g w o h s. after-fit p g.o s.0 w o h.1 s.2)
+run_fit : (x : RunInput) → EndOk cap Both (run x)
+run_fit = run_ok Both (λ n. (ones n, zeros n)) (λ p g w o h s. after_fit p g.o s.0 w o h.1 s.2)
 
 -- ---- the reply
 abbrev FitBoth : ValueVector → Type 0
 FitBoth v = Both v.w v.log_offset
 
 -- of a refusal and of a report
-blank-fit : FitBoth blankVector
-unfolding blankVector
-blank-fit = (zeros room, zeros room)
+blank_fit : FitBoth blank_vector
+unfolding blank_vector
+blank_fit = (zeros room, zeros room)
 
 -- by how the run ended
-by-fit : (n : ℕ) (e : Ended) → EndOk cap Both e → FitBoth (vectorBy n e).vector
-unfolding vectorBy vectorOf refusedVector
-by-fit n (vector w o s) h = (fit-padded n w h.0.0, fit-padded n o h.0.1)
-by-fit n (overCap need b) h = blank-fit
-by-fit n (failed s) h = blank-fit
+by_fit : (n : ℕ) (e : Ended) → EndOk cap Both e → FitBoth (vector_by n e).vector
+unfolding vector_by vector_of refused_vector
+by_fit n (vector w o s) h = (fit_padded n w h.0.0, fit_padded n o h.0.1)
+by_fit n (over_cap need b) h = blank_fit
+by_fit n (failed s) h = blank_fit
 
 -- and by the checks
-if-fit : (c : Verdict) (n : ℕ) (e : Ended) → EndOk cap Both e → FitBoth (vectorIf c (vectorBy n e)).vector
-unfolding vectorIf refusedVector
-if-fit passes n e h = by-fit n e h
-if-fit (refused r) n e h = blank-fit
+if_fit : (c : Verdict) (n : ℕ) (e : Ended) → EndOk cap Both e → FitBoth (vector_if c (vector_by n e)).vector
+unfolding vector_if refused_vector
+if_fit passes n e h = by_fit n e h
+if_fit (refused r) n e h = blank_fit
 
 -- of any input
-pub fit-vector : FitVector
-unfolding valueVector vectorOver
-fit-vector x i = let (w, o) = if-fit (firstFailing (inputChecks x)) (rows x.bound) (run x) (run-fit x) in (w i, o i)
+pub fit_vector : FitVector
+unfolding value_vector vector_over
+fit_vector x i = let (w, o) = if_fit (first_failing (input_checks x)) (rows x.bound) (run x) (run_fit x) in (w i, o i)

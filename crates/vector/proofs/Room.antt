@@ -9,8 +9,8 @@ use lib.Ieee.{Float}
 use Rattle.elementary.specs.Float.{0ᶠ}
 use Rattle.operator.specs.Vectors.{fill}
 use Rattle.plan.specs.Plan.{room}
-use Rattle.plan.proofs.Room.{blank-apart}
-use Rattle.vector.specs.Values.{padded, vectorOf}
+use Rattle.plan.proofs.Room.{blank_apart}
+use Rattle.vector.specs.Values.{padded, vector_of}
 use Rattle.vector.specs.declared.ValueVector.{ValueVector}
 
 module _ (n : ℕ) (a l : List Float) (e : a ≡ padded n l) (k : length l ≡ n) where
@@ -18,28 +18,28 @@ module _ (n : ℕ) (a l : List Float) (e : a ≡ padded n l) (k : length l ≡ n
   unfolding padded
   lent = rw e (take_at l _ n k)
 
-  pub length-lent : length (take n a) ≡ n
-  length-lent = ap length lent ∙ k
+  pub length_lent : length (take n a) ≡ n
+  length_lent = ap length lent ∙ k
 
-  pub lent-room : n ≤ length a
+  pub lent_room : n ≤ length a
   unfolding padded
-  lent-room = rw (e, length-append l (fill (room - n) 0ᶠ), k) (omega arith)
+  lent_room = rw (e, length-append l (fill (room - n) 0ᶠ), k) (omega arith)
 
   pub back : (v : List Float) → v ++ drop n a ≡ padded n v
   unfolding padded
   back v = rw e (ap (λ (r : List Float). v ++ r) (drop_at l _ n k))
 
 -- a blank array
-pub blank-padded : (n : ℕ) (a : List Float) → a ≡ fill room 0ᶠ → n ≤ room → a ≡ padded n (fill n 0ᶠ)
+pub blank_padded : (n : ℕ) (a : List Float) → a ≡ fill room 0ᶠ → n ≤ room → a ≡ padded n (fill n 0ᶠ)
 unfolding padded
-blank-padded n a e h = blank-apart n a e h
+blank_padded n a e h = blank_apart n a e h
 
 -- a vector's own arrays
-module _ (n : ℕ) (w o : List Float) (v : ValueVector) (e : v ≡ vectorOf n w o) where
-  pub own-w : v.w ≡ padded n w
-  unfolding vectorOf
-  own-w = ap (λ (x : ValueVector). x.w) e
+module _ (n : ℕ) (w o : List Float) (v : ValueVector) (e : v ≡ vector_of n w o) where
+  pub own_w : v.w ≡ padded n w
+  unfolding vector_of
+  own_w = ap (λ (x : ValueVector). x.w) e
 
-  pub own-o : v.log_offset ≡ padded n o
-  unfolding vectorOf
-  own-o = ap (λ (x : ValueVector). x.log_offset) e
+  pub own_o : v.log_offset ≡ padded n o
+  unfolding vector_of
+  own_o = ap (λ (x : ValueVector). x.log_offset) e

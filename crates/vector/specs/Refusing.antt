@@ -5,18 +5,18 @@ use Rattle.elementary.specs.Float.{0ᶠ}
 use Rattle.elementary.specs.Elementary.{outside}
 use Rattle.vector.specs.Refusals.{configuration}
 use Rattle.series.specs.Refusals.{numerical}
-use Rattle.plan.specs.Plan.{boundOk, fixed}
-use Rattle.plan.specs.Input.{ratesOk}
-use Rattle.vector.specs.Values.{valueVector}
+use Rattle.plan.specs.Plan.{bound_ok, fixed}
+use Rattle.plan.specs.Input.{rates_ok}
+use Rattle.vector.specs.Values.{value_vector}
 use Rattle.vector.specs.Causes.{RunFails}
 use Rattle.plan.specs.declared.RunInput.{RunInput}
 use Rattle.vector.specs.declared.Outcome.TheVariants as Outcome
 
 -- in order: the floats, the bound, and a run that fails
 pub data VectorRefused (x : RunInput) : ℕ → Type 0 where
-  by-5 : ratesOk x ≡ false → VectorRefused x outside
-  by-1 : ratesOk x ≡ true → boundOk x.bound ≡ false → VectorRefused x configuration
-  by-11 : {s : ℕ} → ratesOk x ≡ true → boundOk x.bound ≡ true → lt 0ᶠ x.tau ≡ true → RunFails (fixed x) x.tau s → VectorRefused x numerical
+  by_5 : rates_ok x ≡ false → VectorRefused x outside
+  by_1 : rates_ok x ≡ true → bound_ok x.bound ≡ false → VectorRefused x configuration
+  by_11 : {s : ℕ} → rates_ok x ≡ true → bound_ok x.bound ≡ true → lt 0ᶠ x.tau ≡ true → RunFails (fixed x) x.tau s → VectorRefused x numerical
 
 abbrev pub VectorRefusals : Type 0
-VectorRefusals = (x : RunInput) (n : ℕ) → ((valueVector x).outcome ≡ Outcome.Refused n) ↔ VectorRefused x n
+VectorRefusals = (x : RunInput) (n : ℕ) → ((value_vector x).outcome ≡ Outcome.Refused n) ↔ VectorRefused x n

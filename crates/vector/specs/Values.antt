@@ -1,11 +1,11 @@
 -- Document 01, module 3: the value vector's reply. Definitions only.
 use Rattle.std.specs.Prelude.{ℕ, ◌-◌, List, ◌++◌, Float}
 use Rattle.elementary.specs.Float.{0ᶠ}
-use Rattle.elementary.specs.Checks.{Verdict, passes, refused, firstFailing}
+use Rattle.elementary.specs.Checks.{Verdict, passes, refused, first_failing}
 use Rattle.series.specs.Refusals.{numerical}
 use Rattle.operator.specs.Vectors.{fill}
-use Rattle.plan.specs.Plan.{Ended, vector, overCap, failed, cap, room}
-use Rattle.plan.specs.Input.{inputChecks}
+use Rattle.plan.specs.Plan.{Ended, vector, over_cap, failed, cap, room}
+use Rattle.plan.specs.Input.{input_checks}
 use Rattle.vector.specs.Run.{run}
 use Rattle.operator.specs.Operator.{rows}
 use Rattle.plan.specs.declared.RunInput.{RunInput}
@@ -19,28 +19,28 @@ use Rattle.vector.specs.declared.VectorAnswer.{VectorAnswer}
 unfoldable pub padded : ℕ → List Float → List Float
 padded n l = l ++ fill (room - n) 0ᶠ
 
-unfoldable pub vectorOf : ℕ → List Float → List Float → ValueVector
-vectorOf n w o = record { w = padded n w; log_offset = padded n o; n = n }
+unfoldable pub vector_of : ℕ → List Float → List Float → ValueVector
+vector_of n w o = record { w = padded n w; log_offset = padded n o; n = n }
 
-unfoldable pub blankVector : ValueVector
-blankVector = record { w = fill room 0ᶠ; log_offset = fill room 0ᶠ; n = 0 }
+unfoldable pub blank_vector : ValueVector
+blank_vector = record { w = fill room 0ᶠ; log_offset = fill room 0ᶠ; n = 0 }
 
 -- a refusal, by its number
-unfoldable pub refusedVector : ℕ → VectorAnswer
-refusedVector r = record { outcome = Outcome.Refused r; vector = blankVector }
+unfoldable pub refused_vector : ℕ → VectorAnswer
+refused_vector r = record { outcome = Outcome.Refused r; vector = blank_vector }
 
-unfoldable pub vectorBy : ℕ → Ended → VectorAnswer
-vectorBy n (vector w o s) = record { outcome = Outcome.Done s; vector = vectorOf n w o }
-vectorBy n (overCap need b) = record { outcome = Outcome.OverCap need b (cap - b); vector = blankVector }
-vectorBy n (failed s) = refusedVector numerical
+unfoldable pub vector_by : ℕ → Ended → VectorAnswer
+vector_by n (vector w o s) = record { outcome = Outcome.Done s; vector = vector_of n w o }
+vector_by n (over_cap need b) = record { outcome = Outcome.OverCap need b (cap - b); vector = blank_vector }
+vector_by n (failed s) = refused_vector numerical
 
 -- ---- the reply, by the checks and the run
-unfoldable pub vectorIf : Verdict → VectorAnswer → VectorAnswer
-vectorIf passes a = a
-vectorIf (refused n) a = refusedVector n
+unfoldable pub vector_if : Verdict → VectorAnswer → VectorAnswer
+vector_if passes a = a
+vector_if (refused n) a = refused_vector n
 
-unfoldable pub vectorOver : Ended → RunInput → VectorAnswer
-vectorOver e x = vectorIf (firstFailing (inputChecks x)) (vectorBy (rows x.bound) e)
+unfoldable pub vector_over : Ended → RunInput → VectorAnswer
+vector_over e x = vector_if (first_failing (input_checks x)) (vector_by (rows x.bound) e)
 
-unfoldable pub valueVector : RunInput → VectorAnswer
-valueVector x = vectorOver (run x) x
+unfoldable pub value_vector : RunInput → VectorAnswer
+value_vector x = vector_over (run x) x

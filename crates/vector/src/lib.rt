@@ -5,7 +5,7 @@ mod run;
 
 ghost use Rattle.std.specs.Prelude.{◌≡◌};
 ghost use Rattle.vector.specs.Run.{rebalances};
-ghost use Rattle.vector.specs.Values.{valueVector};
+ghost use Rattle.vector.specs.Values.{value_vector};
 
 use elementary::Check;
 pub use plan::{
@@ -50,7 +50,7 @@ pub fn must_rebalance(smallest: f64, steps: u32) -> bool
 
 // The value vector at tau seconds before the end: refused by 5, then 1, then 11.
 pub fn value_vector(input: RunInput) -> VectorAnswer
-    ensures { result ≡ valueVector input }
+    ensures { result ≡ value_vector input }
 {
     match check_input(input) {
         Check::Passes => {}

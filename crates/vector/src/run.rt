@@ -5,16 +5,16 @@ ghost use Rattle.std.specs.Prelude.{◌≡◌, ◌+◌, ◌-◌, ◌≤◌, leng
 ghost use Rattle.std.specs.Float.{inf};
 ghost use Rattle.std.specs.Float.Ieee.{lt};
 ghost use Rattle.elementary.specs.Float.{◌⊕◌, ◌⊘◌, 0ᶠ, 1ᶠ, finite, positive};
-ghost use Rattle.elementary.specs.Elementary.{LN, orNan};
+ghost use Rattle.elementary.specs.Elementary.{LN, or_nan};
 ghost use Rattle.operator.specs.Vectors.{tab, at, fill, every, fold, larger, smaller};
-ghost use Rattle.plan.specs.Plan.{boundOk, cap, begin};
-ghost use Rattle.vector.specs.Run.{run, runOn, divided, rebalances};
+ghost use Rattle.plan.specs.Plan.{bound_ok, cap, begin};
+ghost use Rattle.vector.specs.Run.{run, run_on, divided, rebalances};
 ghost use Rattle.operator.specs.Operator.{rows};
-ghost use Rattle.vector.specs.Values.{blankVector, vectorOf, refusedVector, vectorBy};
-ghost use Rattle.vector.specs.Inner.{pacedOf, asked_of, stoppedOf, refusedPace, endBy, told, AfterIs, PlanSpent, Between, weight, EndIs};
+ghost use Rattle.vector.specs.Values.{blank_vector, vector_of, refused_vector, vector_by};
+ghost use Rattle.vector.specs.Inner.{paced_of, asked_of, stopped_of, refused_pace, end_by, told, AfterIs, PlanSpent, Between, weight, EndIs};
 ghost use Rattle.series.specs.Slices.{Sizes, Fit};
-ghost use Rattle.series.specs.Half.{filledOut, fullSize, fullFactors, full, Centred};
-ghost use Rattle.vector.specs.Half.{fullFixed, RowsStand};
+ghost use Rattle.series.specs.Half.{filled_out, full_size, full_factors, full, Centred};
+ghost use Rattle.vector.specs.Half.{full_fixed, RowsStand};
 
 use crate::refusals::NUMERICAL;
 use crate::{MAX_DIM, MAX_EXPM_STEPS, Outcome, RunInput, ValueVector, VectorAnswer};
@@ -35,7 +35,7 @@ pub(crate) struct Pace {
 // The steps of a plan; with none left the run is done.
 fn paced(steps: u32, budget: u32, remaining: f64, dt: f64) -> Pace
     requires { budget ≤ cap }
-    ensures { result ≡ pacedOf steps budget remaining dt }
+    ensures { result ≡ paced_of steps budget remaining dt }
 {
     Pace {
         steps,
@@ -63,7 +63,7 @@ fn asking(budget: u32, remaining: f64) -> Pace
 
 // A run that is over.
 fn stopped(stop: Outcome) -> Pace
-    ensures { result ≡ stoppedOf stop }
+    ensures { result ≡ stopped_of stop }
 {
     Pace {
         steps: 0,
@@ -76,7 +76,7 @@ fn stopped(stop: Outcome) -> Pace
 }
 
 fn refused() -> Pace
-    ensures { result ≡ refusedPace }
+    ensures { result ≡ refused_pace }
 {
     stopped(Outcome::Refused(NUMERICAL))
 }
@@ -84,7 +84,7 @@ fn refused() -> Pace
 // A plan that needs more steps than the budget has left.
 fn over_cap(need: f64, budget: u32) -> Pace
     requires { budget ≤ cap }
-    ensures { result ≡ stoppedOf (Outcome.OverCap need budget (cap - budget)) }
+    ensures { result ≡ stopped_of (Outcome.OverCap need budget (cap - budget)) }
 {
     stopped(Outcome::OverCap(need, budget, MAX_EXPM_STEPS - budget))
 }
@@ -103,7 +103,7 @@ fn pace_of(plan: Planned, budget: u32, rest: f64) -> Pace
 
 // How a run ends: with steps planned, its budget is spent.
 fn end_of(pace: Pace) -> Outcome
-    ensures { result ≡ endBy pace.steps pace.stop }
+    ensures { result ≡ end_by pace.steps pace.stop }
 {
     let steps = pace.steps;
     let stop = pace.stop;
@@ -179,7 +179,7 @@ fn divide(w: &mut [f64], max: f64, steps: u32) -> bool
 fn rebalance(w: &mut [f64], o: &mut [f64]) -> bool
     requires { length o.old ≡ length w.old }
     ensures w_after { w.new ≡ fill (length w.old) 1ᶠ }
-    ensures o_after { o.new ≡ tab (length w.old) (λ i. at o.old i ⊕ orNan (LN (at w.old i))) }
+    ensures o_after { o.new ≡ tab (length w.old) (λ i. at o.old i ⊕ or_nan (LN (at w.old i))) }
     ensures value { result ≡ every (length w.old) (λ i. positive (at w.old i)) }
 {
     let mut all = true;
@@ -230,8 +230,8 @@ fn plan_steps(
 ) -> Pace
     requires in_bounds { (2 ≤ length w.old) × (length o.old ≡ length w.old) × (first.budget ≤ cap) × Centred half (length w.old) left.now right.now }
     requires sizes { Sizes (length w.old) diag.now left.now right.now term.old }
-    ensures { PlanSpent (fullSize half (length w.old)) eta (full half (length w.old) w.old) (full half (length w.old) o.old)
-        (fullFactors half (length w.old) left.now right.now) (fullFactors half (length w.old) right.now left.now) (full half (length w.old) diag.now)
+    ensures { PlanSpent (full_size half (length w.old)) eta (full half (length w.old) w.old) (full half (length w.old) o.old)
+        (full_factors half (length w.old) left.now right.now) (full_factors half (length w.old) right.now left.now) (full half (length w.old) diag.now)
         first (full half (length w.old) w.new) (full half (length w.old) o.new) result }
 {
     let plain = operator::all_ones(left, right);
@@ -256,9 +256,9 @@ fn run_plan(
     n: usize,
     half: bool,
 ) -> Pace
-    requires { (2 ≤ n) × (n ≤ 401) × (length w.old ≡ n) × (length o.old ≡ n) × (length diag_s.now ≡ n) × (budget ≤ cap) × (full half n w.old ≡ fill (fullSize half n) 1ᶠ) }
-    ensures { Between (fullFixed half n diag_s.now eta)
-        (runOn budget (fullFixed half n diag_s.now eta) (begin (fullFixed half n diag_s.now eta) budget (fill (fullSize half n) 1ᶠ) (full half n o.old) rest))
+    requires { (2 ≤ n) × (n ≤ 401) × (length w.old ≡ n) × (length o.old ≡ n) × (length diag_s.now ≡ n) × (budget ≤ cap) × (full half n w.old ≡ fill (full_size half n) 1ᶠ) }
+    ensures { Between (full_fixed half n diag_s.now eta)
+        (run_on budget (full_fixed half n diag_s.now eta) (begin (full_fixed half n diag_s.now eta) budget (fill (full_size half n) 1ᶠ) (full half n o.old) rest))
         (full half n w.new) (full half n o.new) result × (weight result ≤ budget) }
 {
     let mut diag = plan::zeros();
@@ -301,7 +301,7 @@ fn run_plans(
     half: bool,
 ) -> Outcome
     requires { (2 ≤ n) × (n ≤ 401) × (w.old ≡ fill n 1ᶠ) × (length o.old ≡ n) × (length diag_s.now ≡ n) }
-    ensures { EndIs (runOn cap (fullFixed half n diag_s.now eta) (begin (fullFixed half n diag_s.now eta) cap (fill (fullSize half n) 1ᶠ) (full half n o.old) tau))
+    ensures { EndIs (run_on cap (full_fixed half n diag_s.now eta) (begin (full_fixed half n diag_s.now eta) cap (fill (full_size half n) 1ᶠ) (full half n o.old) tau))
         result (full half n w.new) (full half n o.new) }
 {
     let mut pace = asking(MAX_EXPM_STEPS, tau);
@@ -313,7 +313,7 @@ fn run_plans(
 
 // A vector of no entries: every place is 0.0.
 pub(crate) fn blank() -> ValueVector
-    ensures { result ≡ blankVector }
+    ensures { result ≡ blank_vector }
 {
     ValueVector {
         w: plan::zeros(),
@@ -324,7 +324,7 @@ pub(crate) fn blank() -> ValueVector
 
 // A refusal, by its number, with the blank vector.
 pub fn refused_vector(number: u8) -> VectorAnswer
-    ensures { result ≡ refusedVector number }
+    ensures { result ≡ refused_vector number }
 {
     VectorAnswer {
         outcome: Outcome::Refused(number),
@@ -346,7 +346,7 @@ fn fill_ones(w: &mut [f64])
 // A vector of n entries at the end of the time: weights of 1.0, offsets of 0.0.
 fn at_end(n: usize) -> ValueVector
     requires { n ≤ 401 }
-    ensures { result ≡ vectorOf n (fill n 1ᶠ) (fill n 0ᶠ) }
+    ensures { result ≡ vector_of n (fill n 1ᶠ) (fill n 0ᶠ) }
 {
     let mut w = plan::zeros();
     fill_ones(&mut w[..n]);
@@ -360,7 +360,7 @@ fn at_end(n: usize) -> ValueVector
 // Rows n up from those before the centre that they mirror.
 fn fill_mirror(x: &mut [f64], n: usize)
     requires { (1 ≤ n) × (n ≤ length x.old) × (length x.old ≤ n + n) }
-    ensures { x.new ≡ filledOut (length x.old) n x.old x.old }
+    ensures { x.new ≡ filled_out (length x.old) n x.old x.old }
 {
     let last = x.len() - 1;
     let mut i = n;
@@ -393,9 +393,9 @@ fn run_rows(w: &mut [f64], o: &mut [f64], input: RunInput, n: usize, half: bool)
 // Takes a vector from the end of the time back over tau seconds, above zero, by its rows, which stand for
 // all, and hands it back with every row filled; or the blank one where the run is not done.
 fn run_back(v: ValueVector, input: RunInput, n: usize, half: bool) -> VectorAnswer
-    requires le_n { (2 ≤ n) × (n ≤ rows input.bound) × (input.bound ≤ 200) × (lt 0ᶠ input.tau ≡ true) × (v ≡ vectorOf n (fill n 1ᶠ) (fill n 0ᶠ)) }
+    requires le_n { (2 ≤ n) × (n ≤ rows input.bound) × (input.bound ≤ 200) × (lt 0ᶠ input.tau ≡ true) × (v ≡ vector_of n (fill n 1ᶠ) (fill n 0ᶠ)) }
     requires rows_stand { RowsStand half n input.bound input.alpha input.beta input.eta }
-    ensures { result ≡ vectorBy (rows input.bound) (run input) }
+    ensures { result ≡ vector_by (rows input.bound) (run input) }
 {
     let mut w = v.w;
     let mut o = v.log_offset;
@@ -421,8 +421,8 @@ fn run_back(v: ValueVector, input: RunInput, n: usize, half: bool) -> VectorAnsw
 
 // The vector at tau seconds before the end. Without a drift the rows up to the centre are enough.
 pub(crate) fn run_vector(input: RunInput) -> VectorAnswer
-    requires { (boundOk input.bound ≡ true) × (positive input.alpha ≡ true) × (positive input.eta ≡ true) }
-    ensures { result ≡ vectorBy (rows input.bound) (run input) }
+    requires { (bound_ok input.bound ≡ true) × (positive input.alpha ≡ true) × (positive input.eta ≡ true) }
+    ensures { result ≡ vector_by (rows input.bound) (run input) }
 {
     let centre = input.bound as usize;
     let n = 2 * centre + 1;

@@ -1,6 +1,6 @@
 use Rattle.std.proofs.Common.{◌≡◌, ◌-◌, sym, ◌∙◌, ⊎_elim, sub-eq-zero_of_le, rules}
-use Rattle.amounts.specs.Amounts.{tauOf}
-use Rattle.amounts.proofs.Limits.{thousand-is}
+use Rattle.amounts.specs.Amounts.{tau_of}
+use Rattle.amounts.proofs.Limits.{thousand_is}
 use Rattle.amounts.proofs.seconds_to_terminal.Statement.{statement}
 use Rattle.amounts.proofs.seconds_to_terminal.Tie as tie
 
@@ -14,8 +14,8 @@ nearest-u64-to-f64-requires : tie.Need-nearest-u64-to-f64-requires
 nearest-u64-to-f64-requires c κs = search rules
 
 returns : tie.Need-returns
-unfolding tauOf
-returns c = rw (c.nearest-u64-to-f64.ensures, thousand-is, left_is c.before)
+unfolding tau_of
+returns c = rw (c.nearest-u64-to-f64.ensures, thousand_is, left_is c.before)
 
 pub seconds-to-terminal-spec : {M : Type 1} → statement M
 seconds-to-terminal-spec = tie.close (tie.spec sub-left nearest-u64-to-f64-requires returns)

@@ -1,7 +1,7 @@
 -- `desk::config_at` meets its contract: each field is the word that the definition names. Assumes nothing.
 use borrow.Author.Rules.{rules}
 use Rattle.amounts.proofs.Limits.{kept}
-use Rattle.desk.specs.Desk.{configAt}
+use Rattle.desk.specs.Desk.{config_at}
 use Rattle.desk.proofs.config_at.Statement.{statement}
 use Rattle.desk.proofs.config_at.Tie as tie
 
@@ -33,7 +33,7 @@ amount-at-requires-6 : tie.Need-amount-at-requires-6
 amount-at-requires-6 c κs = search rules
 
 returns : tie.Need-returns
-unfolding configAt
+unfolding config_at
 returns c =
     let a5 = c.before in
     let w2 = a5.before in

@@ -2,17 +2,17 @@
 use mathlib.Core.Path.{◌≡◌, sym, ◌∙◌}
 use mir.Facts.{to_z-of_z}
 use borrow.Author.Rules.{rules}
-use Rattle.elementary.specs.Checks.{passes, firstFailing}
-use Rattle.elementary.proofs.Checks.{check-passes, check-refused}
-use Rattle.plan.specs.Count.{planIf, planOver, firstPlan}
-use Rattle.distances.specs.FloatEntry.{entryChecks}
-use Rattle.distances.specs.Count.{countOver, stepCount}
-use Rattle.distances.proofs.Checked.{passed, input-passes}
+use Rattle.elementary.specs.Checks.{passes, first_failing}
+use Rattle.elementary.proofs.Checks.{check_passes, check_refused}
+use Rattle.plan.specs.Count.{plan_if, plan_over, first_plan}
+use Rattle.distances.specs.FloatEntry.{entry_checks}
+use Rattle.distances.specs.Count.{count_over, step_count}
+use Rattle.distances.proofs.Checked.{passed, input_passes}
 use Rattle.distances.proofs.step_count.Statement.{statement}
 use Rattle.distances.proofs.step_count.Tie as tie
 
-passes-is : (c : tie.After-enum-told) → let a = c.before.before.before.args in firstFailing (entryChecks a.k a.base a.input a.q) ≡ passes
-passes-is c = check-passes _ (rw (to_z-of_z c.before.before.before.ranges.q) at (sym c.enum_told.given.1 ∙ c.before.before.check-entry.ensures))
+passes-is : (c : tie.After-enum-told) → let a = c.before.before.before.args in first_failing (entry_checks a.k a.base a.input a.q) ≡ passes
+passes-is c = check_passes _ (rw (to_z-of_z c.before.before.before.ranges.q) at (sym c.enum_told.given.1 ∙ c.before.before.check-entry.ensures))
 
 check-entry-requires : tie.Need-check-entry-requires
 check-entry-requires c κs = search rules
@@ -27,18 +27,18 @@ enum-known-number : tie.Need-enum-known-number
 enum-known-number c = search rules
 
 returns : tie.Need-returns
-unfolding stepCount countOver firstPlan planOver planIf
+unfolding step_count count_over first_plan plan_over plan_if
 returns c =
     let e = passes-is c.before in
     let p = passed _ _ _ c.before.before.before.before.args.q e in
-    rw e (rw (input-passes _ _ _ p.floats p.bound-ok) at c.first-plan.ensures)
+    rw e (rw (input_passes _ _ _ p.floats p.bound_is_ok) at c.first-plan.ensures)
 
 returns-2 : tie.Need-returns-2
-unfolding stepCount countOver planIf
+unfolding step_count count_over plan_if
 returns-2 c =
     let n = c.before in
     let e = n.before.before in
-    rw (check-refused _ _ (rw (to_z-of_z e.before.ranges.q) at (sym n.number.given.1 ∙ e.check-entry.ensures)))
+    rw (check_refused _ _ (rw (to_z-of_z e.before.ranges.q) at (sym n.number.given.1 ∙ e.check-entry.ensures)))
 
 pub step-count-spec : {M : Type 1} → statement M
 step-count-spec =

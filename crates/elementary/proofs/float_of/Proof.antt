@@ -14,15 +14,15 @@ is-nan (fin s m e) h = absurd (subst T (sym h) tt)
 above : (n : ℕ) → 0x7FF0000000000000 < n % 0x8000000000000000 → of_bits binary64 n ≡ nan
 above n h = is-nan (of_bits binary64 n) (sym (nan_bits_is binary64 n) ∙ nan_bits_above binary64 n ∙ lt-ltb _ _ h)
 
-not-above : (n : ℕ) → n % 0x8000000000000000 ≤ 0x7FF0000000000000 → T (not (nan_bits binary64 n))
-not-above n h = subst (λ (b : Bool). T (not b)) (sym (nan_bits_above binary64 n ∙ le-ltb _ _ h)) tt
+not_above : (n : ℕ) → n % 0x8000000000000000 ≤ 0x7FF0000000000000 → T (not (nan_bits binary64 n))
+not_above n h = subst (λ (b : Bool). T (not b)) (sym (nan_bits_above binary64 n ∙ le-ltb _ _ h)) tt
 
 returns : tie.Need-returns
 unfolding div of_bits of_fields odd
 returns c = sym (above _ c.if1.true)
 
 float-from-bits-result : tie.Need-float-from-bits-result
-float-from-bits-result c = not-above _ c.if1.false
+float-from-bits-result c = not_above _ c.if1.false
 
 returns-2 : tie.Need-returns-2
 returns-2 c = search rules

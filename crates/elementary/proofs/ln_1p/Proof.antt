@@ -1,7 +1,7 @@
 use Rattle.std.proofs.Common.{◌≡◌, true, false, sym, ◌∙◌, rules}
 use Rattle.elementary.specs.Float.{positive}
 use Rattle.elementary.specs.Reply.{given}
-use Rattle.elementary.specs.Elementary.{told, LN1P, ln1pOf}
+use Rattle.elementary.specs.Elementary.{told, LN1P, ln1p_of}
 use Rattle.elementary.proofs.ln_1p.Statement.{statement}
 use Rattle.elementary.proofs.ln_1p.Tie as tie
 
@@ -12,7 +12,7 @@ ln-series-requires : tie.Need-ln-series-requires
 ln-series-requires c κs = search rules
 
 returns : tie.Need-returns
-unfolding told LN1P ln1pOf given
+unfolding told LN1P ln1p_of given
 returns c =
     let yes : positive c.before.before.before.before.args.r ≡ true = sym c.before.before.before.is-positive-finite.ensures ∙ c.before.before.if1.true in
     rw (yes, c.before.if2.true, c.ln-series.ensures)
@@ -21,7 +21,7 @@ ln-requires : tie.Need-ln-requires
 ln-requires c κs = search rules
 
 returns-2 : tie.Need-returns-2
-unfolding LN1P ln1pOf given
+unfolding LN1P ln1p_of given
 returns-2 c =
     let yes : positive c.before.before.before.before.args.r ≡ true = sym c.before.before.before.is-positive-finite.ensures ∙ c.before.before.if1.true in
     rw (yes, c.before.if2.false, c.ln.ensures)

@@ -1,6 +1,6 @@
 use lib.Ieee.{of_bits, div}
 use Rattle.std.proofs.Common.{rules}
-use Rattle.elementary.specs.Elementary.{told, orNan}
+use Rattle.elementary.specs.Elementary.{told, or_nan}
 use Rattle.elementary.proofs.or_nan.Statement.{statement}
 use Rattle.elementary.proofs.or_nan.Tie as tie
 
@@ -11,11 +11,11 @@ enum_told : tie.Need-enum-told
 enum_told c = search rules
 
 returns : tie.Need-returns
-unfolding orNan told
+unfolding or_nan told
 returns c = rw c.before.r.given.1
 
 returns-2 : tie.Need-returns-2
-unfolding orNan told of_bits div
+unfolding or_nan told of_bits div
 returns-2 c = rw c.enum_told.given.1
 
 pub or-nan-spec : {M : Type 1} → statement M

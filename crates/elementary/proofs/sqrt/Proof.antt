@@ -6,7 +6,7 @@ use lib.Ieee.Bits.{is_true}
 use Rattle.elementary.specs.declared.Real.TheVariants.{Value, Refused}
 use Rattle.elementary.specs.Float.{finite, positive, count, hex}
 use Rattle.elementary.specs.Reply.{value}
-use Rattle.elementary.specs.Elementary.{told, SQRT, sqrtOf}
+use Rattle.elementary.specs.Elementary.{told, SQRT, sqrt_of}
 use Rattle.elementary.proofs.sqrt.Statement.{statement}
 use Rattle.elementary.proofs.sqrt.Tie as tie
 
@@ -37,7 +37,7 @@ zero-root (fin s (suc m) e) h = absurd (none (suc m * up e) (mul-pos (zero-lt-su
     none a h k = omega (arith, eqb-true (a * 1) (0 * 1 * down e) k)
 
 -- a positive number has the root of its count
-positive-root : (x : Float) → T (positive x) → SQRT x ≡ value (sqrtOf (count binary64 x))
+positive-root : (x : Float) → T (positive x) → SQRT x ≡ value (sqrt_of (count binary64 x))
 unfolding SQRT positive finite lt of_bits
 positive-root nan p = absurd p
 positive-root (inf s) p = absurd p

@@ -1,5 +1,5 @@
 use borrow.Author.Rules.{rules}
-use Rattle.lots.specs.Reckoning.{reckonIf}
+use Rattle.lots.specs.Reckoning.{reckon_if}
 use Rattle.lots.proofs.vector_of.Statement.{statement}
 use Rattle.lots.proofs.vector_of.Tie as tie
 
@@ -13,7 +13,7 @@ value-vector-requires : tie.Need-value-vector-requires
 value-vector-requires c κs = search rules
 
 returns : tie.Need-returns
-unfolding reckonIf
+unfolding reckon_if
 returns c =
     let i = c.before in
     rw (← i.before.before.floats-fit.ensures, i.before.if1.true, c.value-vector.ensures, i.run-input.ensures)
@@ -22,7 +22,7 @@ refused-vector-requires : tie.Need-refused-vector-requires
 refused-vector-requires c κs = search rules
 
 returns-2 : tie.Need-returns-2
-unfolding reckonIf
+unfolding reckon_if
 returns-2 c = rw (← c.before.before.floats-fit.ensures, c.before.if1.false, c.refused-vector.ensures)
 
 pub vector-of-spec : {M : Type 1} → statement M

@@ -1,5 +1,5 @@
 use Rattle.std.proofs.Common.{rules}
-use Rattle.plan.specs.Input.{ratesOk}
+use Rattle.plan.specs.Input.{rates_ok}
 use Rattle.plan.proofs.floats_fit.Statement.{statement}
 use Rattle.plan.proofs.floats_fit.Tie as tie
 
@@ -16,7 +16,7 @@ is-finite-requires-2 : tie.Need-is-finite-requires-2
 is-finite-requires-2 c κs = search rules
 
 returns : tie.Need-returns
-unfolding ratesOk
+unfolding rates_ok
 returns c = rw (c.before.before.before.is-positive-finite.ensures, c.before.before.is_finite.ensures, c.before.is-positive-finite2.ensures, c.is-finite2.ensures)
 
 pub floats-fit-spec : {M : Type 1} → statement M

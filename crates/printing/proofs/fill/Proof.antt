@@ -2,7 +2,7 @@
 use mathlib.Core.Path.{◌≡◌, sym, ◌∙◌}
 use Prim.Native.Nat.{ℕ}
 use native.Mathlib.Omega.{arith}
-use Rattle.sheet.proofs.Fills.{fill-there}
+use Rattle.sheet.proofs.Fills.{fill_there}
 use borrow.Author.Rules.{rules}
 use Rattle.printing.proofs.fill.Statement.{statement}
 use Rattle.printing.proofs.fill.Tie as tie
@@ -31,7 +31,7 @@ returns-2 : tie.Need-returns-2
 returns-2 c =
     let w = c.before.before.before.before in
     let s = w.before.before.before.before in
-    let f = fill-there s.args.kind s.args.s.now s.args.at s.args.out.now s.requires in
+    let f = fill_there s.args.kind s.args.s.now s.args.at s.args.out.now s.requires in
     let z : ◌≡◌ {A = ℕ} 0 1 = cc (w.fill-texts.ensures.0, c.enum_told.given.1, f.2) in
     absurd (omega arith)
 

@@ -2,7 +2,7 @@
 use native.Mathlib.Omega.{arith}
 use borrow.Author.Rules.{rules}
 use Rattle.printing.specs.Printing.{OfSomeSheet}
-use Rattle.printing.proofs.Handing.{read-most, of-sheet}
+use Rattle.printing.proofs.Handing.{read_most, of_sheet}
 use Rattle.printing.proofs.print_sheet.Statement.{statement}
 use Rattle.printing.proofs.print_sheet.Tie as tie
 
@@ -33,8 +33,8 @@ enum_told c = search rules
 returns : tie.Need-returns
 returns c =
     let r = c.before.before.before.before.before.before.before in
-    let m = read-most c.before.before.before.before.n.given.0.0 _ r.read.new.0 c.before.first.ensures in
-    of-sheet _ _ _ (omega (arith, m, r.read.auto.0, r.before.before.blank.ensures)) c.print-texts.ensures
+    let m = read_most c.before.before.before.before.n.given.0.0 _ r.read.new.0 c.before.first.ensures in
+    of_sheet _ _ _ (omega (arith, m, r.read.auto.0, r.before.before.blank.ensures)) c.print-texts.ensures
 
 returns-2 : tie.Need-returns-2
 unfolding OfSomeSheet

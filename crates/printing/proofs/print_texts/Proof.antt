@@ -5,10 +5,10 @@ use Prim.Native.Nat.{◌+◌, ◌-◌, ◌<◌, ◌≤◌}
 use native.Mathlib.Omega.{arith}
 use lib.ListN.{length, take}
 use Rattle.sheet.proofs.Texts.{room_most}
-use Rattle.sheet.proofs.Fills.{fills-move}
+use Rattle.sheet.proofs.Fills.{fills_move}
 use borrow.Author.Rules.{rules}
 use Rattle.printing.specs.Printing.{Next, Counted}
-use Rattle.printing.proofs.Handing.{handed-on, Handing, handing-none, handing-next, handing-all}
+use Rattle.printing.proofs.Handing.{handed_on, Handing, handing_none, handing_next, handing_all}
 use Rattle.printing.proofs.print_texts.Statement.{statement}
 use Rattle.printing.proofs.print_texts.Tie as tie
 
@@ -25,7 +25,7 @@ none-done-requires : tie.Need-none-done-requires invariant-loop decreases-loop
 none-done-requires c κs = search rules
 
 loop-holds : tie.Need-loop-init invariant-loop decreases-loop
-loop-holds c = (subst (Handing _ _ 0) (sym c.none_done.ensures) (handing-none _ _), c.before.large-buffer.ensures, omega arith)
+loop-holds c = (subst (Handing _ _ 0) (sym c.none_done.ensures) (handing_none _ _), c.before.large-buffer.ensures, omega arith)
 
 slice-aggregate-fill : tie.Need-slice-aggregate-fill invariant-loop decreases-loop
 slice-aggregate-fill c = search rules
@@ -46,7 +46,7 @@ next c =
     let f = c.before.before.before in
     let l = f.before.before.before in
     let a = l.before.before.before.before.args in
-    handing-next a.kind a.s.now l.loop.at l.loop.done.count l.loop.invariant.0 l.loop.out c.first.result.now f.fill.result.count f.fill.result.next f.fill.ensures.0
+    handing_next a.kind a.s.now l.loop.at l.loop.done.count l.loop.invariant.0 l.loop.out c.first.result.now f.fill.result.count f.fill.result.next f.fill.ensures.0
     (c.first.ensures ∙ ap (take f.fill.result.count) f.fill.ensures.1)
 
 -- a fill goes on
@@ -54,7 +54,7 @@ moves : (f : tie.After-fill invariant-loop decreases-loop) → let l = f.before.
 moves f =
     let l = f.before.before.before in
     let a = l.before.before.before.before.args in
-    fills-move a.kind a.s.now l.loop.at l.loop.out _ _ f.fill.ensures.0 f.before.before.loop-test.true
+    fills_move a.kind a.s.now l.loop.at l.loop.out _ _ f.fill.ensures.0 f.before.before.loop-test.true
 
 hand-on-requires : tie.Need-hand-on-requires invariant-loop decreases-loop
 hand-on-requires c κs = (next c).0
@@ -77,7 +77,7 @@ loop-again c =
     let h = c.before.before.before in
     let f = h.before.before.before.before in
     let l = f.before.before.before in
-    let n = handed-on _ _ _ c.before.more.given.1 h.hand_on.ensures in
+    let n = handed_on _ _ _ c.before.more.given.1 h.hand_on.ensures in
     (subst (Handing _ _ _) (sym n) (next h.before).1, l.loop.invariant.1 ∙ sym f.fill.auto.1.1.0, (moves f).1)
 
 count-of-requires : tie.Need-count-of-requires invariant-loop decreases-loop
@@ -85,7 +85,7 @@ count-of-requires c κs = search rules
 
 returns-2 : tie.Need-returns-2 invariant-loop decreases-loop
 unfolding Counted
-returns-2 c = let l = c.before in c.count-of.ensures ∙ handing-all _ _ _ _ l.before.loop.invariant.0 l.loop-test.false
+returns-2 c = let l = c.before in c.count_of_lem.ensures ∙ handing_all _ _ _ _ l.before.loop.invariant.0 l.loop-test.false
 
 pub print-texts-spec : {M : Type 1} → statement M
 print-texts-spec =

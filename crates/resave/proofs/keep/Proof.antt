@@ -1,14 +1,14 @@
 -- `resave::keep` meets its contract. The loop's invariant: what is kept of the records passed is written. The measure is what is left of the sheet. Assumes nothing.
 use mathlib.Core.Path.{◌≡◌, sym}
-use Prim.Native.Nat.{◌+◌, ◌-◌, ◌≤◌, zero-le}
+use Prim.Native.Nat.{◌+◌, ◌-◌, ◌≤◌, zero_le}
 use native.Mathlib.Omega.{arith}
 use lib.ListN.{length}
 use borrow.Author.Rules.{rules}
 use borrow.Rule.Slice.PartMut.{put_mid}
-use Rattle.record.specs.Save.{recordRoom}
+use Rattle.record.specs.Save.{record_room}
 use Rattle.record.specs.Promises.{Bytes}
 use Rattle.buffers.proofs.Texts.{part_room}
-use Rattle.resave.proofs.Keeping.{Keeping, keeping_none, keeping-room, keeping-less, keeping-more, keeping_all, kept-long}
+use Rattle.resave.proofs.Keeping.{Keeping, keeping_none, keeping_room, keeping_less, keeping_more, keeping_all, kept_long}
 use Rattle.resave.proofs.keep.Statement.{statement}
 use Rattle.resave.proofs.keep.Tie as tie
 
@@ -19,16 +19,16 @@ abbrev decreases-loop : tie.decreases-loop
 decreases-loop s out₀ n₀ at₀ out n at = length s - at
 
 returns : tie.Need-returns invariant-loop decreases-loop
-returns c = (sym (kept-long _ c.if1.true), zero-le)
+returns c = (sym (kept_long _ c.if1.true), zero_le)
 
 loop-holds : tie.Need-loop-init invariant-loop decreases-loop
 loop-holds c = keeping_none _ _
 
 room : (c : tie.In-loop invariant-loop decreases-loop) → let l = c.before.loop in let a = c.before.before.before.before.before.args in
-    (l.n + recordRoom ≤ length a.out.now) × (length l.out ≡ length a.out.now)
+    (l.n + record_room ≤ length a.out.now) × (length l.out ≡ length a.out.now)
 room c =
     let e = c.before.before in
-    keeping-room _ _ _ _ _ e.if1.false e.before.before.before.requires c.before.loop.invariant
+    keeping_room _ _ _ _ _ e.if1.false e.before.before.before.requires c.before.loop.invariant
 
 bytes : (c : tie.In-loop invariant-loop decreases-loop) → Bytes c.before.before.before.before.before.args.s.now
 bytes c i = omega (arith, c.before.before.before.before.shared-slice-known.given i)
@@ -43,7 +43,7 @@ part-keep-record-end : tie.Need-slice-bounds-keep-record-end invariant-loop decr
 part-keep-record-end c = search rules
 
 keep-record-requires : tie.Need-keep-record-requires invariant-loop decreases-loop
-keep-record-requires c κs = part_room _ _ _ _ recordRoom c.before.before.loop.invariant.wrote (room c.before).0
+keep-record-requires c κs = part_room _ _ _ _ record_room c.before.before.loop.invariant.wrote (room c.before).0
 
 -- with what is kept of the record at the place, and at the next place
 next : (k : tie.After-keep-record invariant-loop decreases-loop) → let l = k.before.before.before in let a = l.before.before.before.before.args in
@@ -52,7 +52,7 @@ next k =
     let l = k.before.before in
     let e = l.before.before in
     let r = k.keep-record.ensures in
-    keeping-more _ _ _ _ _ e.if1.false e.before.before.before.requires l.before.loop.invariant (bytes l) l.loop-test.true _ _ _ r.0 r.1.0 r.1.1
+    keeping_more _ _ _ _ _ e.if1.false e.before.before.before.requires l.before.loop.invariant (bytes l) l.loop-test.true _ _ _ r.0 r.1.0 r.1.1
 
 add-n : tie.Need-overflow-add-n invariant-loop decreases-loop
 add-n c =
@@ -65,7 +65,7 @@ loop-less c =
     let k = c.before.before.before in
     let l = k.before.before in
     let e = l.before.before in
-    omega (arith, keeping-less _ _ _ _ _ e.if1.false e.before.before.before.requires l.before.loop.invariant (bytes l) l.loop-test.true _ k.keep-record.ensures.1.0)
+    omega (arith, keeping_less _ _ _ _ _ e.if1.false e.before.before.before.requires l.before.loop.invariant (bytes l) l.loop-test.true _ k.keep-record.ensures.1.0)
 
 loop-again : tie.Need-loop-preserved invariant-loop decreases-loop
 loop-again c = next c.before.before.before
@@ -73,7 +73,7 @@ loop-again c = next c.before.before.before
 same_length : tie.Need-same-length invariant-loop decreases-loop
 same_length c =
     let e = c.before.before in
-    (keeping-room _ _ _ _ _ e.if1.false e.before.before.before.requires c.before.loop.invariant).1
+    (keeping_room _ _ _ _ _ e.if1.false e.before.before.before.requires c.before.loop.invariant).1
 
 returns-2 : tie.Need-returns-2 invariant-loop decreases-loop
 returns-2 c =

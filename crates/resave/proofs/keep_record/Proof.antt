@@ -4,14 +4,14 @@ use Prim.Native.Nat.{ℕ}
 use native.Mathlib.Omega.{arith}
 use lib.ListN.{length}
 use borrow.Author.Rules.{rules}
-use Rattle.record.specs.Record.{readRecord}
+use Rattle.record.specs.Record.{read_record}
 use Rattle.buffers.specs.Over.{over}
-use Rattle.record.specs.Save.{recordBytes, saved, savedIn}
+use Rattle.record.specs.Save.{record_bytes, saved, saved_in}
 use Rattle.record.specs.declared.record.Record.{Record}
 use Rattle.record.specs.declared.record.RecordAnswer.TheVariants as RecordAnswer
 use Rattle.record.specs.declared.save.SaveAnswer.TheVariants as SaveAnswer
-use Rattle.record.proofs.Saving.{saved-whole}
-use Rattle.record.proofs.Saved.{taken-saves}
+use Rattle.record.proofs.Saving.{saved_whole}
+use Rattle.record.proofs.Saved.{taken_saves}
 use Rattle.resave.specs.Resave.{piece, onward}
 use Rattle.resave.proofs.keep_record.Statement.{statement}
 use Rattle.resave.proofs.keep_record.Tie as tie
@@ -21,16 +21,16 @@ abbrev record_of : tie.After-save-record → Record
 record_of w = w.before.before.before.r.given.0.0
 
 took : (w : tie.After-save-record) → let r = w.before.before.before in let a = r.before.before.before.before.before.args in
-    readRecord a.s.now a.at ≡ RecordAnswer.Record (record_of w) r.r.given.0.1.0
+    read_record a.s.now a.at ≡ RecordAnswer.Record (record_of w) r.r.given.0.1.0
 took w =
     let r = w.before.before.before in
     sym r.before.before.read-record.ensures ∙ r.r.given.1
 
 whole : (w : tie.After-save-record) → let a = w.before.before.before.before.before.before.before.before.args in
-    (saved (record_of w) a.out.now ≡ SaveAnswer.Saved (length (recordBytes (record_of w)))) × (savedIn (record_of w) a.out.now ≡ over (recordBytes (record_of w)) a.out.now)
+    (saved (record_of w) a.out.now ≡ SaveAnswer.Saved (length (record_bytes (record_of w)))) × (saved_in (record_of w) a.out.now ≡ over (record_bytes (record_of w)) a.out.now)
 whole w =
     let s = w.before.before.before.before.before.before.before.before in
-    saved-whole (record_of w) s.args.out.now s.requires (taken-saves s.args.s.now s.args.at (record_of w) _ (took w))
+    saved_whole (record_of w) s.args.out.now s.requires (taken_saves s.args.s.now s.args.at (record_of w) _ (took w))
 
 read-record-requires : tie.Need-read-record-requires
 read-record-requires c κs = search rules
@@ -62,7 +62,7 @@ returns c =
     let w = c.before.before.before.before.before in
     let k = whole w in
     let a = w.save-record.ensures in
-    let n : c.before.count.given.0.0 ≡ length (recordBytes (record_of w)) = cc (a.0, c.before.count.given.1, k.0) in
+    let n : c.before.count.given.0.0 ≡ length (record_bytes (record_of w)) = cc (a.0, c.before.count.given.1, k.0) in
     rw (took w) (n, (refl, a.1 ∙ k.1))
 
 same-length-2 : tie.Need-same-length-2

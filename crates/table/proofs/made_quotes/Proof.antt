@@ -2,17 +2,17 @@
 use mathlib.Core.Path.{◌≡◌, sym, ◌∙◌}
 use mir.Facts.{to_z-of_z}
 use borrow.Author.Rules.{rules}
-use Rattle.vector.specs.Values.{valueVector}
-use Rattle.distances.specs.Reading.{answerFrom}
-use Rattle.quote.specs.Quotes.{quotesByAnswer}
-use Rattle.table.specs.Table.{keptIn}
-use Rattle.table.proofs.Checked.{table-passed}
-use Rattle.vector.proofs.Arrays.{full-arrays}
+use Rattle.vector.specs.Values.{value_vector}
+use Rattle.distances.specs.Reading.{answer_from}
+use Rattle.quote.specs.Quotes.{quotes_by_answer}
+use Rattle.table.specs.Table.{kept_in}
+use Rattle.table.proofs.Checked.{table_passed}
+use Rattle.vector.proofs.Arrays.{full_arrays}
 use Rattle.table.proofs.made_quotes.Statement.{statement}
 use Rattle.table.proofs.made_quotes.Tie as tie
 
-quotes-are : (c : tie.After-quotes-by) → let a = c.before.before.before.before.before.before.before.args in c.quotes-by.result ≡ quotesByAnswer a.mid a.least (answerFrom (valueVector a.input) a.k a.base a.q)
-unfolding answerFrom
+quotes-are : (c : tie.After-quotes-by) → let a = c.before.before.before.before.before.before.before.args in c.quotes-by.result ≡ quotes_by_answer a.mid a.least (answer_from (value_vector a.input) a.k a.base a.q)
+unfolding answer_from
 quotes-are c =
     let v = c.before.before.before.before.before in
     let s = v.before.before in
@@ -34,8 +34,8 @@ add-row-requires : tie.Need-add-row-requires
 add-row-requires c κs =
     let v = c.before.before.before.before.before.before.before.before.before.before.before.before.before.before in
     let s = v.before.before in
-    let f = full-arrays s.args.input in
-    (s.requires.0, (table-passed s.args.table.now s.requires.1).within, rw v.value-vector.ensures f.weights, rw v.value-vector.ensures f.offsets)
+    let f = full_arrays s.args.input in
+    (s.requires.0, (table_passed s.args.table.now s.requires.1).within, rw v.value-vector.ensures f.weights, rw v.value-vector.ensures f.offsets)
 
 enum_told : tie.Need-enum-told
 enum_told c = search rules
@@ -47,7 +47,7 @@ same_length : tie.Need-same-length
 same_length c = search rules
 
 returns : tie.Need-returns
-unfolding keptIn
+unfolding kept_in
 returns c =
     let q = c.before.before.before.before.before.before.before.before.before.before in
     let a = q.before.before in
@@ -55,11 +55,11 @@ returns c =
     (sym q.quotes.given.1 ∙ quotes-are a, rw (← v.value-vector.ensures) c.before.before.add_row.ensures)
 
 returns-2 : tie.Need-returns-2
-unfolding keptIn
+unfolding kept_in
 returns-2 c = (quotes-are c.before.before, rw c.enum_told.given.1)
 
 returns-3 : tie.Need-returns-3
-unfolding keptIn
+unfolding kept_in
 returns-3 c = (quotes-are c.before.before, rw c.enum-told2.given.1)
 
 pub made-quotes-spec : {M : Type 1} → statement M

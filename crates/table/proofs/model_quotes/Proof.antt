@@ -4,8 +4,8 @@ use mir.Facts.{to_z-of_z}
 use borrow.Author.Rules.{rules}
 use Rattle.model.specs.Model.{input_of}
 use Rattle.table.specs.Table.{Used, found}
-use Rattle.table.proofs.Checked.{table-passed}
-use Rattle.table.proofs.Answering.{row-ready, used-row, used-made}
+use Rattle.table.proofs.Checked.{table_passed}
+use Rattle.table.proofs.Answering.{row_ready, used_row, used_made}
 use Rattle.table.proofs.model_quotes.Statement.{statement}
 use Rattle.table.proofs.model_quotes.Tie as tie
 
@@ -15,7 +15,7 @@ run-input-requires c κs = search rules
 
 -- src/lib.rt:92:11
 find-requires : tie.Need-find-requires
-find-requires c κs = let s = c.before.before.before in (s.requires.0, (table-passed s.args.table.now s.requires.1).few)
+find-requires c κs = let s = c.before.before.before in (s.requires.0, (table_passed s.args.table.now s.requires.1).few)
 
 -- src/lib.rt:93:20
 enum-known-r : tie.Need-enum-known-r
@@ -26,7 +26,7 @@ answer-of-row-requires : tie.Need-answer-of-row-requires
 answer-of-row-requires c κs =
     let s = c.before.before.before.before.before.before.before.before in
     let e = sym c.before.before.before.before.find.ensures ∙ c.before.before.r.given.1 in
-    let (few, passes) = row-ready s.args.table.now _ _ s.requires.1 e in
+    let (few, passes) = row_ready s.args.table.now _ _ s.requires.1 e in
     (s.requires.0, few, passes)
 
 -- src/lib.rt:93:26
@@ -52,7 +52,7 @@ returns c =
     let t = s.args.table.now in
     let i = c.before.before.before.before.before.before.before.before in
     let e = ap (found t) (sym i.run-input.ensures) ∙ sym c.before.before.before.before.before.before.find.ensures ∙ c.before.before.before.before.r.given.1 in
-    let u = used-row s.args.m s.args.q s.args.mid s.args.least s.args.tau t _ e in
+    let u = used_row s.args.m s.args.q s.args.mid s.args.least s.args.tau t _ e in
     (rw (u, c.quotes-by.ensures, to_z-of_z s.ranges.mid, to_z-of_z s.ranges.least, c.before.answer-of-row.ensures, to_z-of_z s.ranges.q), rw u)
 
 -- src/lib.rt:86:1
@@ -66,7 +66,7 @@ returns-2 c =
     let i = c.before.before.before.before.before.before.before.before in
     let e = sym c.before.before.before.before.before.before.find.ensures ∙ c.before.before.before.before.enum_told.given.1 in
     let m = c.before.before.made-quotes.ensures in
-    used-made s.args.m s.args.q s.args.mid s.args.least s.args.tau s.args.table.now _ i.run-input.ensures _ _ _ (to_z-of_z s.ranges.mid) (to_z-of_z s.ranges.least)
+    used_made s.args.m s.args.q s.args.mid s.args.least s.args.tau s.args.table.now _ i.run-input.ensures _ _ _ (to_z-of_z s.ranges.mid) (to_z-of_z s.ranges.least)
     (to_z-of_z s.ranges.q) e _ _ m.0 m.1
 
 pub model-quotes-spec : {M : Type 1} → statement M

@@ -2,21 +2,21 @@
 use mathlib.Core.Path.{◌≡◌, sym, ap, ◌∙◌}
 use mir.Facts.{to_z-of_z}
 use borrow.Author.Rules.{rules}
-use Rattle.elementary.specs.Checks.{firstFailing, checkOf}
+use Rattle.elementary.specs.Checks.{first_failing, check_of}
 use Rattle.elementary.specs.declared.Check.TheVariants as Check
 use Rattle.amounts.proofs.Limits.{kept}
-use Rattle.model.specs.Model.{exactModel}
-use Rattle.table.specs.Table.{tableChecks}
-use Rattle.table.proofs.Answering.{ready, used-stopped, used-given, used-refused}
+use Rattle.model.specs.Model.{exact_model}
+use Rattle.table.specs.Table.{table_checks}
+use Rattle.table.proofs.Answering.{ready, used_stopped, used_given, used_refused}
 use Rattle.table.proofs.table_quotes.Statement.{statement}
 use Rattle.table.proofs.table_quotes.Tie as tie
 
 -- the table's checks pass
-passed : (c : tie.After-enum-told) → Check.Passes ≡ checkOf (firstFailing (tableChecks c.before.before.before.before.before.args.table.now))
+passed : (c : tie.After-enum-told) → Check.Passes ≡ check_of (first_failing (table_checks c.before.before.before.before.before.args.table.now))
 passed c = sym c.enum_told.given.1 ∙ c.before.before.check-table.ensures
 
 -- the model's answer
-model_is : (c : tie.After-exact) → let a = c.before.before.before.before.before.before.before.args in c.exact.result ≡ exactModel a.mid-price a.inventory a.config a.volatility a.current-time
+model_is : (c : tie.After-exact) → let a = c.before.before.before.before.before.before.before.args in c.exact.result ≡ exact_model a.mid-price a.inventory a.config a.volatility a.current-time
 model_is c =
     let s = c.before.before.before.before.before.before.before in
     rw (to_z-of_z s.ranges.mid-price, to_z-of_z s.ranges.inventory, to_z-of_z s.ranges.volatility) at c.exact.ensures
@@ -42,7 +42,7 @@ returns c =
     let s = c.before.before.before.before.before.before in
     let a = s.args in
     let n = c.before.number.given in
-    let u = used-stopped a.table.now a.mid-price a.inventory a.config a.volatility a.current-time _ (sym n.1 ∙ c.before.before.before.check-table.ensures) in
+    let u = used_stopped a.table.now a.mid-price a.inventory a.config a.volatility a.current-time _ (sym n.1 ∙ c.before.before.before.check-table.ensures) in
     (rw u, rw u)
 
 -- src/lib.rt:120:11
@@ -78,7 +78,7 @@ returns-2 c =
     let s = n.before.before.before.before.before.before.before in
     let a = s.args in
     let q = c.before.before.model-quotes.ensures in
-    used-given a.table.now a.mid-price a.inventory a.config a.volatility a.current-time (passed n.before.before) _ _ (sym (model_is n) ∙ m.m.given.1) _ _ _ _
+    used_given a.table.now a.mid-price a.inventory a.config a.volatility a.current-time (passed n.before.before) _ _ (sym (model_is n) ∙ m.m.given.1) _ _ _ _
     (kept m.m.given.0.1.0 t.before.known-told2.given.1.0.1) (to_z-of_z s.ranges.mid-price) (kept a.config.min_spread n.before.struct_told.given.1.1.1.1.1.1.0.1)
     t.seconds-to-terminal.ensures _ _ q.0 q.1
 
@@ -92,7 +92,7 @@ returns-3 c =
     let n = c.before.before.before in
     let s = n.before.before.before.before.before.before.before in
     let a = s.args in
-    let u = used-refused a.table.now a.mid-price a.inventory a.config a.volatility a.current-time (passed n.before.before) _ (sym (model_is n) ∙ c.before.number2.given.1) in
+    let u = used_refused a.table.now a.mid-price a.inventory a.config a.volatility a.current-time (passed n.before.before) _ (sym (model_is n) ∙ c.before.number2.given.1) in
     (rw u, rw u)
 
 pub table-quotes-spec : {M : Type 1} → statement M

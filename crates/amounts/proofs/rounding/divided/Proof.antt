@@ -1,6 +1,6 @@
 use Rattle.std.proofs.Common.{div-le_self, arith, rules}
 use native.Mathlib.Nat.{mod-le}
-use Rattle.amounts.proofs.Words.{words-cut, words_up, words-whole}
+use Rattle.amounts.proofs.Words.{words_cut, words_up, words_whole}
 use Rattle.amounts.proofs.rounding.divided.Statement.{statement}
 use Rattle.amounts.proofs.rounding.divided.Tie as tie
 
@@ -13,7 +13,7 @@ rem-rest c = search rules
 returns : tie.Need-returns
 returns c =
     let s = c.before.before.before in
-    rw c.if1.true (words-cut s.args.p.high s.args.p.low s.args.unit s.requires.0.1 s.requires.1.0)
+    rw c.if1.true (words_cut s.args.p.high s.args.p.low s.args.unit s.requires.0.1 s.requires.1.0)
 
 add-if2 : tie.Need-overflow-add-if2
 add-if2 c =
@@ -33,7 +33,7 @@ returns-2 c =
 returns-3 : tie.Need-returns-3
 returns-3 c =
     let s = c.before.before.before.before.before in
-    rw c.before.before.if1.false (words-whole s.args.p.high s.args.p.low s.args.unit s.requires.0.1 s.requires.1.0 c.if2.false)
+    rw c.before.before.if1.false (words_whole s.args.p.high s.args.p.low s.args.unit s.requires.0.1 s.requires.1.0 c.if2.false)
 
 pub divided-spec : {M : Type 1} → statement M
 divided-spec = tie.close (tie.spec div-q rem-rest returns add-if2 add-result returns-2 returns-3)

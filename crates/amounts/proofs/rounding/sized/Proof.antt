@@ -1,8 +1,8 @@
-use Rattle.std.proofs.Common.{T, pos, sym, subst, zero-le, lt_of_le_of_lt, lit<, lit≤, w64, rules}
+use Rattle.std.proofs.Common.{T, pos, sym, subst, zero_le, lt_of_le_of_lt, lit<, lit≤, w64, rules}
 use lib.Ieee.{binary64, fits}
 use mir.ValLaws.{to_z_pos}
-use Rattle.amounts.specs.Inner.{sizeBy}
-use Rattle.amounts.proofs.Billionths.{least-cut, least-up, most, is-count, is-beyond}
+use Rattle.amounts.specs.Inner.{size_by}
+use Rattle.amounts.proofs.Billionths.{least_cut, least_up, most, is_count, is_beyond}
 use Rattle.amounts.proofs.rounding.sized.Statement.{statement}
 use Rattle.amounts.proofs.rounding.sized.Tie as tie
 
@@ -13,12 +13,12 @@ held c = subst T (sym c.well-formed.0.1) tt
 returns : tie.Need-returns
 returns c =
     let s = c.before.before in
-    rw (c.if2.true, least-cut s.args.x (held s) s.requires c.before.if1.true) (sym (is-count (pos 0) zero-le))
+    rw (c.if2.true, least_cut s.args.x (held s) s.requires c.before.if1.true) (sym (is_count (pos 0) zero_le))
 
 returns-2 : tie.Need-returns-2
 returns-2 c =
     let s = c.before.before in
-    rw (c.if2.false, least-up s.args.x (held s) s.requires c.before.if1.true) (sym (is-count (pos 1) (lit≤ tt)))
+    rw (c.if2.false, least_up s.args.x (held s) s.requires c.before.if1.true) (sym (is_count (pos 1) (lit≤ tt)))
 
 counted-requires : tie.Need-counted-requires
 counted-requires c κs = search rules
@@ -32,17 +32,17 @@ cast-t8 c = search rules
 returns-3 : tie.Need-returns-3
 returns-3 c =
     let n = c.before.counted in
-    rw (to_z_pos w64 n.result (lt_of_le_of_lt c.if4.true (lit< tt)), ← n.ensures) (sym (is-count (pos n.result) c.if4.true))
+    rw (to_z_pos w64 n.result (lt_of_le_of_lt c.if4.true (lit< tt)), ← n.ensures) (sym (is_count (pos n.result) c.if4.true))
 
 returns-4 : tie.Need-returns-4
 returns-4 c =
     let n = c.before.counted in
-    rw (← n.ensures) (sym (is-beyond (pos n.result) c.if4.false))
+    rw (← n.ensures) (sym (is_beyond (pos n.result) c.if4.false))
 
 returns-5 : tie.Need-returns-5
 returns-5 c =
     let s = c.before.before in
-    sym (is-beyond (pos (sizeBy s.args.cut s.args.x)) (most s.args.cut s.args.x (held s) s.requires c.if3.false))
+    sym (is_beyond (pos (size_by s.args.cut s.args.x)) (most s.args.cut s.args.x (held s) s.requires c.if3.false))
 
 pub sized-spec : {M : Type 1} → statement M
 sized-spec =

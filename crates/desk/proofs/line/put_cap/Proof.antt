@@ -1,6 +1,6 @@
 -- The letter's place, the float's and the numbers', one after the other. Assumes nothing.
 use borrow.Author.Rules.{rules}
-use Rattle.desk.specs.Lines.{fields, afterFields, lined, afterLined}
+use Rattle.desk.specs.Lines.{fields, after_fields, lined, after_lined}
 use Rattle.desk.proofs.line.put_cap.Statement.{statement}
 use Rattle.desk.proofs.line.put_cap.Tie as tie
 
@@ -23,7 +23,7 @@ same_length : tie.Need-same-length
 same_length c = search rules
 
 returns : tie.Need-returns
-unfolding lined afterLined fields afterFields
+unfolding lined after_lined fields after_fields
 returns c =
     let s = c.before.before in
     let n = s.before.before.before.before in

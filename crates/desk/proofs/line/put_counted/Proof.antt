@@ -1,6 +1,6 @@
 -- The place after bid and ask, and the steps'. Assumes nothing.
 use borrow.Author.Rules.{rules}
-use Rattle.desk.specs.Lines.{fields, afterFields, lined, afterLined}
+use Rattle.desk.specs.Lines.{fields, after_fields, lined, after_lined}
 use Rattle.desk.proofs.line.put_counted.Statement.{statement}
 use Rattle.desk.proofs.line.put_counted.Tie as tie
 
@@ -14,7 +14,7 @@ same_length : tie.Need-same-length
 same_length c = search rules
 
 returns : tie.Need-returns
-unfolding lined afterLined fields afterFields
+unfolding lined after_lined fields after_fields
 returns c =
     let n = c.before.before in
     let q = n.before.before.before.before.put-quotes.ensures in

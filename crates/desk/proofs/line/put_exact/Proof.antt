@@ -1,7 +1,7 @@
 -- Each answer's letter and fields are those of the writer that is called. Assumes nothing.
 use borrow.Author.Rules.{rules}
-use Rattle.harness.specs.Texts.{lettered, afterLettered}
-use Rattle.desk.specs.Lines.{fields, afterFields, lined, afterLined, exactLetter, exactTexts}
+use Rattle.harness.specs.Texts.{lettered, after_lettered}
+use Rattle.desk.specs.Lines.{fields, after_fields, lined, after_lined, exact_letter, exact_texts}
 use Rattle.desk.proofs.line.put_exact.Statement.{statement}
 use Rattle.desk.proofs.line.put_exact.Tie as tie
 
@@ -27,21 +27,21 @@ same_length : tie.Need-same-length
 same_length c = search rules
 
 returns : tie.Need-returns
-unfolding exactLetter exactTexts
+unfolding exact_letter exact_texts
 returns c = rw c.before.before.before.before.before.a.given.1 c.before.before.put-counted.ensures
 
 same-length-2 : tie.Need-same-length-2
 same-length-2 c = search rules
 
 returns-2 : tie.Need-returns-2
-unfolding exactLetter exactTexts
+unfolding exact_letter exact_texts
 returns-2 c = rw c.before.before.before.before.before.a2.given.1 c.before.before.put-cap.ensures
 
 same-length-3 : tie.Need-same-length-3
 same-length-3 c = search rules
 
 returns-3 : tie.Need-returns-3
-unfolding exactLetter exactTexts lined afterLined fields afterFields lettered afterLettered
+unfolding exact_letter exact_texts lined after_lined fields after_fields lettered after_lettered
 returns-3 c = rw c.before.before.before.before.before.a3.given.1 c.before.before.put-refusal.ensures
 
 pub put-exact-spec : {M : Type 1} → statement M

@@ -2,7 +2,7 @@
 use mathlib.Core.Path.{◌∙◌}
 use native.Mathlib.Omega.{arith}
 use borrow.Author.Rules.{rules}
-use Rattle.desk.specs.Lines.{floatText}
+use Rattle.desk.specs.Lines.{float_text}
 use Rattle.desk.proofs.Sixteen.{sixteen}
 use Rattle.desk.proofs.line.put_float.Statement.{statement}
 use Rattle.desk.proofs.line.put_float.Tie as tie
@@ -26,7 +26,7 @@ same_length : tie.Need-same-length
 same_length c = search rules
 
 returns : tie.Need-returns
-unfolding floatText
+unfolding float_text
 returns c =
     let q = c.before.before in
     let h = q.before.before.before in

@@ -1,7 +1,7 @@
 -- A price's digits, or the sign of an absent one. Assumes nothing.
 use borrow.Author.Rules.{rules}
 use Rattle.amounts.proofs.Limits.{kept}
-use Rattle.desk.specs.Lines.{priceText}
+use Rattle.desk.specs.Lines.{price_text}
 use Rattle.desk.proofs.line.put_price.Statement.{statement}
 use Rattle.desk.proofs.line.put_price.Tie as tie
 
@@ -27,7 +27,7 @@ same_length : tie.Need-same-length
 same_length c = search rules
 
 returns : tie.Need-returns
-unfolding priceText
+unfolding price_text
 returns c =
     let q = c.before.before in
     let k = q.before.before.before in
@@ -38,7 +38,7 @@ same-length-2 : tie.Need-same-length-2
 same-length-2 c = search rules
 
 returns-2 : tie.Need-returns-2
-unfolding priceText
+unfolding price_text
 returns-2 c =
     let q = c.before.before in
     let p = q.before.before.before in

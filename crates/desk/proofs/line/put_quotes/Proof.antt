@@ -1,6 +1,6 @@
 -- The letter's place, the bid's and the ask's, one after the other. Assumes nothing.
 use borrow.Author.Rules.{rules}
-use Rattle.desk.specs.Lines.{fields, afterFields, lined, afterLined}
+use Rattle.desk.specs.Lines.{fields, after_fields, lined, after_lined}
 use Rattle.desk.proofs.line.put_quotes.Statement.{statement}
 use Rattle.desk.proofs.line.put_quotes.Tie as tie
 
@@ -20,7 +20,7 @@ same_length : tie.Need-same-length
 same_length c = search rules
 
 returns : tie.Need-returns
-unfolding lined afterLined fields afterFields
+unfolding lined after_lined fields after_fields
 returns c =
     let a = c.before.before in
     let b = a.before.before.before.before in

@@ -4,16 +4,16 @@ use lib.IntN.{ℤ, nat_abs}
 use lib.Dec.{leb}
 use mir.Facts.{to_z-of_z}
 use borrow.Author.Rules.{rules}
-use Rattle.elementary.specs.Checks.{passes, verdict, first_of, firstFailing, checkOf}
-use Rattle.elementary.proofs.Checks.{check-passes, check-refused}
-use Rattle.plan.specs.Input.{inputChecks}
-use Rattle.distances.proofs.Checked.{entry_next, scale-refused}
+use Rattle.elementary.specs.Checks.{passes, verdict, first_of, first_failing, check_of}
+use Rattle.elementary.proofs.Checks.{check_passes, check_refused}
+use Rattle.plan.specs.Input.{input_checks}
+use Rattle.distances.proofs.Checked.{entry_next, scale_refused}
 use Rattle.distances.proofs.entry.check_entry.Statement.{statement}
 use Rattle.distances.proofs.entry.check_entry.Tie as tie
 
 -- the numbers of the run pass
-input-is : (c : tie.After-enum-told) → firstFailing (inputChecks c.before.before.before.before.before.args.input) ≡ passes
-input-is c = check-passes _ (sym c.enum_told.given.1 ∙ c.before.before.check-input.ensures)
+input-is : (c : tie.After-enum-told) → first_failing (input_checks c.before.before.before.before.before.args.input) ≡ passes
+input-is c = check_passes _ (sym c.enum_told.given.1 ∙ c.before.before.check-input.ensures)
 
 held : (c : tie.After-within) → let a = c.before.before.before.before.before.before.args in leb (nat_abs a.q) a.input.bound ≡ c.within.result
 held c =
@@ -33,34 +33,34 @@ enum-known-number : tie.Need-enum-known-number
 enum-known-number c = search rules
 
 returns : tie.Need-returns
-unfolding first_of checkOf
+unfolding first_of check_of
 returns c =
     let n = c.before in
     let i = n.before.before in
     let t = i.before in
-    let r = check-refused (firstFailing (inputChecks t.before.before.args.input)) _ (sym n.number.given.1 ∙ i.check-input.ensures) in
+    let r = check_refused (first_failing (input_checks t.before.before.args.input)) _ (sym n.number.given.1 ∙ i.check-input.ensures) in
     rw (entry_next _ _ _ _ (sym t.before.scale-fits.ensures ∙ t.if1.true), r)
 
 within-requires : tie.Need-within-requires
 within-requires c κs = search rules
 
 returns-2 : tie.Need-returns-2
-unfolding firstFailing first_of verdict checkOf
+unfolding first_failing first_of verdict check_of
 returns-2 c =
     let w = c.before in
     let t = w.before.before.before.before in
     rw (entry_next _ _ _ _ (sym t.before.scale-fits.ensures ∙ t.if1.true), input-is w.before, held w, c.if2.true)
 
 returns-3 : tie.Need-returns-3
-unfolding firstFailing first_of verdict checkOf
+unfolding first_failing first_of verdict check_of
 returns-3 c =
     let w = c.before in
     let t = w.before.before.before.before in
     rw (entry_next _ _ _ _ (sym t.before.scale-fits.ensures ∙ t.if1.true), input-is w.before, held w, c.if2.false)
 
 returns-4 : tie.Need-returns-4
-unfolding checkOf
-returns-4 c = rw (scale-refused _ _ _ _ (sym c.before.scale-fits.ensures ∙ c.if1.false))
+unfolding check_of
+returns-4 c = rw (scale_refused _ _ _ _ (sym c.before.scale-fits.ensures ∙ c.if1.false))
 
 pub check-entry-spec : {M : Type 1} → statement M
 check-entry-spec =

@@ -1,6 +1,6 @@
 use borrow.Author.Rules.{rules}
-use Rattle.vector.specs.Values.{refusedVector}
-use Rattle.distances.specs.FloatEntry.{refusedEntry}
+use Rattle.vector.specs.Values.{refused_vector}
+use Rattle.distances.specs.FloatEntry.{refused_entry}
 use Rattle.distances.proofs.entry.refused_entry.Statement.{statement}
 use Rattle.distances.proofs.entry.refused_entry.Tie as tie
 
@@ -8,7 +8,7 @@ refused-vector-requires : tie.Need-refused-vector-requires
 refused-vector-requires c κs = search rules
 
 returns : tie.Need-returns
-unfolding refusedEntry refusedVector
+unfolding refused_entry refused_vector
 returns c = rw c.before.refused-vector.ensures
 
 pub refused-entry-spec : {M : Type 1} → statement M

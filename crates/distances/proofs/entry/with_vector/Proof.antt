@@ -1,5 +1,5 @@
 use borrow.Author.Rules.{rules}
-use Rattle.distances.specs.FloatEntry.{withVector}
+use Rattle.distances.specs.FloatEntry.{with_vector}
 use Rattle.distances.proofs.entry.with_vector.Statement.{statement}
 use Rattle.distances.proofs.entry.with_vector.Tie as tie
 
@@ -13,11 +13,11 @@ refused-entry-requires : tie.Need-refused-entry-requires
 refused-entry-requires c κs = search rules
 
 returns : tie.Need-returns
-unfolding withVector
+unfolding with_vector
 returns c = rw c.before.sides.given.1
 
 returns-2 : tie.Need-returns-2
-unfolding withVector
+unfolding with_vector
 returns-2 c = rw (c.before.before.sides2.given.1, c.refused-entry.ensures)
 
 pub with-vector-spec : {M : Type 1} → statement M

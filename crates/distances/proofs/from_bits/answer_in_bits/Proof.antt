@@ -5,7 +5,7 @@ use native.Mathlib.Omega.{arith}
 use mir.Facts.{to_z-of_z}
 use borrow.Author.Rules.{rules}
 use Rattle.distances.specs.Distances.{place}
-use Rattle.distances.specs.Reading.{sidesWith, read_by, floats}
+use Rattle.distances.specs.Reading.{sides_with, read_by, floats}
 use Rattle.distances.proofs.Readable.{Readable, readable, unreadable}
 use Rattle.distances.proofs.from_bits.answer_in_bits.Statement.{statement}
 use Rattle.distances.proofs.from_bits.answer_in_bits.Tie as tie
@@ -52,7 +52,7 @@ returns c =
     rw ((passed p.before).read (floats a.w.now) (floats a.log-offset.now), c.with-steps.ensures, d.sides-at.ensures, placed p)
 
 returns-2 : tie.Need-returns-2
-unfolding read_by sidesWith
+unfolding read_by sides_with
 returns-2 c =
     let n = c.before in
     let d = n.before.before in

@@ -2,7 +2,7 @@ use native.Mathlib.Omega.{arith}
 use borrow.Author.Rules.{rules}
 use Rattle.distances.specs.Distances.{lent}
 use Rattle.distances.specs.Reading.{floats}
-use Rattle.distances.proofs.Asks.{ask-is, no-ask}
+use Rattle.distances.proofs.Asks.{ask_is, no_ask}
 use Rattle.distances.proofs.from_bits.ask_at.Statement.{statement}
 use Rattle.distances.proofs.from_bits.ask_at.Tie as tie
 
@@ -16,12 +16,12 @@ returns : tie.Need-returns
 returns c n =
     let t = c.before in
     let a = t.before.before.before.args in
-    rw (ask-is (lent n (floats a.w.now) (floats a.o.now)) a.k a.base a.i t.if1.true, c.distance-at.ensures n)
+    rw (ask_is (lent n (floats a.w.now) (floats a.o.now)) a.k a.base a.i t.if1.true, c.distance-at.ensures n)
 
 returns-2 : tie.Need-returns-2
 returns-2 c n =
     let a = c.before.before.before.args in
-    rw (no-ask (lent n (floats a.w.now) (floats a.o.now)) a.k a.base a.i (omega arith))
+    rw (no_ask (lent n (floats a.w.now) (floats a.o.now)) a.k a.base a.i (omega arith))
 
 pub ask-at-spec : {M : Type 1} → statement M
 ask-at-spec = tie.close (tie.spec sub-down distance-at-requires returns returns-2)

@@ -3,7 +3,7 @@ use native.Mathlib.Numerals.{add-one}
 use native.Mathlib.Omega.{arith}
 use borrow.Author.Rules.{rules}
 use borrow.Author.Tests.{lt-ltb, le-ltb}
-use Rattle.distances.specs.Distances.{bidAt}
+use Rattle.distances.specs.Distances.{bid_at}
 use Rattle.distances.proofs.from_bits.bid_at.Statement.{statement}
 use Rattle.distances.proofs.from_bits.bid_at.Tie as tie
 
@@ -14,14 +14,14 @@ distance-at-requires : tie.Need-distance-at-requires
 distance-at-requires c κs = search rules
 
 returns : tie.Need-returns
-unfolding bidAt
+unfolding bid_at
 returns c =
     let t = c.before in
     let a = t.before.before.before.args in
     rw (lt-ltb (suc a.i) a.n (omega arith), c.distance-at.ensures a.n, add-one)
 
 returns-2 : tie.Need-returns-2
-unfolding bidAt
+unfolding bid_at
 returns-2 c =
     let a = c.before.before.before.args in
     rw (le-ltb (suc a.i) a.n (omega arith))

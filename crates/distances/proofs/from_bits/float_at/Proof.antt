@@ -3,7 +3,7 @@ use lib.ListN.{length-map, get_or-eq_default}
 use lib.Ieee.{nan, of_bits, div}
 use borrow.Author.Rules.{rules}
 use Rattle.distances.specs.Reading.{floats}
-use Rattle.distances.proofs.Readable.{at-floats}
+use Rattle.distances.proofs.Readable.{at_floats}
 use Rattle.distances.proofs.from_bits.float_at.Statement.{statement}
 use Rattle.distances.proofs.from_bits.float_at.Tie as tie
 
@@ -20,7 +20,7 @@ returns : tie.Need-returns
 returns c =
     let t = c.before.before in
     let a = t.before.before.args in
-    c.float_of.ensures ∙ sym (at-floats a.s.now a.i t.if1.true)
+    c.float_of.ensures ∙ sym (at_floats a.s.now a.i t.if1.true)
 
 returns-2 : tie.Need-returns-2
 unfolding of_bits div

@@ -1,5 +1,5 @@
 use borrow.Author.Rules.{rules}
-use Rattle.distances.specs.Distances.{exactAt}
+use Rattle.distances.specs.Distances.{exact_at}
 use Rattle.distances.proofs.from_bits.sides_at.Statement.{statement}
 use Rattle.distances.proofs.from_bits.sides_at.Tie as tie
 
@@ -13,7 +13,7 @@ both-requires : tie.Need-both-requires
 both-requires c κs = search rules
 
 returns : tie.Need-returns
-unfolding exactAt
+unfolding exact_at
 returns c =
     let k = c.before in
     let b = k.before in

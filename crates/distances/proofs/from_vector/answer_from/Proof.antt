@@ -1,6 +1,6 @@
 use mir.Facts.{to_z-of_z}
 use borrow.Author.Rules.{rules}
-use Rattle.distances.specs.Reading.{answerFrom}
+use Rattle.distances.specs.Reading.{answer_from}
 use Rattle.distances.proofs.from_vector.answer_from.Statement.{statement}
 use Rattle.distances.proofs.from_vector.answer_from.Tie as tie
 
@@ -8,7 +8,7 @@ answer-in-requires : tie.Need-answer-in-requires
 answer-in-requires c κs = search rules
 
 returns : tie.Need-returns
-unfolding answerFrom
+unfolding answer_from
 returns c = rw (c.answer-in.ensures, to_z-of_z c.before.before.before.before.before.ranges.q)
 
 pub answer-from-spec : {M : Type 1} → statement M

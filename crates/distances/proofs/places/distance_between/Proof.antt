@@ -1,6 +1,6 @@
 use mathlib.Core.Path.{ap, ◌∙◌}
 use borrow.Author.Rules.{rules}
-use Rattle.elementary.specs.Elementary.{LN, orNan}
+use Rattle.elementary.specs.Elementary.{LN, or_nan}
 use Rattle.distances.proofs.places.distance_between.Statement.{statement}
 use Rattle.distances.proofs.places.distance_between.Tie as tie
 

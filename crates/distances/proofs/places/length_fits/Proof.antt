@@ -5,7 +5,7 @@ use mathlib.Core.Bool.{Bool, true, false}
 use lib.Dec.{eqb}
 use borrow.Author.Tests.{eq-eqb, ne_eqb, eqb-true, eqb-false}
 use borrow.Author.Rules.{rules}
-use Rattle.distances.specs.Distances.{lengthOk}
+use Rattle.distances.specs.Distances.{length_ok}
 use Rattle.distances.proofs.places.length_fits.Statement.{statement}
 use Rattle.distances.proofs.places.length_fits.Tie as tie
 
@@ -21,7 +21,7 @@ cast-result : tie.Need-overflow-cast-result
 cast-result c = search rules
 
 returns : tie.Need-returns
-unfolding lengthOk
+unfolding length_ok
 returns c = rw odd_is
 
 pub length-fits-spec : {M : Type 1} → statement M

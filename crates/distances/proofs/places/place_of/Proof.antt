@@ -7,7 +7,7 @@ use mir.Val.{to_z, of_z}
 use mir.Facts.{to_z-of_z, to_z_pos}
 use borrow.Author.Rules.{rules}
 use Rattle.distances.specs.Distances.{place}
-use Rattle.distances.proofs.Holdings.{at_place, place-most}
+use Rattle.distances.proofs.Holdings.{at_place, place_most}
 use Rattle.distances.proofs.places.place_of.Statement.{statement}
 use Rattle.distances.proofs.places.place_of.Tie as tie
 
@@ -17,7 +17,7 @@ sum_is c =
     rw (to_z-of_z c.ranges.q, to_z_pos w64 {n = c.args.bound} (omega arith)) (at_place c.args.q c.args.bound c.requires)
 
 small : (c : tie.Start) → place c.args.bound c.args.q < 2 ^ 63
-small c = omega (arith, place-most c.args.q c.args.bound c.requires)
+small c = omega (arith, place_most c.args.q c.args.bound c.requires)
 
 cast-result : tie.Need-overflow-cast-result
 cast-result c = search rules

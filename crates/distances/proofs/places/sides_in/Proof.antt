@@ -6,8 +6,8 @@ use native.Mathlib.Omega.{arith}
 use mir.Syntax.{w64}
 use mir.Val.{Fits}
 use borrow.Author.Tests.{lt-ltb, le-ltb}
-use Rattle.distances.specs.Distances.{lent, distance, bidAt, exactAt}
-use Rattle.distances.proofs.Asks.{ask-is, no-ask}
+use Rattle.distances.specs.Distances.{lent, distance, bid_at, exact_at}
+use Rattle.distances.proofs.Asks.{ask_is, no_ask}
 use Rattle.distances.proofs.places.sides_in.Statement.{statement}
 use Rattle.distances.proofs.places.sides_in.Tie as tie
 
@@ -79,20 +79,20 @@ both-requires : tie.Need-both-requires
 both-requires c κs = tt
 
 returns : tie.Need-returns
-unfolding exactAt bidAt distance
+unfolding exact_at bid_at distance
 returns c =
     let a = c.before.before.before.before.before.before.before.before.before.before.before.args in
-    rw (lt-ltb (suc a.i) a.n (omega (arith, c.before.before.before.before.before.before.before.before.if1.true)), ask-is (lent a.n a.w.now a.o.now) a.k a.base a.i c.before.before.before.before.if2.true, c.both.ensures, c.before.before.before.before.before.distance-between.ensures, c.before.distance-between2.ensures, add-one)
+    rw (lt-ltb (suc a.i) a.n (omega (arith, c.before.before.before.before.before.before.before.before.if1.true)), ask_is (lent a.n a.w.now a.o.now) a.k a.base a.i c.before.before.before.before.if2.true, c.both.ensures, c.before.before.before.before.before.distance-between.ensures, c.before.distance-between2.ensures, add-one)
 
 both-requires-2 : tie.Need-both-requires-2
 both-requires-2 c κs = tt
 
 returns-2 : tie.Need-returns-2
-unfolding exactAt bidAt distance
+unfolding exact_at bid_at distance
 returns-2 c =
     let a = c.before.before.before.before.before.before.before.before.args in
     let z : a.i ≡ 0 = omega (arith, c.before.if2.false) in
-    rw (lt-ltb (suc a.i) a.n (omega (arith, c.before.before.before.before.before.if1.true)), no-ask (lent a.n a.w.now a.o.now) a.k a.base a.i z, c.both2.ensures, c.before.before.distance-between.ensures, add-one)
+    rw (lt-ltb (suc a.i) a.n (omega (arith, c.before.before.before.before.before.if1.true)), no_ask (lent a.n a.w.now a.o.now) a.k a.base a.i z, c.both2.ensures, c.before.before.distance-between.ensures, add-one)
 
 sub-down-2 : tie.Need-overflow-sub-down-2
 sub-down-2 c = c.if3.true
@@ -116,20 +116,20 @@ both-requires-3 : tie.Need-both-requires-3
 both-requires-3 c κs = tt
 
 returns-3 : tie.Need-returns-3
-unfolding exactAt bidAt distance
+unfolding exact_at bid_at distance
 returns-3 c =
     let a = c.before.before.before.before.before.before.before.before.args in
-    rw (le-ltb (suc a.i) a.n (omega (arith, c.before.before.before.before.before.if1.false)), ask-is (lent a.n a.w.now a.o.now) a.k a.base a.i c.before.before.before.before.if3.true, c.both3.ensures, c.before.distance-between3.ensures)
+    rw (le-ltb (suc a.i) a.n (omega (arith, c.before.before.before.before.before.if1.false)), ask_is (lent a.n a.w.now a.o.now) a.k a.base a.i c.before.before.before.before.if3.true, c.both3.ensures, c.before.distance-between3.ensures)
 
 both-requires-4 : tie.Need-both-requires-4
 both-requires-4 c κs = tt
 
 returns-4 : tie.Need-returns-4
-unfolding exactAt bidAt
+unfolding exact_at bid_at
 returns-4 c =
     let a = c.before.before.before.before.before.args in
     let z : a.i ≡ 0 = omega (arith, c.before.if3.false) in
-    rw (le-ltb (suc a.i) a.n (omega (arith, c.before.before.if1.false)), no-ask (lent a.n a.w.now a.o.now) a.k a.base a.i z, c.both4.ensures)
+    rw (le-ltb (suc a.i) a.n (omega (arith, c.before.before.if1.false)), no_ask (lent a.n a.w.now a.o.now) a.k a.base a.i z, c.both4.ensures)
 
 pub sides-in-spec : {M : Type 1} → statement M
 sides-in-spec =

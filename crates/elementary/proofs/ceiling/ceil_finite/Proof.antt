@@ -1,6 +1,6 @@
 use Rattle.std.proofs.Common.{T, sym, subst, rules}
 use lib.Ieee.{binary64, fits}
-use Rattle.elementary.proofs.WholeUp.{large, large-neg}
+use Rattle.elementary.proofs.WholeUp.{large, large_neg}
 use Rattle.elementary.proofs.ceiling.ceil_finite.Statement.{statement}
 use Rattle.elementary.proofs.ceiling.ceil_finite.Tie as tie
 
@@ -17,7 +17,7 @@ returns c = search rules
 returns-2 : tie.Need-returns-2
 returns-2 c =
     let s = c.before.before in
-    large-neg s.args.x s.requires (held s) c.if2.false
+    large_neg s.args.x s.requires (held s) c.if2.false
 
 ceil-small-requires : tie.Need-ceil-small-requires
 ceil-small-requires c κs = search rules

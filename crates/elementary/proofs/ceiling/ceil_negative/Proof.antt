@@ -1,6 +1,6 @@
 use Rattle.std.proofs.Common.{ap, ◌∙◌, rules}
 use lib.Ieee.{neg}
-use Rattle.elementary.proofs.WholeUp.{small-cast, Negative, negative, negative-small, negative_cut}
+use Rattle.elementary.proofs.WholeUp.{small_cast, Negative, negative, negative_small, negative_cut}
 use Rattle.elementary.proofs.ceiling.ceil_negative.Statement.{statement}
 use Rattle.elementary.proofs.ceiling.ceil_negative.Tie as tie
 
@@ -8,7 +8,7 @@ is_negative : (c : tie.Start) → Negative c.args.x
 is_negative c = negative c.args.x c.requires.0 c.requires.1
 
 truncating-f64-to-u64-requires : tie.Need-truncating-f64-to-u64-requires
-truncating-f64-to-u64-requires c κs = small-cast (negative-small (is_negative c))
+truncating-f64-to-u64-requires c κs = small_cast (negative_small (is_negative c))
 
 nearest-u64-to-f64-requires : tie.Need-nearest-u64-to-f64-requires
 nearest-u64-to-f64-requires c κs = search rules

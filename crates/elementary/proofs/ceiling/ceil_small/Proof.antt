@@ -1,6 +1,6 @@
 use Rattle.std.proofs.Common.{T, sym, ◌∙◌, subst, arith, rules}
 use lib.Ieee.{binary64, fits}
-use Rattle.elementary.proofs.WholeUp.{Small, small, small-cast, small_cut, small-next, small-whole}
+use Rattle.elementary.proofs.WholeUp.{Small, small, small_cast, small_cut, small_next, small_whole}
 use Rattle.elementary.proofs.ceiling.ceil_small.Statement.{statement}
 use Rattle.elementary.proofs.ceiling.ceil_small.Tie as tie
 
@@ -12,7 +12,7 @@ is-small : (c : tie.Start) → Small c.args.x
 is-small c = small c.args.x c.requires.0 c.requires.1
 
 truncating-f64-to-u64-requires : tie.Need-truncating-f64-to-u64-requires
-truncating-f64-to-u64-requires c κs = small-cast (is-small c)
+truncating-f64-to-u64-requires c κs = small_cast (is-small c)
 
 nearest-u64-to-f64-requires : tie.Need-nearest-u64-to-f64-requires
 nearest-u64-to-f64-requires c κs = search rules
@@ -30,13 +30,13 @@ returns c =
     let r = c.before.before in
     let t = r.before in
     c.nearest-u64-to-f642.ensures
-    ∙ small-next (is-small t.before) t.truncating-f64-to-u64.ensures (rw r.nearest-u64-to-f64.ensures at c.before.if1.true)
+    ∙ small_next (is-small t.before) t.truncating-f64-to-u64.ensures (rw r.nearest-u64-to-f64.ensures at c.before.if1.true)
 
 returns-2 : tie.Need-returns-2
 returns-2 c =
     let r = c.before in
     let t = r.before in
-    small-whole (held t.before) (is-small t.before) t.truncating-f64-to-u64.ensures (rw r.nearest-u64-to-f64.ensures at c.if1.false)
+    small_whole (held t.before) (is-small t.before) t.truncating-f64-to-u64.ensures (rw r.nearest-u64-to-f64.ensures at c.if1.false)
 
 pub ceil-small-spec : {M : Type 1} → statement M
 ceil-small-spec =

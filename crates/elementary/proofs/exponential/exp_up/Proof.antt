@@ -1,5 +1,5 @@
-use Rattle.elementary.specs.Elementary.{expBy}
-use Rattle.elementary.proofs.Exps.{minus-add}
+use Rattle.elementary.specs.Elementary.{exp_by}
+use Rattle.elementary.proofs.Exps.{minus_add}
 use Rattle.std.proofs.Common.{rules}
 use Rattle.elementary.proofs.exponential.exp_up.Statement.{statement}
 use Rattle.elementary.proofs.exponential.exp_up.Tie as tie
@@ -23,8 +23,8 @@ power-requires : tie.Need-power-requires
 power-requires c κs = search rules
 
 returns : tie.Need-returns
-unfolding expBy
-returns c = cc (minus-add 1023 c.before.before.before.before.exp-count.result)
+unfolding exp_by
+returns c = cc (minus_add 1023 c.before.before.before.before.exp-count.result)
 
 pub exp-up-spec : {M : Type 1} → statement M
 exp-up-spec =

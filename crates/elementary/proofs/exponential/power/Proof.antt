@@ -4,7 +4,7 @@ use lib.Count.{count_trailing_zeros}
 use lib.Pow.{pow-lt}
 use lib.Ieee.{binary64, fin, minus, odd, units, of_bits, nan_bits}
 use Rattle.elementary.specs.Elementary.{power2}
-use Rattle.elementary.proofs.Bits.{bits_of, bits-no-nan, units-odd}
+use Rattle.elementary.proofs.Bits.{bits_of, bits_no_nan, units_odd}
 use Rattle.elementary.proofs.exponential.power.Statement.{statement}
 use Rattle.elementary.proofs.exponential.power.Tie as tie
 
@@ -46,7 +46,7 @@ shift n h = ap (λ (a : ℕ). minus a 1074) (move n h) ∙ go (leb 1074 (n + 51)
 
 is-power : (n : ℕ) → 1 ≤ n → n ≤ 2046 → units binary64 false (2 ^ 52) (n - 1) ≡ power2 (minus n 1023)
 unfolding odd count_trailing_zeros
-is-power n h k = units-odd binary64 false (2 ^ 52) (n - 1) (small n k) ∙ ap (λ (e : ℤ). fin false 1 e) (shift n h)
+is-power n h k = units_odd binary64 false (2 ^ 52) (n - 1) (small n k) ∙ ap (λ (e : ℤ). fin false 1 e) (shift n h)
 
 mul-result : tie.Need-overflow-mul-result
 mul-result c = search rules
@@ -54,7 +54,7 @@ mul-result c = search rules
 float-from-bits-result : tie.Need-float-from-bits-result
 float-from-bits-result c =
     let n = c.args.n in
-    subst (λ (b : ℕ). T (not (nan_bits binary64 b))) (sym (field n c.requires.0)) (bits-no-nan binary64 (2 ^ 52) (n - 1) (lit≤ tt) (lit≤ tt) (small n c.requires.1))
+    subst (λ (b : ℕ). T (not (nan_bits binary64 b))) (sym (field n c.requires.0)) (bits_no_nan binary64 (2 ^ 52) (n - 1) (lit≤ tt) (lit≤ tt) (small n c.requires.1))
 
 returns : tie.Need-returns
 returns c =

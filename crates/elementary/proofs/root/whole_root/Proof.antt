@@ -1,5 +1,5 @@
 use Rattle.std.proofs.Common.{◌-◌, rules}
-use Rattle.elementary.proofs.WholeRoot.{Reading, reading-starts, reading-room, reading-goes-on, reading-ends}
+use Rattle.elementary.proofs.WholeRoot.{Reading, reading_starts, reading_room, reading_goes_on, reading_ends}
 use Rattle.elementary.proofs.root.whole_root.Statement.{statement}
 use Rattle.elementary.proofs.root.whole_root.Tie as tie
 
@@ -10,10 +10,10 @@ abbrev decreases-loop : tie.decreases-loop
 decreases-loop m d₀ left₀ i₀ d left i = 54 - i
 
 loop-holds : tie.Need-loop-init invariant-loop decreases-loop
-loop-holds c = reading-starts c.args.m c.requires
+loop-holds c = reading_starts c.args.m c.requires
 
 next-digit-requires : tie.Need-next-digit-requires invariant-loop decreases-loop
-next-digit-requires c κs = reading-room c.before.loop.invariant (search rules)
+next-digit-requires c κs = reading_room c.before.loop.invariant (search rules)
 
 mul_left : tie.Need-overflow-mul-left invariant-loop decreases-loop
 mul_left c = search rules
@@ -25,10 +25,10 @@ loop-less : tie.Need-loop-smaller invariant-loop decreases-loop
 loop-less c = search rules
 
 loop-again : tie.Need-loop-preserved invariant-loop decreases-loop
-loop-again c = search (reading-goes-on, rules)
+loop-again c = search (reading_goes_on, rules)
 
 returns : tie.Need-returns invariant-loop decreases-loop
-returns c = search (reading-ends, rules)
+returns c = search (reading_ends, rules)
 
 pub whole-root-spec : {M : Type 1} → statement M
 whole-root-spec =

@@ -1,6 +1,6 @@
 use Rattle.std.proofs.Common.{T, sym, subst, le_trans, le_of_eq, lit≤, rules}
 use lib.Ieee.{binary64, fits}
-use Rattle.elementary.proofs.Parts.{scaled-positive, scaled-enough, scaled-parts, normal}
+use Rattle.elementary.proofs.Parts.{scaled_positive, scaled_enough, scaled_parts, normal}
 use Rattle.elementary.proofs.split.split.Statement.{statement}
 use Rattle.elementary.proofs.split.split.Tie as tie
 
@@ -11,17 +11,17 @@ held c = subst T (sym c.well-formed.0.1) tt
 split-normal-requires : tie.Need-split-normal-requires
 split-normal-requires c κs =
     let x = c.before.args.x in
-    (scaled-positive x (held c.before) c.before.requires c.if1.true, le_trans (lit≤ tt) (scaled-enough x (held c.before) c.before.requires c.if1.true))
+    (scaled_positive x (held c.before) c.before.requires c.if1.true, le_trans (lit≤ tt) (scaled_enough x (held c.before) c.before.requires c.if1.true))
 
 sub-t5 : tie.Need-overflow-sub-t5
 sub-t5 c =
     let s = c.before.before.before in
-    le_trans (scaled-enough s.args.x (held s) s.requires c.before.before.if1.true) (le_of_eq (sym c.before.split-normal.ensures.sized))
+    le_trans (scaled_enough s.args.x (held s) s.requires c.before.before.if1.true) (le_of_eq (sym c.before.split-normal.ensures.sized))
 
 returns : tie.Need-returns
 returns c =
     let s = c.before.before.before in
-    scaled-parts s.args.x (held s) s.requires c.before.before.if1.true _ _ c.before.split-normal.ensures
+    scaled_parts s.args.x (held s) s.requires c.before.before.if1.true _ _ c.before.split-normal.ensures
 
 split-normal-requires-2 : tie.Need-split-normal-requires-2
 split-normal-requires-2 c κs = (c.before.requires, normal c.before.args.x (held c.before) c.before.requires c.if1.false)

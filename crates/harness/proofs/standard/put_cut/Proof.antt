@@ -2,12 +2,12 @@
 use borrow.Author.Rules.{rules}
 use borrow.Author.Tests.{ne_eqb}
 use mathlib.Core.Path.{refl}
-use Rattle.harness.specs.Texts.{cutBy, afterCut}
+use Rattle.harness.specs.Texts.{cut_by, after_cut}
 use Rattle.harness.proofs.standard.put_cut.Statement.{statement}
 use Rattle.harness.proofs.standard.put_cut.Tie as tie
 
 returns : tie.Need-returns
-unfolding cutBy afterCut
+unfolding cut_by after_cut
 returns c = rw c.if1.true (refl, refl)
 
 make-room-requires : tie.Need-make-room-requires
@@ -23,7 +23,7 @@ same_length : tie.Need-same-length
 same_length c = search rules
 
 returns-2 : tie.Need-returns-2
-unfolding cutBy afterCut
+unfolding cut_by after_cut
 returns-2 c =
     let q = c.before.before in
     let m = q.before.before.before in

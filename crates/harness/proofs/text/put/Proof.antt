@@ -4,7 +4,7 @@ use Prim.Native.Nat.{◌-◌}
 use native.Mathlib.Omega.{arith}
 use borrow.Author.Tests.{not-true, not-false}
 use lib.ListN.{length}
-use Rattle.harness.proofs.Placing.{placed-none, Copied, copied_none, copied_more, copied_all}
+use Rattle.harness.proofs.Placing.{placed_none, Copied, copied_none, copied_more, copied_all}
 use Rattle.harness.proofs.text.put.Statement.{statement}
 use Rattle.harness.proofs.text.put.Tie as tie
 
@@ -21,7 +21,7 @@ same_length : tie.Need-same-length invariant-loop decreases-loop
 same_length c = refl
 
 returns : tie.Need-returns invariant-loop decreases-loop
-returns c = placed-none _ _ _ (sym c.before.has_room.ensures ∙ not-true _ c.if1.true)
+returns c = placed_none _ _ _ (sym c.before.has_room.ensures ∙ not-true _ c.if1.true)
 
 loop-holds : tie.Need-loop-init invariant-loop decreases-loop
 loop-holds c = copied_none _ _ _ (sym c.before.has_room.ensures ∙ not-false _ c.if1.false)

@@ -1,6 +1,6 @@
 -- The letter's place, the float's and the number's, one after the other. Assumes nothing.
 use borrow.Author.Rules.{rules}
-use Rattle.harness.specs.Texts.{lettered, afterLettered, capped, afterCapped}
+use Rattle.harness.specs.Texts.{lettered, after_lettered, capped, after_capped}
 use Rattle.harness.proofs.text.put_cap.Statement.{statement}
 use Rattle.harness.proofs.text.put_cap.Tie as tie
 
@@ -20,7 +20,7 @@ same_length : tie.Need-same-length
 same_length c = search rules
 
 returns : tie.Need-returns
-unfolding capped afterCapped lettered afterLettered
+unfolding capped after_capped lettered after_lettered
 returns c =
     let n = c.before.before in
     let f = n.before.before.before.before in

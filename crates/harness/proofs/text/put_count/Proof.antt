@@ -1,7 +1,7 @@
 -- `harness::text::put_count` meets its contract: the fewest digits are the count's. Assumes nothing.
 use mathlib.Core.Path.{sym, ◌∙◌}
 use native.Mathlib.Omega.{arith}
-use Rattle.harness.proofs.Counting.{count-is}
+use Rattle.harness.proofs.Counting.{count_is}
 use borrow.Author.Rules.{rules}
 use Rattle.harness.proofs.text.put_count.Statement.{statement}
 use Rattle.harness.proofs.text.put_count.Tie as tie
@@ -25,7 +25,7 @@ returns : tie.Need-returns
 returns c =
     let p = c.before.before in
     let d = p.before.before.before in
-    let e = d.decimal.ensures.1.1 ∙ count-is _ _ (omega (arith, d.before.before.before.ranges.n)) d.decimal.ensures.1.0 in
+    let e = d.decimal.ensures.1.1 ∙ count_is _ _ (omega (arith, d.before.before.before.ranges.n)) d.decimal.ensures.1.0 in
     rw (sym e) p.put.ensures
 
 pub put-count-spec : {M : Type 1} → statement M

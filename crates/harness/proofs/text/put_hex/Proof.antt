@@ -4,8 +4,8 @@ use Prim.Native.Nat.{◌-◌, ◌≤◌}
 use native.Mathlib.Omega.{arith}
 use borrow.Author.Tests.{not-true, not-false}
 use Rattle.harness.specs.Texts.{hex}
-use Rattle.harness.proofs.Placing.{placed-none, Copied, copied_none}
-use Rattle.harness.proofs.Hex.{hex-more, hex-all}
+use Rattle.harness.proofs.Placing.{placed_none, Copied, copied_none}
+use Rattle.harness.proofs.Hex.{hex_more, hex_all}
 use Rattle.harness.proofs.text.put_hex.Statement.{statement}
 use Rattle.harness.proofs.text.put_hex.Tie as tie
 
@@ -23,7 +23,7 @@ same_length c = refl
 
 returns : tie.Need-returns invariant-loop decreases-loop
 unfolding hex
-returns c = placed-none _ _ _ (sym c.before.has_room.ensures ∙ not-true _ c.if1.true)
+returns c = placed_none _ _ _ (sym c.before.has_room.ensures ∙ not-true _ c.if1.true)
 
 loop-holds : tie.Need-loop-init invariant-loop decreases-loop
 unfolding hex
@@ -56,7 +56,7 @@ loop-less : tie.Need-loop-smaller invariant-loop decreases-loop
 loop-less c = omega arith
 
 loop-again : tie.Need-loop-preserved invariant-loop decreases-loop
-loop-again c = let l = c.before.before in (omega arith, hex-more _ _ _ _ _ _ l.loop.invariant.1 c.before.loop-test.true l.loop.invariant.0 c.digit.ensures)
+loop-again c = let l = c.before.before in (omega arith, hex_more _ _ _ _ _ _ l.loop.invariant.1 c.before.loop-test.true l.loop.invariant.0 c.digit.ensures)
 
 add-result : tie.Need-overflow-add-result invariant-loop decreases-loop
 unfolding hex
@@ -66,7 +66,7 @@ same-length-2 : tie.Need-same-length-2 invariant-loop decreases-loop
 same-length-2 c = c.before.loop.invariant.1.size
 
 returns-2 : tie.Need-returns-2 invariant-loop decreases-loop
-returns-2 c = hex-all _ _ _ _ _ c.before.loop.invariant.1 c.loop-test.false
+returns-2 c = hex_all _ _ _ _ _ c.before.loop.invariant.1 c.loop-test.false
 
 pub put-hex-spec : {M : Type 1} → statement M
 put-hex-spec =

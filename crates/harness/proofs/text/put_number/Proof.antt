@@ -1,6 +1,6 @@
 -- `harness::text::put_number` meets its contract: the space's place and the text's, one after the other. Assumes nothing.
 use borrow.Author.Rules.{rules}
-use Rattle.harness.specs.Texts.{spaced, afterSpaced}
+use Rattle.harness.specs.Texts.{spaced, after_spaced}
 use Rattle.harness.proofs.text.put_number.Statement.{statement}
 use Rattle.harness.proofs.text.put_number.Tie as tie
 
@@ -17,7 +17,7 @@ same_length : tie.Need-same-length
 same_length c = search rules
 
 returns : tie.Need-returns
-unfolding spaced afterSpaced
+unfolding spaced after_spaced
 returns c =
     let q = c.before.before in
     let p = q.before.before.before.before.put.ensures in

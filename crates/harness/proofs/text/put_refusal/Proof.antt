@@ -1,6 +1,6 @@
 -- `harness::text::put_refusal` meets its contract: the letter's place and the number's, one after the other. Assumes nothing.
 use borrow.Author.Rules.{rules}
-use Rattle.harness.specs.Texts.{lettered, afterLettered}
+use Rattle.harness.specs.Texts.{lettered, after_lettered}
 use Rattle.harness.proofs.text.put_refusal.Statement.{statement}
 use Rattle.harness.proofs.text.put_refusal.Tie as tie
 
@@ -17,7 +17,7 @@ same_length : tie.Need-same-length
 same_length c = search rules
 
 returns : tie.Need-returns
-unfolding lettered afterLettered
+unfolding lettered after_lettered
 returns c =
     let q = c.before.before in
     let p = q.before.before.before.before.put.ensures in

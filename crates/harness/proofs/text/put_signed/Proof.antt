@@ -1,7 +1,7 @@
 -- `harness::text::put_signed` meets its contract: the sign's place, where there is one, and the digits'. Assumes nothing.
 use borrow.Author.Rules.{rules}
 use mir.Facts.{to_z-of_z}
-use Rattle.harness.specs.Texts.{signedBy, afterSigned}
+use Rattle.harness.specs.Texts.{signed_by, after_signed}
 use Rattle.harness.proofs.text.put_signed.Statement.{statement}
 use Rattle.harness.proofs.text.put_signed.Tie as tie
 
@@ -21,7 +21,7 @@ same_length : tie.Need-same-length
 same_length c = search rules
 
 returns : tie.Need-returns
-unfolding signedBy afterSigned
+unfolding signed_by after_signed
 returns c =
     let q = c.before.before in
     let a = q.before.before.before.before.before in
@@ -41,7 +41,7 @@ same-length-2 : tie.Need-same-length-2
 same-length-2 c = search rules
 
 returns-2 : tie.Need-returns-2
-unfolding signedBy afterSigned
+unfolding signed_by after_signed
 returns-2 c =
     let q = c.before.before in
     let i = q.before.before.before in

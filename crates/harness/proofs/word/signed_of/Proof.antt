@@ -10,7 +10,7 @@ use lib.IntN.{pos, negsuc, ◌-ℤ◌}
 use mir.Syntax.{w64}
 use mir.Val.{SFits, sel, to_z}
 use mir.Facts.{sfits_lit, to_z-of_z}
-use Rattle.harness.specs.Words.{signedBy, signed}
+use Rattle.harness.specs.Words.{signed_by, signed}
 use borrow.Author.Rules.{rules}
 use Rattle.harness.proofs.word.signed_of.Statement.{statement}
 use Rattle.harness.proofs.word.signed_of.Tie as tie
@@ -37,7 +37,7 @@ cast-result : tie.Need-overflow-cast-result
 cast-result c = search rules
 
 returns : tie.Need-returns
-unfolding signed signedBy
+unfolding signed signed_by
 returns c = rw (lt-ltb _ 0x8000000000000000 c.if1.true)
 
 sub-result : tie.Need-overflow-sub-result
@@ -50,7 +50,7 @@ sub-result-2 : tie.Need-overflow-sub-result-2
 sub-result-2 c = fits _ c.if1.false
 
 returns-2 : tie.Need-returns-2
-unfolding signed signedBy
+unfolding signed signed_by
 returns-2 c = rw (le-ltb _ 0x8000000000000000 c.if1.false) (to_z-of_z (fits _ c.if1.false) ∙ minus _ c.if1.false)
 
 pub signed-of-spec : {M : Type 1} → statement M

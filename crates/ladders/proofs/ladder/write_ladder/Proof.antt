@@ -1,16 +1,16 @@
 use mathlib.Core.Path.{◌≡◌, ◌∙◌}
 use mir.Facts.{to_z-of_z}
 use borrow.Author.Rules.{rules}
-use Rattle.model.specs.Model.{checkCall}
+use Rattle.model.specs.Model.{check_call}
 use Rattle.elementary.specs.declared.Check.TheVariants as Check
-use Rattle.ladders.proofs.Rungs.{bound-checked, ladder-refused, ladder-small, ladder-written}
+use Rattle.ladders.proofs.Rungs.{bound_checked, ladder_refused, ladder_small, ladder_written}
 use Rattle.ladders.proofs.ladder.write_ladder.Statement.{statement}
 use Rattle.ladders.proofs.ladder.write_ladder.Tie as tie
 
-checked : (c : tie.After-check-call) → let a = c.before.before.args in checkCall a.mid-price a.config a.volatility a.current-time ≡ c.check-call.result
+checked : (c : tie.After-check-call) → let a = c.before.before.args in check_call a.mid-price a.config a.volatility a.current-time ≡ c.check-call.result
 checked c = let r = c.before.before.ranges in rw (c.check-call.ensures, to_z-of_z r.mid-price, to_z-of_z r.volatility)
 
-passes : (c : tie.After-enum-told) → let a = c.before.before.before.before.args in checkCall a.mid-price a.config a.volatility a.current-time ≡ Check.Passes
+passes : (c : tie.After-enum-told) → let a = c.before.before.before.before.args in check_call a.mid-price a.config a.volatility a.current-time ≡ Check.Passes
 passes c = checked c.before.before ∙ c.enum_told.given.1
 
 check-call-requires : tie.Need-check-call-requires
@@ -22,7 +22,7 @@ enum_told c = search rules
 rungs-of-requires : tie.Need-rungs-of-requires
 rungs-of-requires c κs =
     let s = c.before.before.before.before in
-    bound-checked s.args.mid-price s.args.config s.args.volatility s.args.current-time (passes c)
+    bound_checked s.args.mid-price s.args.config s.args.volatility s.args.current-time (passes c)
 
 mul-if1 : tie.Need-overflow-mul-if1
 mul-if1 c = search rules
@@ -31,7 +31,7 @@ returns : tie.Need-returns
 returns c =
     let r = c.before in
     let e = r.before in
-    ladder-small _ _ _ _ _ (passes e) (rw (← r.rungs-of.ensures) c.if1.true)
+    ladder_small _ _ _ _ _ (passes e) (rw (← r.rungs-of.ensures) c.if1.true)
 
 write-rungs-requires : tie.Need-write-rungs-requires
 write-rungs-requires c κs =
@@ -52,12 +52,12 @@ returns-2 c =
     let e = l.before.before in
     let s = e.before.before.before.before in
     let o = rw (to_z-of_z s.ranges.mid-price, to_z-of_z s.ranges.volatility) at w.write-rungs.ensures in
-    ladder-written _ _ _ _ _ _ _ (passes e) (rw (← l.before.rungs-of.ensures) l.if1.false) o.0 o.1
+    ladder_written _ _ _ _ _ _ _ (passes e) (rw (← l.before.rungs-of.ensures) l.if1.false) o.0 o.1
 
 returns-3 : tie.Need-returns-3
 returns-3 c =
     let k = c.before.before.before in
-    ladder-refused _ _ _ _ _ _ (checked k ∙ c.before.number.given.1)
+    ladder_refused _ _ _ _ _ _ (checked k ∙ c.before.number.given.1)
 
 pub write-ladder-spec : {M : Type 1} → statement M
 write-ladder-spec =

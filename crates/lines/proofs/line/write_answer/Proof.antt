@@ -2,9 +2,9 @@
 use native.Mathlib.Nat.{le_trans}
 use native.Mathlib.Omega.{arith}
 use borrow.Author.Rules.{rules}
-use Rattle.lines.specs.Lines.{refusalLine, answerLine}
-use Rattle.lines.proofs.Widths.{counted-most, cap-most}
-use Rattle.lines.proofs.Written.{line_refused, line-written}
+use Rattle.lines.specs.Lines.{refusal_line, answer_line}
+use Rattle.lines.proofs.Widths.{counted_most, cap_most}
+use Rattle.lines.proofs.Written.{line_refused, line_written}
 use Rattle.lines.proofs.line.write_answer.Statement.{statement}
 use Rattle.lines.proofs.line.write_answer.Tie as tie
 
@@ -21,7 +21,7 @@ enum-known-answer-2 : tie.Need-enum-known-answer-2
 enum-known-answer-2 c = search rules
 
 write-cap-requires : tie.Need-write-cap-requires
-write-cap-requires c κs = le_trans (cap-most _ _ (omega arith)) c.before.before.before.before.if1.false
+write-cap-requires c κs = le_trans (cap_most _ _ (omega arith)) c.before.before.before.before.if1.false
 
 enum-known-answer-3 : tie.Need-enum-known-answer-3
 enum-known-answer-3 c = search rules
@@ -30,37 +30,37 @@ cast-write-counted : tie.Need-overflow-cast-write-counted
 cast-write-counted c = search rules
 
 write-counted-requires : tie.Need-write-counted-requires
-write-counted-requires c κs = le_trans (counted-most _ _ (omega arith)) c.before.before.before.before.if1.false
+write-counted-requires c κs = le_trans (counted_most _ _ (omega arith)) c.before.before.before.before.if1.false
 
 same_length : tie.Need-same-length
 same_length c = search rules
 
 returns-2 : tie.Need-returns-2
-unfolding answerLine
+unfolding answer_line
 returns-2 c =
     let w = c.before.before in
     let k = w.before.before.before in
-    rw k.answer.given.1 (line-written _ _ _ _ k.before.before.if1.false w.write-quotes.ensures.0 w.write-quotes.ensures.1)
+    rw k.answer.given.1 (line_written _ _ _ _ k.before.before.if1.false w.write-quotes.ensures.0 w.write-quotes.ensures.1)
 
 same-length-2 : tie.Need-same-length-2
 same-length-2 c = search rules
 
 returns-3 : tie.Need-returns-3
-unfolding answerLine
+unfolding answer_line
 returns-3 c =
     let w = c.before.before in
     let k = w.before.before.before in
-    rw k.answer2.given.1 (line-written _ _ _ _ k.before.before.if1.false w.write-cap.ensures.0 w.write-cap.ensures.1)
+    rw k.answer2.given.1 (line_written _ _ _ _ k.before.before.if1.false w.write-cap.ensures.0 w.write-cap.ensures.1)
 
 same-length-3 : tie.Need-same-length-3
 same-length-3 c = search rules
 
 returns-4 : tie.Need-returns-4
-unfolding answerLine refusalLine
+unfolding answer_line refusal_line
 returns-4 c =
     let w = c.before.before in
     let k = w.before.before.before in
-    rw k.answer3.given.1 (line-written _ _ _ _ k.before.before.if1.false w.write-counted.ensures.0 w.write-counted.ensures.1)
+    rw k.answer3.given.1 (line_written _ _ _ _ k.before.before.if1.false w.write-counted.ensures.0 w.write-counted.ensures.1)
 
 pub write-answer-spec : {M : Type 1} → statement M
 write-answer-spec =

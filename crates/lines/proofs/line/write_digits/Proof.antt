@@ -2,7 +2,7 @@
 use Prim.Native.Nat.{◌<◌}
 use native.Mathlib.Nat.{mod-lt}
 use native.Mathlib.Omega.{arith}
-use Rattle.lines.proofs.Digits.{Downward, downward-none, downward-more, downward-all}
+use Rattle.lines.proofs.Digits.{Downward, downward_none, downward_more, downward_all}
 use Rattle.lines.proofs.line.write_digits.Statement.{statement}
 use Rattle.lines.proofs.line.write_digits.Tie as tie
 
@@ -13,7 +13,7 @@ abbrev decreases-loop : tie.decreases-loop
 decreases-loop out₀ base n k i₀ rest₀ out i rest = i
 
 loop-holds : tie.Need-loop-init invariant-loop decreases-loop
-loop-holds c = downward-none _ _ _ _
+loop-holds c = downward_none _ _ _ _
 
 sub-i : tie.Need-overflow-sub-i invariant-loop decreases-loop
 sub-i c = omega arith
@@ -40,13 +40,13 @@ loop-less c = omega arith
 loop-again : tie.Need-loop-preserved invariant-loop decreases-loop
 loop-again c =
     let l = c.before.before in
-    downward-more _ _ _ _ _ _ _ _ (omega arith) l.loop.invariant c.before.loop-test.true c.digit.ensures
+    downward_more _ _ _ _ _ _ _ _ (omega arith) l.loop.invariant c.before.loop-test.true c.digit.ensures
 
 same_length : tie.Need-same-length invariant-loop decreases-loop
 same_length c = c.before.loop.invariant.size
 
 returns : tie.Need-returns invariant-loop decreases-loop
-returns c = downward-all _ _ _ _ _ _ _ c.before.loop.invariant c.loop-test.false
+returns c = downward_all _ _ _ _ _ _ _ c.before.loop.invariant c.loop-test.false
 
 pub write-digits-spec : {M : Type 1} → statement M
 write-digits-spec =

@@ -7,7 +7,7 @@ use mir.Val.{SFits}
 use mir.Syntax.{w64}
 use mir.Facts.{to_z-of_z}
 use Rattle.lines.specs.Lines.{side, signed}
-use Rattle.buffers.proofs.Texts.{wrote_none, wrote-byte}
+use Rattle.buffers.proofs.Texts.{wrote_none, wrote_byte}
 use borrow.Author.Rules.{rules}
 use Rattle.lines.proofs.line.write_side.Statement.{statement}
 use Rattle.lines.proofs.line.write_side.Tie as tie
@@ -48,7 +48,7 @@ same-length-2 c = search rules
 returns-2 : tie.Need-returns-2
 returns-2 c =
     let k = c.before.before.before in
-    rw (none_is c) ((wrote-byte _ [] _ 0 45 (wrote_none k.args.out.now) (omega (arith, k.requires))).is, (refl, lit≤ tt))
+    rw (none_is c) ((wrote_byte _ [] _ 0 45 (wrote_none k.args.out.now) (omega (arith, k.requires))).is, (refl, lit≤ tt))
 
 pub write-side-spec : {M : Type 1} → statement M
 write-side-spec =

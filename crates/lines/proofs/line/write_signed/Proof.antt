@@ -15,9 +15,9 @@ use mir.Val.{SFits}
 use mir.Facts.{to_z-of_z}
 use borrow.Author.Rules.{rules}
 use Rattle.lines.specs.Lines.{price, signed}
-use Rattle.lines.specs.Inner.{mostSide}
-use Rattle.buffers.proofs.Texts.{Wrote, wrote_none, wrote-byte, wrote-part, wrote-length, part_room, wrote_as}
-use Rattle.lines.proofs.Widths.{price-most}
+use Rattle.lines.specs.Inner.{most_side}
+use Rattle.buffers.proofs.Texts.{Wrote, wrote_none, wrote_byte, wrote_part, wrote_length, part_room, wrote_as}
+use Rattle.lines.proofs.Widths.{price_most}
 use Rattle.lines.proofs.line.write_signed.Statement.{statement}
 use Rattle.lines.proofs.line.write_signed.Tie as tie
 
@@ -37,11 +37,11 @@ held (pos n) h = omega (arith, h.sfits)
 held (negsuc n) h = omega (arith, h.sfits)
 
 short : (c : tie.Start) → length (price (nat_abs c.args.z)) ≤ 20
-short c = price-most _ (held _ c.ranges.z)
+short c = price_most _ (held _ c.ranges.z)
 
 -- the sign
 minus : (c : tie.Start) → Wrote c.args.out.now (45 ∷ []) (set c.args.out.now 0 45) 1
-minus c = wrote-byte _ [] _ 0 45 (wrote_none _) (omega (arith, c.requires))
+minus c = wrote_byte _ [] _ 0 45 (wrote_none _) (omega (arith, c.requires))
 
 size_is : (c : tie.After-size-of) → c.type_size.result ≡ nat_abs c.before.before.before.before.args.z
 size_is c = rw (to_z-of_z c.before.before.before.before.ranges.z) at c.type_size.ensures
@@ -54,10 +54,10 @@ whole : (c : tie.After-write-price) → let s = c.before.before.before.before.be
     Wrote s.args.out.now (45 ∷ price (nat_abs s.args.z)) (put_mid 1 (length l - 1) l c.write-price.new.0) (1 + c.write-price.result)
 whole c =
     let e = rw (size_is c.before) at c.write-price.ensures in
-    wrote-part _ _ _ _ _ 1 _ (minus c.before.before.before.before.before) e.0 e.1
+    wrote_part _ _ _ _ _ 1 _ (minus c.before.before.before.before.before) e.0 e.1
 
-few : (c : tie.After-write-price) → c.write-price.result + 1 ≤ mostSide
-few c = omega (arith, short c.before.before.before.before.before, (whole c).up-to)
+few : (c : tie.After-write-price) → c.write-price.result + 1 ≤ most_side
+few c = omega (arith, short c.before.before.before.before.before, (whole c).up_to_lem)
 
 slice-write-out : tie.Need-slice-write-out
 slice-write-out c = search rules
@@ -85,7 +85,7 @@ add-result c = omega (arith, few c.before.before)
 same_length : tie.Need-same-length
 same_length c =
     let w = c.before.before in
-    wrote-length _ _ _ _ (whole w) (omega (arith, few w, w.before.before.before.before.before.requires))
+    wrote_length _ _ _ _ (whole w) (omega (arith, few w, w.before.before.before.before.before.requires))
 
 returns : tie.Need-returns
 returns c =

@@ -1,8 +1,8 @@
 use mir.Facts.{to_z-of_z}
 use borrow.Author.Rules.{rules}
 use Rattle.elementary.specs.Checks.{first_of}
-use Rattle.model.specs.Checks.{verdictOf}
-use Rattle.model.specs.Model.{modelIf, modelAfter}
+use Rattle.model.specs.Checks.{verdict_of}
+use Rattle.model.specs.Model.{model_if, model_after}
 use Rattle.model.proofs.Model.after.Statement.{statement}
 use Rattle.model.proofs.Model.after.Tie as tie
 
@@ -21,7 +21,7 @@ returns c =
     rw (c.of-holding.ensures, c.before.enum_told.given.1, to_z-of_z s.ranges.inventory, to_z-of_z s.ranges.volatility)
 
 returns-2 : tie.Need-returns-2
-unfolding modelAfter modelIf first_of verdictOf
+unfolding model_after model_if first_of verdict_of
 returns-2 c = rw c.before.check.given.1
 
 pub after-spec : {M : Type 1} → statement M

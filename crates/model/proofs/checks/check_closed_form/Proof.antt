@@ -6,10 +6,10 @@ use mir.Val.{of_z}
 use mir.Facts.{to_z-of_z}
 use borrow.Author.Rules.{rules}
 use Rattle.model.specs.Refusals.{market, drifting}
-use Rattle.model.specs.Configuration.{numberChecks}
-use Rattle.model.specs.Model.{marketOk, driftless, modelLimits, checkClosedForm}
+use Rattle.model.specs.Configuration.{number_checks}
+use Rattle.model.specs.Model.{market_ok, driftless, model_limits, check_closed_form}
 use Rattle.amounts.proofs.Limits.{zero_bits}
-use Rattle.model.proofs.Joined.{one_told, joined-told}
+use Rattle.model.proofs.Joined.{one_told, joined_told}
 use Rattle.model.proofs.checks.check_closed_form.Statement.{statement}
 use Rattle.model.proofs.checks.check_closed_form.Tie as tie
 
@@ -37,7 +37,7 @@ first-refusal-requires-2 : tie.Need-first-refusal-requires-2
 first-refusal-requires-2 c κs = search rules
 
 returns : tie.Need-returns
-unfolding checkClosedForm
+unfolding check_closed_form
 returns c =
     let r = c.before in
     let p = r.before in
@@ -48,9 +48,9 @@ returns c =
     let s = l.before in
     let a = s.args in
     let d = driftless a.config in
-    let m = marketOk a.mid-price a.volatility in
-    rw (c.first-refusal2.ensures, r.first-refusal.ensures, p.check-prices.ensures, o.one-check.ensures, drift-is t, n.check-numbers.ensures, l.limits-fit.ensures, to_z-of_z s.ranges.mid-price, to_z-of_z s.ranges.inventory, to_z-of_z s.ranges.volatility, one_told d drifting, one_told m market, joined-told ((d, drifting) ∷ []) ((m, market) ∷ []))
-    (joined-told (numberChecks (modelLimits a.mid-price a.inventory a.config a.volatility) a.config) ((d, drifting) ∷ (m, market) ∷ []))
+    let m = market_ok a.mid-price a.volatility in
+    rw (c.first-refusal2.ensures, r.first-refusal.ensures, p.check-prices.ensures, o.one-check.ensures, drift-is t, n.check-numbers.ensures, l.limits_fit.ensures, to_z-of_z s.ranges.mid-price, to_z-of_z s.ranges.inventory, to_z-of_z s.ranges.volatility, one_told d drifting, one_told m market, joined_told ((d, drifting) ∷ []) ((m, market) ∷ []))
+    (joined_told (number_checks (model_limits a.mid-price a.inventory a.config a.volatility) a.config) ((d, drifting) ∷ (m, market) ∷ []))
 
 pub check-closed-form-spec : {M : Type 1} → statement M
 check-closed-form-spec =

@@ -2,8 +2,8 @@ use mathlib.Core.List.{◌∷◌, []}
 use borrow.Author.Rules.{rules}
 use Rattle.plan.specs.Refusals.{configuration}
 use Rattle.amounts.specs.Refusals.{limits}
-use Rattle.model.specs.Configuration.{configOk}
-use Rattle.model.proofs.Joined.{one_told, joined-told}
+use Rattle.model.specs.Configuration.{config_ok}
+use Rattle.model.proofs.Joined.{one_told, joined_told}
 use Rattle.model.proofs.checks.check_numbers.Statement.{statement}
 use Rattle.model.proofs.checks.check_numbers.Tie as tie
 
@@ -24,8 +24,8 @@ returns c =
     let o = c.before in
     let v = o.before in
     let a = v.before.before.args in
-    rw (c.first-refusal.ensures, v.before.one-check.ensures, o.one-check2.ensures, v.validate.ensures, one_told a.fit limits, one_told (configOk a.config) configuration)
-    (joined-told ((a.fit, limits) ∷ []) ((configOk a.config, configuration) ∷ []))
+    rw (c.first-refusal.ensures, v.before.one-check.ensures, o.one-check2.ensures, v.validate.ensures, one_told a.fit limits, one_told (config_ok a.config) configuration)
+    (joined_told ((a.fit, limits) ∷ []) ((config_ok a.config, configuration) ∷ []))
 
 pub check-numbers-spec : {M : Type 1} → statement M
 check-numbers-spec =

@@ -1,6 +1,6 @@
 use mir.Facts.{to_z-of_z}
 use borrow.Author.Rules.{rules}
-use Rattle.model.specs.Model.{marketOk}
+use Rattle.model.specs.Model.{market_ok}
 use Rattle.model.proofs.checks.check_prices.Statement.{statement}
 use Rattle.model.proofs.checks.check_prices.Tie as tie
 
@@ -14,7 +14,7 @@ one-check-requires : tie.Need-one-check-requires
 one-check-requires c κs = search rules
 
 returns : tie.Need-returns
-unfolding marketOk
+unfolding market_ok
 returns c =
     let p = c.before in
     let s = p.before.before in

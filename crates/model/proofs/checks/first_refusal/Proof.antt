@@ -1,8 +1,8 @@
 use mathlib.Core.Path.{sym}
 use borrow.Author.Rules.{rules}
-use Rattle.elementary.specs.Checks.{first_of, checkOf}
-use Rattle.model.specs.Checks.{verdictOf, firstRefusal}
-use Rattle.model.proofs.Joined.{first-passed}
+use Rattle.elementary.specs.Checks.{first_of, check_of}
+use Rattle.model.specs.Checks.{verdict_of, first_refusal}
+use Rattle.model.proofs.Joined.{first_passed}
 use Rattle.model.proofs.checks.first_refusal.Statement.{statement}
 use Rattle.model.proofs.checks.first_refusal.Tie as tie
 
@@ -13,10 +13,10 @@ enum-known-first : tie.Need-enum-known-first
 enum-known-first c = search rules
 
 returns : tie.Need-returns
-returns c = rw c.enum_told.given.1 (sym (first-passed c.before.before.args.second))
+returns c = rw c.enum_told.given.1 (sym (first_passed c.before.before.args.second))
 
 returns-2 : tie.Need-returns-2
-unfolding firstRefusal first_of verdictOf checkOf
+unfolding first_refusal first_of verdict_of check_of
 returns-2 c = rw c.before.first.given.1
 
 pub first-refusal-spec : {M : Type 1} → statement M

@@ -1,5 +1,5 @@
 use borrow.Author.Rules.{rules}
-use Rattle.model.specs.Configuration.{configOk}
+use Rattle.model.specs.Configuration.{config_ok}
 use Rattle.amounts.proofs.Limits.{kept}
 use Rattle.model.proofs.config.validate.Statement.{statement}
 use Rattle.model.proofs.config.validate.Tie as tie
@@ -17,7 +17,7 @@ is-positive-requires-4 : tie.Need-is-positive-requires-4
 is-positive-requires-4 c κs = search rules
 
 returns : tie.Need-returns
-unfolding configOk
+unfolding config_ok
 returns c =
     let c4 = c.before.before.before in
     let c3 = c4.before.before in

@@ -1,6 +1,6 @@
 use borrow.Author.Rules.{rules}
-use Rattle.model.specs.Configuration.{configLimits}
-use Rattle.amounts.specs.Amounts.{timeOk}
+use Rattle.model.specs.Configuration.{config_limits}
+use Rattle.amounts.specs.Amounts.{time_ok}
 use Rattle.amounts.proofs.Limits.{kept}
 use Rattle.model.proofs.config.within_limits.Statement.{statement}
 use Rattle.model.proofs.config.within_limits.Tie as tie
@@ -24,7 +24,7 @@ amount-fits-requires-6 : tie.Need-amount-fits-requires-6
 amount-fits-requires-6 c κs = search rules
 
 returns : tie.Need-returns
-unfolding configLimits timeOk
+unfolding config_limits time_ok
 returns c =
     let c6 = c.before in
     let c5 = c6.before.before in

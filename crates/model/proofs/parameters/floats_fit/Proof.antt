@@ -1,5 +1,5 @@
 use borrow.Author.Rules.{rules}
-use Rattle.model.specs.Model.{modelOk}
+use Rattle.model.specs.Model.{model_ok}
 use Rattle.model.proofs.parameters.floats_fit.Statement.{statement}
 use Rattle.model.proofs.parameters.floats_fit.Tie as tie
 
@@ -28,7 +28,7 @@ is-finite-requires : tie.Need-is-finite-requires
 is-finite-requires c κs = search rules
 
 returns : tie.Need-returns
-unfolding modelOk
+unfolding model_ok
 returns c =
     let c7 = c.before in
     let c6 = c7.before in

@@ -1,5 +1,5 @@
 use borrow.Author.Rules.{rules}
-use Rattle.model.specs.Model.{modelBy, modelFrom}
+use Rattle.model.specs.Model.{model_by, model_from}
 use Rattle.model.proofs.parameters.from_floats.Statement.{statement}
 use Rattle.model.proofs.parameters.from_floats.Tie as tie
 
@@ -16,7 +16,7 @@ or-nan-requires-2 : tie.Need-or-nan-requires-2
 or-nan-requires-2 c κs = search rules
 
 returns : tie.Need-returns
-unfolding modelFrom modelBy
+unfolding model_from model_by
 returns c =
     let e = c.before in
     let n = e.before in

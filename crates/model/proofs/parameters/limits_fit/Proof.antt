@@ -1,6 +1,6 @@
 use mir.Facts.{to_z-of_z}
 use borrow.Author.Rules.{rules}
-use Rattle.model.specs.Model.{modelLimits}
+use Rattle.model.specs.Model.{model_limits}
 use Rattle.model.proofs.parameters.limits_fit.Statement.{statement}
 use Rattle.model.proofs.parameters.limits_fit.Tie as tie
 
@@ -17,7 +17,7 @@ within-limits-requires : tie.Need-within-limits-requires
 within-limits-requires c κs = search rules
 
 returns : tie.Need-returns
-unfolding modelLimits
+unfolding model_limits
 returns c =
     let c3 = c.before in
     let c2 = c3.before in

@@ -12,12 +12,12 @@ use lib.Dec.{T, lit≤, leb, nleb→lt}
 use lib.ListN.{length, length-set}
 use lib.Ieee.{Float, binary64, minus, of_bits, of_int, round}
 use Rattle.elementary.specs.Float.{◌⊕◌, ◌⊖◌, whole, 0ᶠ, 1ᶠ, finite}
-use Rattle.elementary.proofs.Exact.{one-whole, sub-whole, add-ints, minus-suc}
+use Rattle.elementary.proofs.Exact.{one_whole, sub_whole, add_ints, minus_suc}
 use Rattle.operator.specs.Vectors.{tab, at, every}
-use Rattle.operator.specs.Operator.{rows, diagonalAt}
-use Rattle.operator.specs.Slices.{diagonalOver}
-use Rattle.operator.proofs.Loops.{filled, filled_zero, stored, filled-all, at_stored, every-zero, every-suc, every-at}
-use Rattle.operator.proofs.Lists.{every-ext}
+use Rattle.operator.specs.Operator.{rows, diagonal_at}
+use Rattle.operator.specs.Slices.{diagonal_over}
+use Rattle.operator.proofs.Loops.{filled, filled_zero, stored, filled_all, at_stored, every_zero, every_suc, every_at}
+use Rattle.operator.proofs.Lists.{every_ext}
 use Rattle.operator.proofs.diagonal.fill_shifted_diagonal.Statement.{statement}
 use Rattle.operator.proofs.diagonal.fill_shifted_diagonal.Tie as tie
 
@@ -34,18 +34,18 @@ size-minus a b = go (leb b a) (nleb→lt b a)
 
 -- the row of -b lots
 first : (b : ℕ) → b ≤ 4294967295 → 0ᶠ ⊖ whole (pos b) ≡ whole (minus 0 b)
-first b h = ap (λ (z : Float). z ⊖ whole (pos b)) zero-whole ∙ sub-whole binary64 0 b (lit≤ tt) (le_trans h (lit≤ tt))
+first b h = ap (λ (z : Float). z ⊖ whole (pos b)) zero-whole ∙ sub_whole binary64 0 b (lit≤ tt) (le_trans h (lit≤ tt))
 
 -- one row more
 next : (i b : ℕ) → i ≤ rows b → b ≤ 4294967295 → whole (minus i b) ⊕ 1ᶠ ≡ whole (minus (i + 1) b)
 next i b h l =
     let k : nat_abs (minus i b) ≤ 12884901886 = omega (arith, size-minus i b) in
-    ap (λ (z : Float). whole (minus i b) ⊕ z) one-whole ∙ add-ints binary64 (minus i b) (pos 1) (le_trans k (lit≤ tt)) (lit≤ tt) ∙ ap whole (rw (add-one i) (minus-suc i b))
+    ap (λ (z : Float). whole (minus i b) ⊕ z) one_whole ∙ add_ints binary64 (minus i b) (pos 1) (le_trans k (lit≤ tt)) (lit≤ tt) ∙ ap whole (rw (add-one i) (minus_suc i b))
 
 abbrev invariant-loop : tie.invariant-loop
 invariant-loop alpha beta eta bound diag₀ all₀ q₀ i₀ diag all q i =
-    (length diag₀ ≤ rows bound) × (i ≤ length diag₀) × (length diag ≡ length diag₀) × (q ≡ whole (minus i bound)) × (diag ≡ filled (diagonalAt bound alpha beta eta) diag₀ i)
-    × (all ≡ every i (λ k. finite (diagonalAt bound alpha beta eta k)))
+    (length diag₀ ≤ rows bound) × (i ≤ length diag₀) × (length diag ≡ length diag₀) × (q ≡ whole (minus i bound)) × (diag ≡ filled (diagonal_at bound alpha beta eta) diag₀ i)
+    × (all ≡ every i (λ k. finite (diagonal_at bound alpha beta eta k)))
 
 abbrev decreases-loop : tie.decreases-loop
 decreases-loop alpha beta eta bound diag₀ all₀ q₀ i₀ diag all q i = length diag₀ - i
@@ -57,14 +57,14 @@ add-if1 : tie.Need-overflow-add-if1 invariant-loop decreases-loop
 add-if1 c = omega arith
 
 returns : tie.Need-returns invariant-loop decreases-loop
-unfolding diagonalOver
+unfolding diagonal_over
 returns c = rw (lt-leb _ _ c.if1.true) (refl, refl)
 
 int-to-float-q : tie.Need-int-to-float-q invariant-loop decreases-loop
 int-to-float-q c = tt
 
 loop-holds : tie.Need-loop-init invariant-loop decreases-loop
-loop-holds c = (omega arith, omega arith, refl, first _ (omega arith), filled_zero _ _, every-zero _)
+loop-holds c = (omega arith, omega arith, refl, first _ (omega arith), filled_zero _ _, every_zero _)
 
 mul-diag : tie.Need-overflow-mul-diag invariant-loop decreases-loop
 mul-diag c = omega arith
@@ -82,7 +82,7 @@ loop-less : tie.Need-loop-smaller invariant-loop decreases-loop
 loop-less c = omega arith
 
 loop-again : tie.Need-loop-preserved invariant-loop decreases-loop
-unfolding diagonalAt
+unfolding diagonal_at
 loop-again c =
     let at-loop = c.before.before in
     let b = at-loop.before.before.before.before.args.bound in
@@ -92,7 +92,7 @@ loop-again c =
       simp length-set i.2,
       rw i.3 (next at-loop.loop.i b (omega arith) (omega arith)),
       stored _ _ _ _ _ (omega arith) i.4 (rw i.3),
-      rw (i.5, c.is_finite.ensures, i.3) (every-suc at-loop.loop.i _),
+      rw (i.5, c.is_finite.ensures, i.3) (every_suc at-loop.loop.i _),
     )
 
 same_length : tie.Need-same-length invariant-loop decreases-loop
@@ -100,17 +100,17 @@ same_length c = omega arith
 
 -- the same test of what is stored
 tested : (n : ℕ) (f : ℕ → Float) (l : List Float) → l ≡ tab n f → every n (λ i. finite (f i)) ≡ every n (λ i. finite (at l i))
-tested n f l e = every-ext n _ _ (λ k h. rw (at_stored l n f k e h))
+tested n f l e = every_ext n _ _ (λ k h. rw (at_stored l n f k e h))
 
 returns-2 : tie.Need-returns-2 invariant-loop decreases-loop
-unfolding diagonalOver
+unfolding diagonal_over
 returns-2 c =
     let k = c.before.loop.i in
     let i = c.before.loop.invariant in
     let a = c.before.before.before.before.before.args in
     let n = length a.diag.now in
-    let d : c.before.loop.diag ≡ tab n (diagonalAt a.bound a.alpha a.beta a.eta) = filled-all _ _ _ k _ (omega arith) (omega arith) i.4 in
-    rw (le-leb n (rows a.bound) i.0) (d, i.5 ∙ every-at _ _ _ (omega arith) ∙ tested _ _ _ d)
+    let d : c.before.loop.diag ≡ tab n (diagonal_at a.bound a.alpha a.beta a.eta) = filled_all _ _ _ k _ (omega arith) (omega arith) i.4 in
+    rw (le-leb n (rows a.bound) i.0) (d, i.5 ∙ every_at _ _ _ (omega arith) ∙ tested _ _ _ d)
 
 pub fill-shifted-diagonal-spec : {M : Type 1} → statement M
 fill-shifted-diagonal-spec =

@@ -6,8 +6,8 @@ use borrow.Author.Tests.{eq-eqb, ne_eqb}
 use lib.ListN.{length, length-set}
 use Rattle.elementary.specs.Float.{◌⊗◌}
 use Rattle.operator.specs.Vectors.{at}
-use Rattle.operator.specs.Slices.{scaledOver}
-use Rattle.operator.proofs.Loops.{filled, filled_zero, stored, filled-all}
+use Rattle.operator.specs.Slices.{scaled_over}
+use Rattle.operator.proofs.Loops.{filled, filled_zero, stored, filled_all}
 use Rattle.operator.proofs.diagonal.scale_diagonal.Statement.{statement}
 use Rattle.operator.proofs.diagonal.scale_diagonal.Tie as tie
 
@@ -18,7 +18,7 @@ abbrev decreases-loop : tie.decreases-loop
 decreases-loop diag-s dt diag₀ i₀ diag i = length diag-s - i
 
 returns : tie.Need-returns invariant-loop decreases-loop
-unfolding scaledOver
+unfolding scaled_over
 returns c = rw (ne_eqb _ _ c.if1.true) refl
 
 loop-holds : tie.Need-loop-init invariant-loop decreases-loop
@@ -51,8 +51,8 @@ same_length : tie.Need-same-length invariant-loop decreases-loop
 same_length c = omega arith
 
 returns-2 : tie.Need-returns-2 invariant-loop decreases-loop
-unfolding scaledOver
-returns-2 c = let i = c.before.loop.invariant in rw (eq-eqb _ _ i.0) (filled-all _ _ _ c.before.loop.i _ (omega arith) (omega arith) i.3)
+unfolding scaled_over
+returns-2 c = let i = c.before.loop.invariant in rw (eq-eqb _ _ i.0) (filled_all _ _ _ c.before.loop.i _ (omega arith) (omega arith) i.3)
 
 pub scale-diagonal-spec : {M : Type 1} → statement M
 scale-diagonal-spec =

@@ -5,9 +5,9 @@ use native.Mathlib.Omega.{arith}
 use borrow.Author.Tests.{eq-eqb, ne_eqb}
 use lib.ListN.{length}
 use Rattle.operator.specs.Vectors.{every}
-use Rattle.operator.specs.Slices.{one_at, onesBetween}
-use Rattle.operator.proofs.Loops.{every-zero, every-at}
-use Rattle.operator.proofs.Slices.{ones-more}
+use Rattle.operator.specs.Slices.{one_at, ones_between}
+use Rattle.operator.proofs.Loops.{every_zero, every_at}
+use Rattle.operator.proofs.Slices.{ones_more}
 use Rattle.operator.proofs.factors.all_ones.Statement.{statement}
 use Rattle.operator.proofs.factors.all_ones.Tie as tie
 
@@ -18,11 +18,11 @@ abbrev decreases-loop : tie.decreases-loop
 decreases-loop left right all₀ i₀ all i = length left + 1 - i
 
 returns : tie.Need-returns invariant-loop decreases-loop
-unfolding onesBetween
+unfolding ones_between
 returns c = rw (ne_eqb _ _ c.if1.true) refl
 
 loop-holds : tie.Need-loop-init invariant-loop decreases-loop
-loop-holds c = (c.if1.false, omega arith, omega arith, every-zero _)
+loop-holds c = (c.if1.false, omega arith, omega arith, every_zero _)
 
 add-loop : tie.Need-overflow-add-loop invariant-loop decreases-loop
 add-loop c = omega arith
@@ -49,11 +49,11 @@ loop-again : tie.Need-loop-preserved invariant-loop decreases-loop
 loop-again c =
     let l = c.before.before.before.loop in
     let a = c.before.before.before.before.before.args in
-    (l.invariant.0, omega arith, omega arith, ones-more a.left.now a.right.now l.i _ l.invariant.1 l.invariant.3)
+    (l.invariant.0, omega arith, omega arith, ones_more a.left.now a.right.now l.i _ l.invariant.1 l.invariant.3)
 
 returns-2 : tie.Need-returns-2 invariant-loop decreases-loop
-unfolding onesBetween
-returns-2 c = let i = c.before.loop.invariant in rw (eq-eqb _ _ i.0) (i.3 ∙ every-at _ _ _ (omega arith))
+unfolding ones_between
+returns-2 c = let i = c.before.loop.invariant in rw (eq-eqb _ _ i.0) (i.3 ∙ every_at _ _ _ (omega arith))
 
 pub all-ones-spec : {M : Type 1} → statement M
 all-ones-spec =

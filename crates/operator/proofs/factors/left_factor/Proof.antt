@@ -6,7 +6,7 @@ use native.Mathlib.Omega.{arith}
 use borrow.Author.Rules.{rules}
 use lib.Ieee.{Float}
 use Rattle.elementary.specs.Float.{◌⊖◌, 0ᶠ}
-use Rattle.elementary.specs.Elementary.{EXP, orNan}
+use Rattle.elementary.specs.Elementary.{EXP, or_nan}
 use Rattle.operator.specs.Vectors.{at}
 use Rattle.operator.specs.Operator.{left_at}
 use Rattle.operator.proofs.factors.left_factor.Statement.{statement}
@@ -17,10 +17,10 @@ unfolding left_at
 first o zero h = refl
 first o (suc i) h = absurd (omega arith)
 
-later : (o : List Float) (i : ℕ) → 0 < i → orNan (EXP (at o (i - 1) ⊖ at o i)) ≡ left_at o i
+later : (o : List Float) (i : ℕ) → 0 < i → or_nan (EXP (at o (i - 1) ⊖ at o i)) ≡ left_at o i
 unfolding left_at
 later o zero h = absurd (omega arith)
-later o (suc i) h = ap (λ (k : ℕ). orNan (EXP (at o k ⊖ at o (suc i)))) (omega arith)
+later o (suc i) h = ap (λ (k : ℕ). or_nan (EXP (at o k ⊖ at o (suc i)))) (omega arith)
 
 returns : tie.Need-returns
 returns c = first _ _ c.if1.true

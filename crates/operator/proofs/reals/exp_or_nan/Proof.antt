@@ -1,4 +1,4 @@
-use Rattle.elementary.specs.Elementary.{orNan}
+use Rattle.elementary.specs.Elementary.{or_nan}
 use mathlib.Core.Path.{ap, ◌∙◌}
 use borrow.Author.Rules.{rules}
 use Rattle.operator.proofs.reals.exp_or_nan.Statement.{statement}
@@ -11,7 +11,7 @@ or-nan-requires : tie.Need-or-nan-requires
 or-nan-requires c κs = search rules
 
 returns : tie.Need-returns
-returns c = c.or-nan.ensures ∙ ap orNan c.before.exp.ensures
+returns c = c.or-nan.ensures ∙ ap or_nan c.before.exp.ensures
 
 pub exp-or-nan-spec : {M : Type 1} → statement M
 exp-or-nan-spec = tie.close (tie.spec exp-requires or-nan-requires returns)

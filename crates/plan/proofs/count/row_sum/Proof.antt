@@ -1,6 +1,6 @@
 -- The operations in the definition's order. Assumes nothing.
 use Rattle.std.proofs.Common.{refl, rules}
-use Rattle.plan.specs.Count.{rowSum}
+use Rattle.plan.specs.Count.{row_sum}
 use Rattle.plan.proofs.count.row_sum.Statement.{statement}
 use Rattle.plan.proofs.count.row_sum.Tie as tie
 
@@ -8,7 +8,7 @@ int-to-float-q : tie.Need-int-to-float-q
 int-to-float-q c = search rules
 
 returns : tie.Need-returns
-unfolding rowSum
+unfolding row_sum
 returns c = refl
 
 pub row-sum-spec : {M : Type 1} → statement M

@@ -4,22 +4,22 @@ use lib.Ieee.{Float}
 use Rattle.elementary.specs.Float.{◌⊕◌, ◌⊗◌, 0ᶠ}
 use Rattle.operator.specs.Vectors.{tab, at, fold, larger, abs}
 use Rattle.plan.specs.Plan.{magnitudes, norm}
-use Rattle.operator.proofs.Loops.{fold-zero, fold-suc, fold_at, larger-taken, larger-left}
-use Rattle.operator.proofs.Lists.{at-tab, tab-ext}
+use Rattle.operator.proofs.Loops.{fold_zero, fold_suc, fold_at, larger_taken, larger_left}
+use Rattle.operator.proofs.Lists.{at_tab, tab_ext}
 use Rattle.plan.proofs.plan.norm_of.Statement.{statement}
 use Rattle.plan.proofs.plan.norm_of.Tie as tie
 
-abbrev rowSum : List Float → Float → List Float → List Float → ℕ → Float
-rowSum d eta left right i = abs (at d i) ⊕ eta ⊗ (at left i ⊕ at right i)
+abbrev row_sum : List Float → Float → List Float → List Float → ℕ → Float
+row_sum d eta left right i = abs (at d i) ⊕ eta ⊗ (at left i ⊕ at right i)
 
 abbrev invariant-loop : tie.invariant-loop
-invariant-loop diag-s eta left right norm₀ i₀ norm i = (i ≤ length diag-s) × (norm ≡ fold larger 0ᶠ (tab i (rowSum diag-s eta left right)))
+invariant-loop diag-s eta left right norm₀ i₀ norm i = (i ≤ length diag-s) × (norm ≡ fold larger 0ᶠ (tab i (row_sum diag-s eta left right)))
 
 abbrev decreases-loop : tie.decreases-loop
 decreases-loop diag-s eta left right norm₀ i₀ norm i = length diag-s - i
 
 loop-holds : tie.Need-loop-init invariant-loop decreases-loop
-loop-holds c = (omega arith, fold-zero _ _ _)
+loop-holds c = (omega arith, fold_zero _ _ _)
 
 mul-d : tie.Need-overflow-mul-d invariant-loop decreases-loop
 mul-d c = omega arith
@@ -54,16 +54,16 @@ loop-again c =
     let at-loop = size.before.before.before in
     let i = at-loop.loop.i in
     let x = at-loop.before.before.before.before.args in
-    let f = rowSum x.diag-s.now x.eta x.left.now x.right.now in
+    let f = row_sum x.diag-s.now x.eta x.left.now x.right.now in
     let max : c.if1.norm ≡ larger at-loop.loop.norm (size.magnitude.result ⊕ x.eta ⊗ (at x.left.now i ⊕ at x.right.now i)) =
-    ⊎_elim (λ t. t.1 ∙ larger-taken _ _ t.0.taken) (λ t. t.1 ∙ larger-left _ _ t.0.left) c.if1.branch in
-    (omega arith, max ∙ rw (at-loop.loop.invariant.1, size.magnitude.ensures) (sym (fold-suc larger 0ᶠ i f)))
+    ⊎_elim (λ t. t.1 ∙ larger_taken _ _ t.0.taken) (λ t. t.1 ∙ larger_left _ _ t.0.left) c.if1.branch in
+    (omega arith, max ∙ rw (at-loop.loop.invariant.1, size.magnitude.ensures) (sym (fold_suc larger 0ᶠ i f)))
 
 -- the magnitudes as the definition stores them
 stored-sizes : (n : ℕ) (d : List Float) (eta : Float) (left right : List Float)
-    → fold larger 0ᶠ (tab n (rowSum d eta left right)) ≡ fold larger 0ᶠ (tab n (λ i. at (magnitudes n d) i ⊕ eta ⊗ (at left i ⊕ at right i)))
+    → fold larger 0ᶠ (tab n (row_sum d eta left right)) ≡ fold larger 0ᶠ (tab n (λ i. at (magnitudes n d) i ⊕ eta ⊗ (at left i ⊕ at right i)))
 unfolding magnitudes
-stored-sizes n d eta left right = ap (fold larger 0ᶠ) (tab-ext n _ _ (λ i h. rw (at-tab n (λ j. abs (at d j)) i h)))
+stored-sizes n d eta left right = ap (fold larger 0ᶠ) (tab_ext n _ _ (λ i h. rw (at_tab n (λ j. abs (at d j)) i h)))
 
 returns : tie.Need-returns invariant-loop decreases-loop
 unfolding norm

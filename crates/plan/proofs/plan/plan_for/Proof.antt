@@ -2,8 +2,8 @@
 use Rattle.std.proofs.Common.{◌≡◌, ℕ, true, pos, lt_of_le_of_lt, rules}
 use lib.Ieee.{Float, le}
 use Rattle.elementary.specs.Float.{whole}
-use Rattle.plan.specs.Plan.{needed, planBy, planFor}
-use Rattle.plan.proofs.Plans.{planned-low, planned-high, planned-within, planned-same}
+use Rattle.plan.specs.Plan.{needed, plan_by, plan_for}
+use Rattle.plan.proofs.Plans.{planned_low, planned_high, planned_within, planned_same}
 use Rattle.plan.proofs.plan.plan_for.Statement.{statement}
 use Rattle.plan.proofs.plan.plan_for.Tie as tie
 
@@ -21,25 +21,25 @@ truncating-f64-to-u64-requires c κs =
     let start = c.before.before.before in
     let is = c.before.before.steps-needed.ensures in
     let kept = keeps _ _ _ is c.if1.true in
-    rw is (planned-low _ _ kept, planned-high _ _ kept start.ranges.budget.fits)
+    rw is (planned_low _ _ kept, planned_high _ _ kept start.ranges.budget.fits)
 
 cast-t8 : tie.Need-overflow-cast-t8
 cast-t8 c =
     let start = c.before.before.before.before in
     let is = c.before.before.before.steps-needed.ensures in
     let kept = keeps _ _ _ is c.before.if1.true in
-    record { fits = rw (c.truncating-f64-to-u64.ensures, is) (lt_of_le_of_lt (planned-within _ _ kept start.ranges.budget.fits) start.ranges.budget.fits) }
+    record { fits = rw (c.truncating-f64-to-u64.ensures, is) (lt_of_le_of_lt (planned_within _ _ kept start.ranges.budget.fits) start.ranges.budget.fits) }
 
 returns : tie.Need-returns
-unfolding planFor planBy
+unfolding plan_for plan_by
 returns c =
     let start = c.before.before.before.before in
     let is = c.before.before.before.steps-needed.ensures in
     let kept = keeps _ _ _ is c.before.if1.true in
-    rw (kept, c.truncating-f64-to-u64.ensures, is, planned-same _ _ kept start.ranges.budget.fits)
+    rw (kept, c.truncating-f64-to-u64.ensures, is, planned_same _ _ kept start.ranges.budget.fits)
 
 returns-2 : tie.Need-returns-2
-unfolding planFor planBy
+unfolding plan_for plan_by
 returns-2 c =
     let is = c.before.before.steps-needed.ensures in
     rw (← is, c.if1.false)

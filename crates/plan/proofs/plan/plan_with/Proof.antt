@@ -36,7 +36,7 @@ use denote.Triple.Spec.{Meets, triple_of}
 use denote.Triple.Table.{entered, cited}
 use denote.Triple.Walked.{says, Stays, stay_dropped, walk_of, AllGo, Goes-dropped, Walks, ends_at, walked, walk_Meets}
 use denote.Triple.Clauses.{ensured, lasts}
-use Rattle.plan.specs.Plan.{planWith}
+use Rattle.plan.specs.Plan.{plan_with}
 use Rattle.plan.specs.declared.plan.Planned.{Planned}
 use Rattle.plan.specs.declared.plan.Factors.{Factors}
 use Rattle.plan.specs.contracts.plan.Planned as P
@@ -97,7 +97,7 @@ module _ {M : Type 1} {𝓤 : Ura M} (𝓛 : Logic 𝓤) (mem : Memory → SProp
   vs = vfloat binary64 tau ∷ slice diag ∷ vfloat binary64 eta ∷ slice l ∷ slice r ∷ vint w32 budget ∷ []
 
   abbrev found : Planned
-  found = planWith tau diag.now eta l.now r.now budget
+  found = plan_with tau diag.now eta l.now r.now budget
 
   abbrev Post : Val → SProp 𝓤
   Post = (walk_of 𝓛 with.ended stayed (with.clauses 𝓛 mem run)).post ((κs, (q, (q', tt)), tt, a, vss), tt)

@@ -1,6 +1,6 @@
--- Each arm is one of `diagonalFor`. Assumes nothing.
+-- Each arm is one of `diagonal_for`. Assumes nothing.
 use Rattle.std.proofs.Common.{refl, rules}
-use Rattle.plan.specs.Slices.{diagonalFor}
+use Rattle.plan.specs.Slices.{diagonal_for}
 use Rattle.plan.proofs.slices.scale_for.Statement.{statement}
 use Rattle.plan.proofs.slices.scale_for.Tie as tie
 
@@ -20,15 +20,15 @@ same_length : tie.Need-same-length
 same_length c = search rules
 
 returns : tie.Need-returns
-unfolding diagonalFor
+unfolding diagonal_for
 returns c = rw c.before.before.before.before.before.plan.given.1 c.before.before.scale-diagonal.ensures
 
 returns-2 : tie.Need-returns-2
-unfolding diagonalFor
+unfolding diagonal_for
 returns-2 c = rw c.enum_told.given.1 refl
 
 returns-3 : tie.Need-returns-3
-unfolding diagonalFor
+unfolding diagonal_for
 returns-3 c = rw c.enum-told2.given.1 refl
 
 pub scale-for-spec : {M : Type 1} → statement M

@@ -1,6 +1,6 @@
 -- The factors as they are stored, and, where all are finite, the plan over them and its diagonal. Assumes nothing.
 use Rattle.std.proofs.Common.{refl, rules}
-use Rattle.plan.specs.Slices.{planFrom, diagonalFor}
+use Rattle.plan.specs.Slices.{plan_from, diagonal_for}
 use Rattle.plan.proofs.slices.set_plan.Statement.{statement}
 use Rattle.plan.proofs.slices.set_plan.Tie as tie
 
@@ -23,7 +23,7 @@ same-length-3 : tie.Need-same-length-3
 same-length-3 c = search rules
 
 returns : tie.Need-returns
-unfolding planFrom
+unfolding plan_from
 returns c =
     let f = c.before.before.before.before.before.before.before.before.before.before.before.before in
     let e = f.set-factors.ensures in
@@ -36,7 +36,7 @@ same-length-5 : tie.Need-same-length-5
 same-length-5 c = search rules
 
 returns-2 : tie.Need-returns-2
-unfolding planFrom diagonalFor
+unfolding plan_from diagonal_for
 returns-2 c =
     let e = c.before.before.before.before.before.set-factors.ensures in
     (e.0, (e.1.0, (refl, rw (← e.1.1, c.if1.false) refl)))

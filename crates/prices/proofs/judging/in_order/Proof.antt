@@ -2,7 +2,7 @@ use mathlib.Core.Path.{◌≡◌, ◌∙◌}
 use lib.IntN.{ℤ}
 use mir.Syntax.{w64}
 use mir.Val.{to_z, of_z}
-use Rattle.prices.specs.Prices.{inOrder}
+use Rattle.prices.specs.Prices.{in_order}
 use borrow.Author.Rules.{rules}
 use Rattle.prices.specs.declared.Price.{Price}
 use Rattle.prices.specs.declared.Price.TheVariants.{At}
@@ -19,19 +19,19 @@ enum_told : tie.Need-enum-told
 enum_told c = search rules
 
 -- the bid
-bid-is : (c : tie.After-known-told) → to_z w64 (of_z w64 c.before.bid.given.0.0) ≡ c.before.bid.given.0.0
-bid-is c = search rules
+bid_is : (c : tie.After-known-told) → to_z w64 (of_z w64 c.before.bid.given.0.0) ≡ c.before.bid.given.0.0
+bid_is c = search rules
 
-same : (b b' : ℤ) (p a : Price) → b' ≡ b → p ≡ At b → inOrder (At b') a ≡ inOrder p a
+same : (b b' : ℤ) (p a : Price) → b' ≡ b → p ≡ At b → in_order (At b') a ≡ in_order p a
 same b b' p a e f = rw (e, f)
 
 returns : tie.Need-returns
 returns c =
     let s = c.before.before.before.before.args in
-    c.below.ensures ∙ same c.before.before.bid.given.0.0 _ s.bid s.ask (bid-is c.before) c.before.before.bid.given.1
+    c.below.ensures ∙ same c.before.before.bid.given.0.0 _ s.bid s.ask (bid_is c.before) c.before.before.bid.given.1
 
 returns-2 : tie.Need-returns-2
-unfolding inOrder
+unfolding in_order
 returns-2 c = rw c.enum_told.given.1
 
 pub in-order-spec : {M : Type 1} → statement M

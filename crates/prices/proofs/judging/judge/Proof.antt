@@ -1,12 +1,12 @@
 use mathlib.Core.Path.{◌≡◌}
 use mathlib.Core.Bool.{◌&&◌}
 use borrow.Author.Rules.{rules}
-use Rattle.amounts.specs.Amounts.{amountOk}
-use Rattle.prices.specs.Prices.{each, judgeIf, judge}
+use Rattle.amounts.specs.Amounts.{amount_ok}
+use Rattle.prices.specs.Prices.{each, judge_if, judge}
 use Rattle.prices.proofs.judging.judge.Statement.{statement}
 use Rattle.prices.proofs.judging.judge.Tie as tie
 
-within : (c : tie.After-side-fits2) → let q = c.before.before.args.quotes in (each amountOk q.bid && each amountOk q.ask) ≡ (c.before.side-fits.result && c.side-fits2.result)
+within : (c : tie.After-side-fits2) → let q = c.before.before.args.quotes in (each amount_ok q.bid && each amount_ok q.ask) ≡ (c.before.side-fits.result && c.side-fits2.result)
 within c = rw (c.before.side-fits.ensures, c.side-fits2.ensures)
 
 side-fits-requires : tie.Need-side-fits-requires
@@ -25,7 +25,7 @@ in-order-requires : tie.Need-in-order-requires
 in-order-requires c κs = search rules
 
 returns : tie.Need-returns
-unfolding judge judgeIf
+unfolding judge judge_if
 returns c =
     let o = c.before in
     let p = o.before in
@@ -33,7 +33,7 @@ returns c =
     rw (within t.before, t.if1.true, rw (p.before.side-positive.ensures, p.side-positive2.ensures, o.in_order.ensures) at c.if2.true)
 
 returns-2 : tie.Need-returns-2
-unfolding judge judgeIf
+unfolding judge judge_if
 returns-2 c =
     let o = c.before in
     let p = o.before in
@@ -41,7 +41,7 @@ returns-2 c =
     rw (within t.before, t.if1.true, rw (p.before.side-positive.ensures, p.side-positive2.ensures, o.in_order.ensures) at c.if2.false)
 
 returns-3 : tie.Need-returns-3
-unfolding judge judgeIf
+unfolding judge judge_if
 returns-3 c = rw (within c.before, c.if1.false)
 
 pub judge-spec : {M : Type 1} → statement M

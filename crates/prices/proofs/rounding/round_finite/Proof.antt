@@ -3,22 +3,22 @@ use mathlib.Core.Bool.{true, ◌&&◌}
 use mir.Syntax.{w64}
 use mir.Val.{to_z, of_z}
 use borrow.Author.Rules.{rules}
-use Rattle.amounts.specs.Amounts.{amountOk}
-use Rattle.prices.specs.Prices.{each, side, roundedIf}
-use Rattle.prices.proofs.Building.{roundedBy, rounded-by}
+use Rattle.amounts.specs.Amounts.{amount_ok}
+use Rattle.prices.specs.Prices.{each, side, rounded_if}
+use Rattle.prices.proofs.Building.{rounded_by, rounded_by_lem}
 use Rattle.prices.proofs.rounding.round_finite.Statement.{statement}
 use Rattle.prices.proofs.rounding.round_finite.Tie as tie
 
 -- the bid's count
-bid-is : (c : tie.After-known-told) → to_z w64 (of_z w64 c.before.b.given.0.0) ≡ c.before.b.given.0.0
-bid-is c = search rules
+bid_is : (c : tie.After-known-told) → to_z w64 (of_z w64 c.before.b.given.0.0) ≡ c.before.b.given.0.0
+bid_is c = search rules
 
 -- both sides, from the code's
-sides-are : (c : tie.After-side-of2) → let s = c.before.before.args in
-    roundedIf true (each amountOk (side s.bid) && each amountOk (side s.ask)) (side s.bid) (side s.ask) ≡ roundedBy c.side-of2.result c.before.side-of.result
-sides-are c =
+sides_are : (c : tie.After-side-of2) → let s = c.before.before.args in
+    rounded_if true (each amount_ok (side s.bid) && each amount_ok (side s.ask)) (side s.bid) (side s.ask) ≡ rounded_by c.side-of2.result c.before.side-of.result
+sides_are c =
     let s = c.before.before.args in
-    rw (c.side-of2.ensures, c.before.side-of.ensures) (sym (rounded-by (side s.bid) (side s.ask)))
+    rw (c.side-of2.ensures, c.before.side-of.ensures) (sym (rounded_by_lem (side s.bid) (side s.ask)))
 
 side-of-requires : tie.Need-side-of-requires
 side-of-requires c κs = c.requires.1
@@ -42,16 +42,16 @@ enum-told-2 : tie.Need-enum-told-2
 enum-told-2 c = search rules
 
 returns : tie.Need-returns
-unfolding roundedBy
-returns c = rw (sides-are c.before.before.before.before, c.before.before.b.given.1, c.rounded-with.ensures, bid-is c.before)
+unfolding rounded_by
+returns c = rw (sides_are c.before.before.before.before, c.before.before.b.given.1, c.rounded-with.ensures, bid_is c.before)
 
 returns-2 : tie.Need-returns-2
-unfolding roundedBy
-returns-2 c = rw (sides-are c.before.before.before, c.before.enum_told.given.1, c.rounded-with2.ensures)
+unfolding rounded_by
+returns-2 c = rw (sides_are c.before.before.before, c.before.enum_told.given.1, c.rounded-with2.ensures)
 
 returns-3 : tie.Need-returns-3
-unfolding roundedBy
-returns-3 c = rw (sides-are c.before.before, c.enum-told2.given.1)
+unfolding rounded_by
+returns-3 c = rw (sides_are c.before.before, c.enum-told2.given.1)
 
 pub round-finite-spec : {M : Type 1} → statement M
 round-finite-spec =

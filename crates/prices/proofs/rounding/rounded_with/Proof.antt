@@ -1,4 +1,4 @@
-use Rattle.prices.specs.Inner.{roundedWith}
+use Rattle.prices.specs.Inner.{rounded_with}
 use borrow.Author.Rules.{rules}
 use Rattle.prices.proofs.rounding.rounded_with.Statement.{statement}
 use Rattle.prices.proofs.rounding.rounded_with.Tie as tie
@@ -13,15 +13,15 @@ enum-told-2 : tie.Need-enum-told-2
 enum-told-2 c = search rules
 
 returns : tie.Need-returns
-unfolding roundedWith
+unfolding rounded_with
 returns c = rw c.before.ask.given.1 (search rules)
 
 returns-2 : tie.Need-returns-2
-unfolding roundedWith
+unfolding rounded_with
 returns-2 c = rw c.enum_told.given.1 (search rules)
 
 returns-3 : tie.Need-returns-3
-unfolding roundedWith
+unfolding rounded_with
 returns-3 c = rw c.enum-told2.given.1
 
 pub rounded-with-spec : {M : Type 1} → statement M

@@ -4,11 +4,11 @@ use lib.IntN.{ℤ}
 use borrow.Author.Rules.{rules}
 use Rattle.elementary.specs.Float.{finite}
 use Rattle.distances.specs.Distances.{fine}
-use Rattle.amounts.specs.Rounding.{countIf, toBillionths}
+use Rattle.amounts.specs.Rounding.{count_if, to_billionths}
 use Rattle.amounts.specs.declared.rounding.Billionths.{Billionths}
 use Rattle.amounts.specs.declared.rounding.Billionths.TheVariants as Billionths
 use Rattle.prices.specs.Prices.{side}
-use Rattle.prices.specs.Inner.{sideBy, side_of}
+use Rattle.prices.specs.Inner.{side_by, side_of}
 use Rattle.prices.specs.declared.rounding.Side.{Side}
 use Rattle.prices.specs.declared.rounding.Side.TheVariants as Side
 use Rattle.prices.proofs.rounding.side_of.Statement.{statement}
@@ -19,8 +19,8 @@ unfoldable held : Billionths → Side
 held (Billionths.Count n) = Side.At n
 held (Billionths.Refused r) = Side.Beyond
 
-held-is : (t : Bool) (z : ℤ) → sideBy t z ≡ held (countIf true t z)
-unfolding held countIf sideBy
+held-is : (t : Bool) (z : ℤ) → side_by t z ≡ held (count_if true t z)
+unfolding held count_if side_by
 held-is true z = refl
 held-is false z = refl
 
@@ -45,13 +45,13 @@ enum-told-2 : tie.Need-enum-told-2
 enum-told-2 c = search rules
 
 returns : tie.Need-returns
-unfolding side side_of held toBillionths
+unfolding side side_of held to_billionths
 returns c =
     let r = c.before.before.before in
     rw (r.before.before.d.given.1, held-is, ← (finite-is r), ← r.to-billionths.ensures, c.before.n.given.1) (search rules)
 
 returns-2 : tie.Need-returns-2
-unfolding side side_of held toBillionths
+unfolding side side_of held to_billionths
 returns-2 c =
     let r = c.before.before in
     rw (r.before.before.d.given.1, held-is, ← (finite-is r), ← r.to-billionths.ensures, c.enum_told.given.1)

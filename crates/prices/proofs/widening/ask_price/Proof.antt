@@ -7,9 +7,9 @@ use mir.Syntax.{w64}
 use mir.Val.{SFits, to_z, of_z}
 use mir.Facts.{to_z-of_z}
 use borrow.Author.Rules.{rules}
-use Rattle.amounts.specs.Amounts.{amountLimit, amountOk}
-use Rattle.amounts.proofs.Sizes.{size-add, size_fits, amount-size}
-use Rattle.prices.specs.Prices.{each, askPrice}
+use Rattle.amounts.specs.Amounts.{amount_limit, amount_ok}
+use Rattle.amounts.proofs.Sizes.{size_add, size_fits, amount_size}
+use Rattle.prices.specs.Prices.{each, ask_price}
 use Rattle.prices.proofs.widening.ask_price.Statement.{statement}
 use Rattle.prices.proofs.widening.ask_price.Tie as tie
 
@@ -26,14 +26,14 @@ price c = c.before.before.before.args.mid +ℤ outward c
 distance_is : (c : tie.After-known-told) → to_z w64 (of_z w64 (distance c)) ≡ distance c
 distance_is c = search rules
 
-distance-ok : (c : tie.After-known-told) → T (amountOk (distance c))
+distance-ok : (c : tie.After-known-told) → T (amount_ok (distance c))
 unfolding each
 distance-ok c = rw c.before.ask.given.1 at c.before.before.before.requires.2
 
-outward-size : (c : tie.After-known-told) → nat_abs (outward c) ≤ 4 * amountLimit
+outward-size : (c : tie.After-known-told) → nat_abs (outward c) ≤ 4 * amount_limit
 outward-size c =
     let s = c.before.before.before in
-    omega (arith, amount-size (distance c) (distance-ok c), s.requires.1, size-add (distance c) s.args.w)
+    omega (arith, amount_size (distance c) (distance-ok c), s.requires.1, size_add (distance c) s.args.w)
 
 outward-fits : (c : tie.After-known-told) → SFits w64 (outward c)
 outward-fits c = size_fits (outward c) (omega (arith, outward-size c))
@@ -41,7 +41,7 @@ outward-fits c = size_fits (outward c) (omega (arith, outward-size c))
 price-fits : (c : tie.After-known-told) → SFits w64 (price c)
 price-fits c =
     let s = c.before.before.before in
-    size_fits (price c) (omega (arith, amount-size s.args.mid s.requires.0, outward-size c, size-add s.args.mid (outward c)))
+    size_fits (price c) (omega (arith, amount_size s.args.mid s.requires.0, outward-size c, size_add s.args.mid (outward c)))
 
 enum-known-ask : tie.Need-enum-known-ask
 enum-known-ask c = search rules
@@ -58,13 +58,13 @@ enum_told : tie.Need-enum-told
 enum_told c = search rules
 
 returns : tie.Need-returns
-unfolding askPrice
+unfolding ask_price
 returns c =
     let f = c.before.before.before.ranges in
     rw (c.before.ask.given.1, distance_is c, to_z-of_z f.w, to_z-of_z (outward-fits c), to_z-of_z f.mid, to_z-of_z (price-fits c))
 
 returns-2 : tie.Need-returns-2
-unfolding askPrice
+unfolding ask_price
 returns-2 c = rw c.enum_told.given.1
 
 pub ask-price-spec : {M : Type 1} → statement M

@@ -7,10 +7,10 @@ use mir.Syntax.{w64}
 use mir.Val.{SFits, to_z, of_z}
 use mir.Facts.{to_z-of_z}
 use borrow.Author.Rules.{rules}
-use Rattle.amounts.specs.Amounts.{amountLimit, amountOk}
-use Rattle.amounts.proofs.Sizes.{size-add, size-sub, size_fits, amount-size}
-use Rattle.prices.specs.Prices.{each, halfUp, widening}
-use Rattle.prices.proofs.Building.{size-half}
+use Rattle.amounts.specs.Amounts.{amount_limit, amount_ok}
+use Rattle.amounts.proofs.Sizes.{size_add, size_sub, size_fits, amount_size}
+use Rattle.prices.specs.Prices.{each, half_up, widening}
+use Rattle.prices.proofs.Building.{size_half}
 use Rattle.prices.proofs.widening.moved_with.Statement.{statement}
 use Rattle.prices.proofs.widening.moved_with.Tie as tie
 
@@ -24,22 +24,22 @@ spread c = c.before.before.before.args.b +ℤ ask c
 abbrev short : tie.After-known-told → ℤ
 short c = c.before.before.before.args.least -ℤ spread c
 
-ask-is : (c : tie.After-known-told) → to_z w64 (of_z w64 (ask c)) ≡ ask c
-ask-is c = search rules
+ask_is : (c : tie.After-known-told) → to_z w64 (of_z w64 (ask c)) ≡ ask c
+ask_is c = search rules
 
-ask-ok : (c : tie.After-known-told) → T (amountOk (ask c))
+ask-ok : (c : tie.After-known-told) → T (amount_ok (ask c))
 unfolding each
 ask-ok c = rw c.before.ask.given.1 at c.before.before.before.requires.2
 
-spread-size : (c : tie.After-known-told) → nat_abs (spread c) ≤ 2 * amountLimit
+spread-size : (c : tie.After-known-told) → nat_abs (spread c) ≤ 2 * amount_limit
 spread-size c =
     let s = c.before.before.before in
-    omega (arith, amount-size s.args.b s.requires.1, amount-size (ask c) (ask-ok c), size-add s.args.b (ask c))
+    omega (arith, amount_size s.args.b s.requires.1, amount_size (ask c) (ask-ok c), size_add s.args.b (ask c))
 
-short-size : (c : tie.After-known-told) → nat_abs (short c) ≤ 3 * amountLimit
+short-size : (c : tie.After-known-told) → nat_abs (short c) ≤ 3 * amount_limit
 short-size c =
     let s = c.before.before.before in
-    omega (arith, amount-size s.args.least s.requires.0, spread-size c, size-sub s.args.least (spread c))
+    omega (arith, amount_size s.args.least s.requires.0, spread-size c, size_sub s.args.least (spread c))
 
 spread-fits : (c : tie.After-known-told) → SFits w64 (spread c)
 spread-fits c = size_fits (spread c) (omega (arith, spread-size c))
@@ -47,24 +47,24 @@ spread-fits c = size_fits (spread c) (omega (arith, spread-size c))
 short-fits : (c : tie.After-known-told) → SFits w64 (short c)
 short-fits c = size_fits (short c) (omega (arith, short-size c))
 
-half-fits : (c : tie.After-known-told) → SFits w64 (halfUp (short c))
-half-fits c = size_fits (halfUp (short c)) (omega (arith, short-size c, size-half (short c)))
+half-fits : (c : tie.After-known-told) → SFits w64 (half_up (short c))
+half-fits c = size_fits (half_up (short c)) (omega (arith, short-size c, size_half (short c)))
 
 enum-known-ask : tie.Need-enum-known-ask
 enum-known-ask c = search rules
 
 add-half-shortfall : tie.Need-overflow-add-half-shortfall
-add-half-shortfall c = let s = c.before.before.before in rw (to_z-of_z s.ranges.b, ask-is c) (spread-fits c)
+add-half-shortfall c = let s = c.before.before.before in rw (to_z-of_z s.ranges.b, ask_is c) (spread-fits c)
 
 sub-half-shortfall : tie.Need-overflow-sub-half-shortfall
 sub-half-shortfall c =
     let s = c.before.before.before in
-    rw (to_z-of_z s.ranges.b, ask-is c, to_z-of_z (spread-fits c), to_z-of_z s.ranges.least) (short-fits c)
+    rw (to_z-of_z s.ranges.b, ask_is c, to_z-of_z (spread-fits c), to_z-of_z s.ranges.least) (short-fits c)
 
 half-shortfall-requires : tie.Need-half-shortfall-requires
 half-shortfall-requires c κs =
     let s = c.before.before.before in
-    rw (to_z-of_z s.ranges.b, ask-is c, to_z-of_z (spread-fits c), to_z-of_z s.ranges.least, to_z-of_z (short-fits c)) (short-size c)
+    rw (to_z-of_z s.ranges.b, ask_is c, to_z-of_z (spread-fits c), to_z-of_z s.ranges.least, to_z-of_z (short-fits c)) (short-size c)
 
 enum_told : tie.Need-enum-told
 enum_told c = search rules
@@ -74,7 +74,7 @@ unfolding widening
 returns c =
     let k = c.before in
     let s = k.before.before.before in
-    rw (k.before.ask.given.1, c.half-shortfall.ensures, to_z-of_z s.ranges.b, ask-is k, to_z-of_z (spread-fits k), to_z-of_z s.ranges.least, to_z-of_z (short-fits k), to_z-of_z (half-fits k))
+    rw (k.before.ask.given.1, c.half-shortfall.ensures, to_z-of_z s.ranges.b, ask_is k, to_z-of_z (spread-fits k), to_z-of_z s.ranges.least, to_z-of_z (short-fits k), to_z-of_z (half-fits k))
 
 returns-2 : tie.Need-returns-2
 unfolding widening

@@ -4,26 +4,26 @@ use mathlib.Core.Bool.{◌&&◌}
 use lib.Dec.{T}
 use mir.Facts.{to_z-of_z, and_yes}
 use borrow.Author.Rules.{rules}
-use Rattle.amounts.specs.Amounts.{amountOk}
-use Rattle.prices.specs.Prices.{each, priced, priceSides, widenIf}
+use Rattle.amounts.specs.Amounts.{amount_ok}
+use Rattle.prices.specs.Prices.{each, priced, price_sides, widen_if}
 use Rattle.prices.proofs.widening.price_sides.Statement.{statement}
 use Rattle.prices.proofs.widening.price_sides.Tie as tie
 
 -- ---- the two tests
-mid-is : (c : tie.After-amount-fits) → amountOk c.before.args.mid ≡ c.amount-fits.result
+mid-is : (c : tie.After-amount-fits) → amount_ok c.before.args.mid ≡ c.amount-fits.result
 mid-is c = rw (c.amount-fits.ensures, to_z-of_z c.before.ranges.mid)
 
-sides-are : (c : tie.After-side-fits2) → let s = c.before.before.before.before.args in (each amountOk s.bid && each amountOk s.ask) ≡ (c.before.side-fits.result && c.side-fits2.result)
-sides-are c = rw (c.before.side-fits.ensures, c.side-fits2.ensures)
+sides_are : (c : tie.After-side-fits2) → let s = c.before.before.before.before.args in (each amount_ok s.bid && each amount_ok s.ask) ≡ (c.before.side-fits.result && c.side-fits2.result)
+sides_are c = rw (c.before.side-fits.ensures, c.side-fits2.ensures)
 
 -- ---- where both pass
-mid-ok : (c : tie.Then2) → T (amountOk c.before.before.before.before.before.args.mid)
+mid-ok : (c : tie.Then2) → T (amount_ok c.before.before.before.before.before.args.mid)
 mid-ok c = let t = c.before.before.before in subst T (sym (mid-is t.before ∙ t.if1.true)) tt
 
-sides-ok : (c : tie.Then2) → let s = c.before.before.before.before.before.args in T (each amountOk s.bid) × T (each amountOk s.ask)
+sides-ok : (c : tie.Then2) → let s = c.before.before.before.before.before.args in T (each amount_ok s.bid) × T (each amount_ok s.ask)
 sides-ok c =
     let s = c.before.before.before.before.before.args in
-    and_yes (each amountOk s.bid) (each amountOk s.ask) (subst T (sym (sides-are c.before ∙ c.if2.true)) tt)
+    and_yes (each amount_ok s.bid) (each amount_ok s.ask) (subst T (sym (sides_are c.before ∙ c.if2.true)) tt)
 
 amount-fits-requires : tie.Need-amount-fits-requires
 amount-fits-requires c κs = search rules
@@ -46,21 +46,21 @@ ask-price-requires c κs =
     rw (to_z-of_z s.ranges.mid) (mid-ok t, omega arith, (sides-ok t).1)
 
 returns : tie.Need-returns
-unfolding priceSides widenIf priced
+unfolding price_sides widen_if priced
 returns c =
     let t = c.before.before in
     let u = t.before.before.before in
     let s = u.before.before in
-    rw (mid-is u.before, u.if1.true, sides-are t.before, t.if2.true, c.before.bid-price.ensures, c.ask-price.ensures, to_z-of_z s.ranges.mid)
+    rw (mid-is u.before, u.if1.true, sides_are t.before, t.if2.true, c.before.bid-price.ensures, c.ask-price.ensures, to_z-of_z s.ranges.mid)
 
 returns-2 : tie.Need-returns-2
-unfolding priceSides widenIf
+unfolding price_sides widen_if
 returns-2 c =
     let t = c.before.before.before in
-    rw (mid-is t.before, t.if1.true, sides-are c.before, c.if2.false)
+    rw (mid-is t.before, t.if1.true, sides_are c.before, c.if2.false)
 
 returns-3 : tie.Need-returns-3
-unfolding priceSides widenIf
+unfolding price_sides widen_if
 returns-3 c = rw (mid-is c.before, c.if1.false)
 
 pub price-sides-spec : {M : Type 1} → statement M

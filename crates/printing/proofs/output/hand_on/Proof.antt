@@ -3,7 +3,7 @@ use mathlib.Core.Path.{refl}
 use native.Mathlib.Omega.{arith}
 use borrow.Author.Rules.{rules}
 use Rattle.printing.specs.Printing.{HandedOn}
-use Rattle.printing.proofs.Handing.{next-most}
+use Rattle.printing.proofs.Handing.{next_most}
 use Rattle.printing.proofs.output.hand_on.Statement.{statement}
 use Rattle.printing.proofs.output.hand_on.Tie as tie
 
@@ -17,7 +17,7 @@ returns c = tt
 add-t8 : tie.Need-overflow-add-t8
 add-t8 c =
     let s = c.before.before.before.before.before in
-    let m = next-most s.args.kind s.args.s.now s.args.done.count s.args.text.now s.requires in
+    let m = next_most s.args.kind s.args.s.now s.args.done.count s.args.text.now s.requires in
     record { fits = omega arith }
 
 returns-2 : tie.Need-returns-2

@@ -1,5 +1,5 @@
 use Rattle.std.proofs.Common.{◌≡◌, to_z-of_z, rules}
-use Rattle.quote.specs.Quotes.{exactQuotes, wrapped, optimalQuotes}
+use Rattle.quote.specs.Quotes.{exact_quotes, wrapped, optimal_quotes}
 use Rattle.quote.proofs.GLFTStrategy.calculate_optimal_quotes.Statement.{statement}
 use Rattle.quote.proofs.GLFTStrategy.calculate_optimal_quotes.Tie as tie
 
@@ -7,8 +7,8 @@ exact-quotes-requires : tie.Need-exact-quotes-requires
 exact-quotes-requires c κs = search rules
 
 -- the answer that the code matches on is the definition's
-exact-is : (c : tie.After-exact-quotes) → let a = c.before.args in exactQuotes a.mid-price a.inventory a.config a.volatility a.current-time ≡ c.exact-quotes.result
-exact-is c =
+exact_is : (c : tie.After-exact-quotes) → let a = c.before.args in exact_quotes a.mid-price a.inventory a.config a.volatility a.current-time ≡ c.exact-quotes.result
+exact_is c =
     let r = c.before.ranges in
     rw (c.exact-quotes.ensures, to_z-of_z r.mid-price, to_z-of_z r.inventory, to_z-of_z r.volatility)
 
@@ -22,16 +22,16 @@ enum-known-number : tie.Need-enum-known-number
 enum-known-number c = search rules
 
 returns : tie.Need-returns
-unfolding optimalQuotes wrapped
-returns c = rw (exact-is c.before.before.before, c.before.q.given.1)
+unfolding optimal_quotes wrapped
+returns c = rw (exact_is c.before.before.before, c.before.q.given.1)
 
 returns-2 : tie.Need-returns-2
-unfolding optimalQuotes wrapped
-returns-2 c = rw (exact-is c.before.before, c.enum_told.given.1)
+unfolding optimal_quotes wrapped
+returns-2 c = rw (exact_is c.before.before, c.enum_told.given.1)
 
 returns-3 : tie.Need-returns-3
-unfolding optimalQuotes wrapped
-returns-3 c = rw (exact-is c.before.before.before, c.before.number.given.1)
+unfolding optimal_quotes wrapped
+returns-3 c = rw (exact_is c.before.before.before, c.before.number.given.1)
 
 pub calculate-optimal-quotes-spec : {M : Type 1} → statement M
 calculate-optimal-quotes-spec =

@@ -1,13 +1,13 @@
 use Rattle.std.proofs.Common.{◌≡◌, ◌∙◌, to_z-of_z, rules}
-use Rattle.model.specs.Model.{exactModel}
-use Rattle.quote.specs.Quotes.{exactFrom, exactAnswer, exactBy, exactQuotes}
+use Rattle.model.specs.Model.{exact_model}
+use Rattle.quote.specs.Quotes.{exact_from, exact_answer, exact_by, exact_quotes}
 use Rattle.amounts.proofs.Limits.{kept}
-use Rattle.model.proofs.Passed.{exact-amounts}
+use Rattle.model.proofs.Passed.{exact_amounts}
 use Rattle.quote.proofs.GLFTStrategy.exact_quotes.Statement.{statement}
 use Rattle.quote.proofs.GLFTStrategy.exact_quotes.Tie as tie
 
 -- the answer that the code matches on is the definition's
-model_is : (c : tie.After-exact) → let a = c.before.before.args in exactModel a.mid-price a.inventory a.config a.volatility a.current-time ≡ c.exact.result
+model_is : (c : tie.After-exact) → let a = c.before.before.args in exact_model a.mid-price a.inventory a.config a.volatility a.current-time ≡ c.exact.result
 model_is c =
     let r = c.before.before.ranges in
     rw (c.exact.ensures, to_z-of_z r.mid-price, to_z-of_z r.inventory, to_z-of_z r.volatility)
@@ -28,13 +28,13 @@ exact-of-requires c κs =
     let s = n.before.before in
     let a = s.args in
     rw (to_z-of_z s.ranges.mid-price, kept a.config.min_spread n.before.struct_told.given.1.1.1.1.1.1.0.1)
-    (exact-amounts a.mid-price a.inventory a.config a.volatility a.current-time _ _ (model_is n ∙ m.m.given.1))
+    (exact_amounts a.mid-price a.inventory a.config a.volatility a.current-time _ _ (model_is n ∙ m.m.given.1))
 
 enum-known-number : tie.Need-enum-known-number
 enum-known-number c = search rules
 
 returns : tie.Need-returns
-unfolding exactQuotes exactAnswer exactFrom
+unfolding exact_quotes exact_answer exact_from
 returns c =
     let t = c.before in
     let m = t.before.before in
@@ -43,7 +43,7 @@ returns c =
     rw (c.exact-of.ensures, model_is n, m.m.given.1, t.seconds-to-terminal.ensures, to_z-of_z s.ranges.mid-price, kept s.args.config.min_spread n.before.struct_told.given.1.1.1.1.1.1.0.1, kept m.m.given.0.1.0 t.before.known-told.given.1.0.1)
 
 returns-2 : tie.Need-returns-2
-unfolding exactQuotes exactAnswer exactFrom exactBy
+unfolding exact_quotes exact_answer exact_from exact_by
 returns-2 c =
     let m = c.before in
     let n = m.before.before in

@@ -3,8 +3,8 @@ use lib.IntN.{+ℤ_idl}
 use mir.Facts.{to_z_pos}
 use Rattle.elementary.specs.Float.{positive}
 use Rattle.distances.specs.Distances.{sides}
-use Rattle.elementary.proofs.Integers.{minus-mag}
-use Rattle.quote.specs.ClosedForm.{slope, bidForm, askForm, formIf, closedFormDistances}
+use Rattle.elementary.proofs.Integers.{minus_mag}
+use Rattle.quote.specs.ClosedForm.{slope, bid_form, ask_form, form_if, closed_form_distances}
 use Rattle.quote.proofs.closed_form.distances.Statement.{statement}
 use Rattle.quote.proofs.closed_form.distances.Tie as tie
 
@@ -25,7 +25,7 @@ bound-is : (c : tie.After-struct-known) → let b = c.before.before.before.befor
 bound-is c = to_z_pos w64 (omega (arith, c.struct_known.given.1.1.1.1.1.1.1.1.0))
 
 minus-fits : (c : tie.After-struct-known) → SFits w64 (pos 0 -ℤ pos c.before.before.before.before.args.m.q_max)
-minus-fits c = omega (arith, minus-mag c.before.before.before.before.args.m.q_max, c.struct_known.given.1.1.1.1.1.1.1.1.0)
+minus-fits c = omega (arith, minus_mag c.before.before.before.before.args.m.q_max, c.struct_known.given.1.1.1.1.1.1.1.1.0)
 
 bid-of-requires : tie.Need-bid-of-requires
 bid-of-requires c κs = search rules
@@ -46,43 +46,43 @@ is-fine-requires-2 c κs = search rules
 slope-is : (c : tie.After-slope-of) → c.slope-of.result ≡ slope c.before.args.m
 slope-is c = c.slope-of.ensures
 
-positive-is : (c : tie.After-is-positive-finite) → positive (slope c.before.before.args.m) ≡ c.is-positive-finite.result
-positive-is c = rw (c.is-positive-finite.ensures, slope-is c.before)
+positive_is : (c : tie.After-is-positive-finite) → positive (slope c.before.before.args.m) ≡ c.is-positive-finite.result
+positive_is c = rw (c.is-positive-finite.ensures, slope-is c.before)
 
-bid-is : (c : tie.After-bid-of) → let a = c.before.before.before.before.before.before.args in bidForm a.m a.q ≡ c.bid-of.result
-unfolding bidForm
-bid-is c =
+bid_is : (c : tie.After-bid-of) → let a = c.before.before.before.before.before.before.args in bid_form a.m a.q ≡ c.bid-of.result
+unfolding bid_form
+bid_is c =
     let k = c.before.before in
     let p = k.before.before.before in
     rw (c.bid-of.ensures, c.before.nearest-i64-to-f64.ensures, slope-is p, bound-is k, to_z-of_z p.before.ranges.q)
 
-ask-is : (c : tie.After-ask-of) → let a = c.before.before.before.before.before.before.before.args in askForm a.m a.q ≡ c.ask-of.result
-unfolding askForm
-ask-is c =
+ask_is : (c : tie.After-ask-of) → let a = c.before.before.before.before.before.before.before.args in ask_form a.m a.q ≡ c.ask-of.result
+unfolding ask_form
+ask_is c =
     let f = c.before.before in
     let k = f.before in
     let p = k.before.before.before in
     rw (c.ask-of.ensures, f.nearest-i64-to-f64.ensures, slope-is p, bound-is k, to_z-of_z p.before.ranges.q, to_z-of_z (minus-fits k), +ℤ_idl (neg_ℤ (pos p.before.args.m.q_max)))
 
 returns : tie.Need-returns
-unfolding closedFormDistances formIf sides
+unfolding closed_form_distances form_if sides
 returns c =
     let f = c.before.before in
     let a = f.before in
     let k = a.before.before.before in
-    rw (positive-is k.before.before, k.before.if1.true, bid-is a.before, ask-is a, ← f.is-fine.ensures, ← c.before.is-fine2.ensures, c.if2.true)
+    rw (positive_is k.before.before, k.before.if1.true, bid_is a.before, ask_is a, ← f.is-fine.ensures, ← c.before.is-fine2.ensures, c.if2.true)
 
 returns-2 : tie.Need-returns-2
-unfolding closedFormDistances formIf sides
+unfolding closed_form_distances form_if sides
 returns-2 c =
     let f = c.before.before in
     let a = f.before in
     let k = a.before.before.before in
-    rw (positive-is k.before.before, k.before.if1.true, bid-is a.before, ask-is a, ← f.is-fine.ensures, ← c.before.is-fine2.ensures, c.if2.false)
+    rw (positive_is k.before.before, k.before.if1.true, bid_is a.before, ask_is a, ← f.is-fine.ensures, ← c.before.is-fine2.ensures, c.if2.false)
 
 returns-3 : tie.Need-returns-3
-unfolding closedFormDistances formIf
-returns-3 c = rw (positive-is c.before, c.if1.false)
+unfolding closed_form_distances form_if
+returns-3 c = rw (positive_is c.before, c.if1.false)
 
 pub distances-spec : {M : Type 1} → statement M
 distances-spec =

@@ -1,13 +1,13 @@
 -- The checks of `exact_quotes`, and the count of the model's floats. Assumes nothing.
 use Rattle.std.proofs.Common.{◌≡◌, to_z-of_z, rules}
-use Rattle.model.specs.Model.{exactModel}
-use Rattle.quote.specs.Horizon.{planFrom, deskPlan}
+use Rattle.model.specs.Model.{exact_model}
+use Rattle.quote.specs.Horizon.{plan_from, desk_plan}
 use Rattle.amounts.proofs.Limits.{kept}
 use Rattle.quote.proofs.horizon.first_plan.Statement.{statement}
 use Rattle.quote.proofs.horizon.first_plan.Tie as tie
 
 -- the answer that the code matches on is the definition's
-model_is : (c : tie.After-exact) → let a = c.before.args in exactModel a.mid-price a.inventory a.config a.volatility a.current-time ≡ c.exact.result
+model_is : (c : tie.After-exact) → let a = c.before.args in exact_model a.mid-price a.inventory a.config a.volatility a.current-time ≡ c.exact.result
 model_is c =
     let r = c.before.ranges in
     rw (c.exact.ensures, to_z-of_z r.mid-price, to_z-of_z r.inventory, to_z-of_z r.volatility)
@@ -31,7 +31,7 @@ enum-known-number : tie.Need-enum-known-number
 enum-known-number c = search rules
 
 returns : tie.Need-returns
-unfolding deskPlan planFrom
+unfolding desk_plan plan_from
 returns c =
     let i = c.before in
     let t = i.before in
@@ -40,7 +40,7 @@ returns c =
     rw (c.step_count.ensures, i.run-input.ensures, model_is n, m.m.given.1, t.seconds-to-terminal.ensures, kept m.m.given.0.1.0 t.before.known-told.given.1.0.1)
 
 returns-2 : tie.Need-returns-2
-unfolding deskPlan planFrom
+unfolding desk_plan plan_from
 returns-2 c =
     let m = c.before in
     let n = m.before.before in

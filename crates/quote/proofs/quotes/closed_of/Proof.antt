@@ -1,11 +1,11 @@
 use Rattle.std.proofs.Common.{◌≡◌, to_z-of_z, rules}
-use Rattle.quote.specs.Quotes.{ofQuotes, closedBy}
+use Rattle.quote.specs.Quotes.{of_quotes, closed_by}
 use Rattle.quote.proofs.quotes.closed_of.Statement.{statement}
 use Rattle.quote.proofs.quotes.closed_of.Tie as tie
 
 closed_is : (c : tie.After-build-quotes) → let s = c.before.before.before.before in
-    closedBy s.args.mid s.args.least s.args.sides ≡ ofQuotes c.build-quotes.result
-unfolding closedBy
+    closed_by s.args.mid s.args.least s.args.sides ≡ of_quotes c.build-quotes.result
+unfolding closed_by
 closed_is c =
     let a = c.before.before in
     let s = a.before.before in
@@ -27,15 +27,15 @@ enum-known-sides-2 : tie.Need-enum-known-sides-2
 enum-known-sides-2 c = search rules
 
 returns : tie.Need-returns
-unfolding ofQuotes
+unfolding of_quotes
 returns c = rw (closed_is c.before.before.before, c.before.q.given.1)
 
 returns-2 : tie.Need-returns-2
-unfolding ofQuotes
+unfolding of_quotes
 returns-2 c = rw (closed_is c.before.before.before, c.before.number.given.1)
 
 returns-3 : tie.Need-returns-3
-unfolding closedBy
+unfolding closed_by
 returns-3 c = rw c.before.sides2.given.1
 
 pub closed-of-spec : {M : Type 1} → statement M

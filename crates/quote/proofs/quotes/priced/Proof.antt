@@ -1,7 +1,7 @@
 use Rattle.std.proofs.Common.{◌≡◌, ℕ, sym, ap, ◌∙◌, arith, to_z-of_z, rules}
 use lib.Ieee.Bits.{is_true}
-use Rattle.amounts.specs.Amounts.{amountOk}
-use Rattle.prices.specs.Prices.{each, widened, widenIf, widen, judge}
+use Rattle.amounts.specs.Amounts.{amount_ok}
+use Rattle.prices.specs.Prices.{each, widened, widen_if, widen, judge}
 use Rattle.prices.specs.declared.GlftQuotes.{GlftQuotes}
 use Rattle.prices.specs.declared.QuotesAnswer.TheVariants.{Quotes, Refused}
 use Rattle.quote.proofs.quotes.priced.Statement.{statement}
@@ -9,10 +9,10 @@ use Rattle.quote.proofs.quotes.priced.Tie as tie
 
 -- the widening is not refused
 widened_is : (c : tie.After-widen) → let s = c.before.args in c.widen.result ≡ Quotes (widened s.mid s.least s.bid s.ask)
-unfolding widen widenIf
+unfolding widen widen_if
 widened_is c =
     let s = c.before in
-    rw (c.widen.ensures, to_z-of_z s.ranges.mid, to_z-of_z s.ranges.least, is_true (amountOk s.args.mid) s.requires.0, is_true (amountOk s.args.least) s.requires.1, is_true (each amountOk s.args.bid) s.requires.2, is_true (each amountOk s.args.ask) s.requires.3)
+    rw (c.widen.ensures, to_z-of_z s.ranges.mid, to_z-of_z s.ranges.least, is_true (amount_ok s.args.mid) s.requires.0, is_true (amount_ok s.args.least) s.requires.1, is_true (each amount_ok s.args.bid) s.requires.2, is_true (each amount_ok s.args.ask) s.requires.3)
 
 same : (p q : GlftQuotes) → Quotes p ≡ Quotes q → p ≡ q
 same p q e = cc

@@ -1,5 +1,5 @@
 use Rattle.std.proofs.Common.{rules}
-use Rattle.quote.specs.Quotes.{withSteps}
+use Rattle.quote.specs.Quotes.{with_steps}
 use Rattle.quote.proofs.quotes.with_steps.Statement.{statement}
 use Rattle.quote.proofs.quotes.with_steps.Tie as tie
 
@@ -10,11 +10,11 @@ enum-known-b-2 : tie.Need-enum-known-b-2
 enum-known-b-2 c = search rules
 
 returns : tie.Need-returns
-unfolding withSteps
+unfolding with_steps
 returns c = rw c.before.b.given.1
 
 returns-2 : tie.Need-returns-2
-unfolding withSteps
+unfolding with_steps
 returns-2 c = rw c.before.b2.given.1
 
 pub with-steps-spec : {M : Type 1} → statement M

@@ -1,11 +1,11 @@
 -- `record::record::config_of` meets its contract: the machine holds each amount as it is. Assumes nothing.
 use Rattle.amounts.proofs.Limits.{kept}
-use Rattle.record.specs.Record.{configOf}
+use Rattle.record.specs.Record.{config_of}
 use Rattle.record.proofs.record.config_of.Statement.{statement}
 use Rattle.record.proofs.record.config_of.Tie as tie
 
 returns : tie.Need-returns
-unfolding configOf
+unfolding config_of
 returns c =
     let g = c.struct_told.given in
     let r = c.before.args.r in

@@ -9,7 +9,7 @@ use mir.Val.{SFits}
 use mir.Facts.{to_z-of_z, to_z_pos}
 use borrow.Author.Rules.{rules}
 use borrow.Author.Tests.{eq-eqb, ne_eqb}
-use Rattle.record.specs.Record.{holdingBy, holding}
+use Rattle.record.specs.Record.{holding_by, holding}
 use Rattle.record.proofs.record.holding_of.Statement.{statement}
 use Rattle.record.proofs.record.holding_of.Tie as tie
 
@@ -24,14 +24,14 @@ cast-half : tie.Need-overflow-cast-half
 cast-half c = search rules
 
 returns : tie.Need-returns
-unfolding holding holdingBy
+unfolding holding holding_by
 returns c = rw (to_z_pos w64 (small c.before), eq-eqb _ 0 c.if1.true)
 
 sub-result : tie.Need-overflow-sub-result
 sub-result c = rw (to_z_pos w64 (small c.before), minus-one-less (c.before.args.stored / 2)) (record { sfits = small c.before })
 
 returns-2 : tie.Need-returns-2
-unfolding holding holdingBy
+unfolding holding holding_by
 returns-2 c =
     let h : SFits w64 (negsuc (c.before.args.stored / 2)) = record { sfits = small c.before } in
     rw (to_z_pos w64 (small c.before), minus-one-less (c.before.args.stored / 2), to_z-of_z h, ne_eqb _ 0 c.if1.false)

@@ -3,7 +3,7 @@ use Prim.Native.Nat.{◌-◌, ℕ}
 use mathlib.Core.List.{List}
 use borrow.Author.Rules.{rules}
 use Rattle.record.specs.Inner.{NumberIs}
-use Rattle.record.proofs.Reading.{Passed, passed_none, passed-more, answer-refused, answer-taken}
+use Rattle.record.proofs.Reading.{Passed, passed_none, passed_more, answer_refused, answer_taken}
 use Rattle.record.proofs.record.place_after.Statement.{statement}
 use Rattle.record.proofs.record.place_after.Tie as tie
 
@@ -30,7 +30,7 @@ unfolding NumberIs
 returns c =
     let k = c.before.before.before in
     let r = rw c.before.number.given.1 at k.read_number.ensures in
-    answer-refused _ _ _ _ _ _ k.before.before.loop.invariant.1 _ k.before.loop-test.true r.0
+    answer_refused _ _ _ _ _ _ k.before.before.loop.invariant.1 _ k.before.loop-test.true r.0
 
 add-i : tie.Need-overflow-add-i invariant-loop decreases-loop
 add-i c = search rules
@@ -43,10 +43,10 @@ unfolding NumberIs
 loop-again c =
     let k = c.before.before.before in
     let r = rw c.before.place.given.1 at k.read_number.ensures in
-    (_, passed-more _ _ _ _ _ _ _ _ k.before.before.loop.invariant.1 k.before.loop-test.true r.0 r.1)
+    (_, passed_more _ _ _ _ _ _ _ _ k.before.before.loop.invariant.1 k.before.loop-test.true r.0 r.1)
 
 returns-2 : tie.Need-returns-2 invariant-loop decreases-loop
-returns-2 c = answer-taken _ _ _ _ _ _ c.before.loop.invariant.1 c.loop-test.false
+returns-2 c = answer_taken _ _ _ _ _ _ c.before.loop.invariant.1 c.loop-test.false
 
 pub place-after-spec : {M : Type 1} → statement M
 place-after-spec =

@@ -6,8 +6,8 @@ use mathlib.Core.List.{List}
 use lib.ListN.{length, drop}
 use lib.Dec.{T}
 use borrow.Author.Rules.{rules}
-use Rattle.record.specs.Record.{taken, numbers, fields, recordBy, recordFrom, heldAs, asHeld, readAs}
-use Rattle.record.proofs.Reading.{taken-parts, refused-parts}
+use Rattle.record.specs.Record.{taken, numbers, fields, record_by, record_from, held_as, as_held, read_as}
+use Rattle.record.proofs.Reading.{taken_parts, refused_parts}
 use Rattle.record.proofs.record.read_as.Statement.{statement}
 use Rattle.record.proofs.record.read_as.Tie as tie
 
@@ -18,10 +18,10 @@ parts c =
     let w = c.before.before.before in
     let d = w.before.before.IsPlace-in.ensures.1 in
     let e = rw d at w.take-numbers.ensures in
-    taken-parts _ _ _ _ (sym c.next.given.1 ∙ e.0) e.1
+    taken_parts _ _ _ _ (sym c.next.given.1 ∙ e.0) e.1
 
-read_taken : (flat : Bool) (s : List ℕ) (at : ℕ) (v r : List ℕ) (next : ℕ) → numbers fields (drop at s) ≡ taken v r → next ≡ length s - length r → readAs flat s at ≡ recordBy (asHeld flat v) next
-unfolding readAs recordFrom heldAs
+read_taken : (flat : Bool) (s : List ℕ) (at : ℕ) (v r : List ℕ) (next : ℕ) → numbers fields (drop at s) ≡ taken v r → next ≡ length s - length r → read_as flat s at ≡ record_by (as_held flat v) next
+unfolding read_as record_from held_as
 read_taken flat s at v r next e k = rw (e, k)
 
 place-in-requires : tie.Need-place-in-requires
@@ -52,11 +52,11 @@ enum-known-number : tie.Need-enum-known-number
 enum-known-number c = search rules
 
 returns-2 : tie.Need-returns-2
-unfolding readAs recordFrom heldAs
+unfolding read_as record_from held_as
 returns-2 c =
     let w = c.before.before.before.before in
     let d = w.before.before.IsPlace-in.ensures.1 in
-    rw (refused-parts _ _ _ (sym c.before.number.given.1 ∙ rw d at w.take-numbers.ensures.0))
+    rw (refused_parts _ _ _ (sym c.before.number.given.1 ∙ rw d at w.take-numbers.ensures.0))
 
 pub read-as-spec : {M : Type 1} → statement M
 read-as-spec =

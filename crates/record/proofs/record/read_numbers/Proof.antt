@@ -3,21 +3,21 @@ use mathlib.Core.Path.{◌≡◌, sym, ◌∙◌}
 use Prim.Native.Nat.{ℕ}
 use mathlib.Core.List.{List}
 use borrow.Author.Rules.{rules}
-use Rattle.record.specs.Record.{Read, numbersAnswer, numbersLeft}
+use Rattle.record.specs.Record.{Read, numbers_answer, numbers_left}
 use Rattle.record.specs.Inner.{Stored}
 use Rattle.record.specs.declared.record.NumbersAnswer.TheVariants as NumbersAnswer
-use Rattle.record.proofs.Reading.{taken-parts, refused-parts}
+use Rattle.record.proofs.Reading.{taken_parts, refused_parts}
 use Rattle.record.proofs.record.read_numbers.Statement.{statement}
 use Rattle.record.proofs.record.read_numbers.Tie as tie
 
 -- what is left where the numbers go
-left-taken : (n : ℕ) (x : Read (List ℕ)) (m : ℕ) (out₀ out : List ℕ) → NumbersAnswer.Taken m ≡ numbersAnswer n x → Stored x out → out ≡ numbersLeft x out₀
-unfolding numbersLeft
-left-taken n x m out₀ out e h = rw (taken-parts n x m out e h).1
+left-taken : (n : ℕ) (x : Read (List ℕ)) (m : ℕ) (out₀ out : List ℕ) → NumbersAnswer.Taken m ≡ numbers_answer n x → Stored x out → out ≡ numbers_left x out₀
+unfolding numbers_left
+left-taken n x m out₀ out e h = rw (taken_parts n x m out e h).1
 
-left-refused : (n : ℕ) (x : Read (List ℕ)) (k : ℕ) (out₀ : List ℕ) → NumbersAnswer.Refused k ≡ numbersAnswer n x → out₀ ≡ numbersLeft x out₀
-unfolding numbersLeft
-left-refused n x k out₀ e = rw (refused-parts n x k e)
+left_refused : (n : ℕ) (x : Read (List ℕ)) (k : ℕ) (out₀ : List ℕ) → NumbersAnswer.Refused k ≡ numbers_answer n x → out₀ ≡ numbers_left x out₀
+unfolding numbers_left
+left_refused n x k out₀ e = rw (refused_parts n x k e)
 
 place-in-requires : tie.Need-place-in-requires
 place-in-requires c κs = search rules
@@ -51,7 +51,7 @@ returns-2 c =
     let p = c.before.before.before in
     let d = p.before.IsPlace-in.ensures.1 in
     let e = sym c.before.number.given.1 ∙ rw d at p.place_after.ensures in
-    (e, left-refused _ _ _ _ e)
+    (e, left_refused _ _ _ _ e)
 
 pub read-numbers-spec : {M : Type 1} → statement M
 read-numbers-spec =

@@ -6,17 +6,17 @@ use lib.IntN.{pos}
 use mir.Syntax.{w64}
 use mir.Val.{SFits, to_z}
 use mir.Facts.{to_z-of_z, to_z_pos}
-use Rattle.amounts.specs.Amounts.{amountLimit}
-use Rattle.record.specs.Record.{recordOf}
+use Rattle.amounts.specs.Amounts.{amount_limit}
+use Rattle.record.specs.Record.{record_of}
 use Rattle.record.proofs.Limits.{Bounds, bounds}
 use borrow.Author.Rules.{rules}
 use Rattle.record.proofs.record.record_of.Statement.{statement}
 use Rattle.record.proofs.record.record_of.Tie as tie
 
-amount-fits : (n : ℕ) → n ≤ amountLimit → SFits w64 (pos n)
+amount-fits : (n : ℕ) → n ≤ amount_limit → SFits w64 (pos n)
 amount-fits n h = record { sfits = omega arith }
 
-read_back : (n : ℕ) → n ≤ amountLimit → to_z w64 n ≡ pos n
+read_back : (n : ℕ) → n ≤ amount_limit → to_z w64 n ≡ pos n
 read_back n h = to_z_pos w64 (omega arith)
 
 kept : (c : tie.Start) → Bounds c.args.t1
@@ -83,7 +83,7 @@ cast-t44 : tie.Need-overflow-cast-t44
 cast-t44 c = amount-fits _ (kept c.before).spread
 
 returns : tie.Need-returns
-unfolding recordOf
+unfolding record_of
 returns c =
     let b = kept c.before in
     let h : SFits w64 c.holding-of.result = record { sfits = c.holding-of.type-inv } in

@@ -6,7 +6,7 @@ use lib.ListN.{length, take, length-set}
 use lib.Seq.{take_all, take-suc-set}
 use borrow.Author.Rules.{rules}
 use Rattle.record.specs.Inner.{NumberIs, Stored}
-use Rattle.record.proofs.Reading.{Passed, passed_none, passed-more, passed-refused, passed-all, answer-refused, answer-taken}
+use Rattle.record.proofs.Reading.{Passed, passed_none, passed_more, passed_refused, passed_all, answer_refused, answer_taken}
 use Rattle.record.proofs.record.take_numbers.Statement.{statement}
 use Rattle.record.proofs.record.take_numbers.Tie as tie
 
@@ -44,7 +44,7 @@ returns c =
     let l = k.before.before.loop in
     let r = rw c.before.number.given.1 at k.read_number.ensures in
     let h = rw l.invariant.1 at k.before.loop-test.true in
-    (answer-refused _ _ _ _ _ _ l.invariant.0 _ h r.0, rw (passed-refused _ _ _ _ _ _ l.invariant.0 _ h r.0) tt)
+    (answer_refused _ _ _ _ _ _ l.invariant.0 _ h r.0, rw (passed_refused _ _ _ _ _ _ l.invariant.0 _ h r.0) tt)
 
 add-i : tie.Need-overflow-add-i invariant-loop decreases-loop
 add-i c = search rules
@@ -59,7 +59,7 @@ loop-again c =
     let l = k.before.before.loop in
     let r = rw c.before.v.given.1 at k.read_number.ensures in
     let h = k.before.loop-test.true in
-    (rw (add-one l.i, take-suc-set l.out l.i _ h) (rw (add-one l.i) at (passed-more _ _ _ _ _ _ _ _ l.invariant.0 (rw l.invariant.1 at h) r.0 r.1)), length-set l.out l.i _ ∙ l.invariant.1)
+    (rw (add-one l.i, take-suc-set l.out l.i _ h) (rw (add-one l.i) at (passed_more _ _ _ _ _ _ _ _ l.invariant.0 (rw l.invariant.1 at h) r.0 r.1)), length-set l.out l.i _ ∙ l.invariant.1)
 
 same-length-2 : tie.Need-same-length-2 invariant-loop decreases-loop
 same-length-2 c = c.before.loop.invariant.1
@@ -69,7 +69,7 @@ unfolding Stored
 returns-2 c =
     let l = c.before.loop in
     let h = rw l.invariant.1 at c.loop-test.false in
-    (answer-taken _ _ _ _ _ _ l.invariant.0 h, rw (passed-all _ _ _ _ _ _ l.invariant.0 h) (sym (take_all l.i l.out c.loop-test.false)))
+    (answer_taken _ _ _ _ _ _ l.invariant.0 h, rw (passed_all _ _ _ _ _ _ l.invariant.0 h) (sym (take_all l.i l.out c.loop-test.false)))
 
 pub take-numbers-spec : {M : Type 1} → statement M
 take-numbers-spec =

@@ -1,11 +1,11 @@
 -- `record::record::within_limits` meets its contract: a stored holding is within twice the limit where the holding is within it. Assumes nothing.
 use mathlib.Core.Bool.{and-true}
 use lib.ListN.{get_or}
-use Rattle.amounts.specs.Amounts.{amountLimit, amountOk, timeOk}
-use Rattle.model.specs.Configuration.{configLimits}
-use Rattle.model.specs.Model.{modelLimits}
-use Rattle.record.specs.Record.{recordOf, configOf, recordOk}
-use Rattle.record.proofs.Limits.{holding-limit}
+use Rattle.amounts.specs.Amounts.{amount_limit, amount_ok, time_ok}
+use Rattle.model.specs.Configuration.{config_limits}
+use Rattle.model.specs.Model.{model_limits}
+use Rattle.record.specs.Record.{record_of, config_of, record_ok}
+use Rattle.record.proofs.Limits.{holding_limit}
 use borrow.Author.Rules.{rules}
 use Rattle.record.proofs.record.within_limits.Statement.{statement}
 use Rattle.record.proofs.record.within_limits.Tie as tie
@@ -47,8 +47,8 @@ array-read-result-5 : tie.Need-array-read-result-5
 array-read-result-5 c = search rules
 
 returns : tie.Need-returns
-unfolding recordOk recordOf configOf modelLimits amountOk timeOk configLimits
-returns c = rw (holding-limit (get_or c.args.t1 1 0) amountLimit, and-true)
+unfolding record_ok record_of config_of model_limits amount_ok time_ok config_limits
+returns c = rw (holding_limit (get_or c.args.t1 1 0) amount_limit, and-true)
 
 pub within-limits-spec : {M : Type 1} → statement M
 within-limits-spec =

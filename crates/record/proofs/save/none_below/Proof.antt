@@ -1,11 +1,11 @@
--- `record::save::none_below` meets its contract: the machine holds each amount as it is. Assumes nothing.
+-- `record::save::none_below_lem` meets its contract: the machine holds each amount as it is. Assumes nothing.
 use Rattle.amounts.proofs.Limits.{kept}
-use Rattle.record.specs.Save.{noneBelow}
-use Rattle.record.proofs.save.none_below.Statement.{statement}
-use Rattle.record.proofs.save.none_below.Tie as tie
+use Rattle.record.specs.Save.{none_below}
+use Rattle.record.proofs.save.none_below_lem.Statement.{statement}
+use Rattle.record.proofs.save.none_below_lem.Tie as tie
 
 returns : tie.Need-returns
-unfolding noneBelow
+unfolding none_below
 returns c =
     let g = c.struct-told7.given in
     let r = c.before.before.before.before.before.before.before.before.before.before.before.before.before.before.args.r in

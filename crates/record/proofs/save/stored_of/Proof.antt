@@ -9,39 +9,39 @@ use lib.Signed.{lt_z}
 use lib.Dec.{T, leb→le}
 use mir.Syntax.{w64}
 use mir.Val.{to_z, of_z}
-use Rattle.amounts.specs.Amounts.{amountLimit, amountOk}
+use Rattle.amounts.specs.Amounts.{amount_limit, amount_ok}
 use Rattle.record.specs.Record.{stored}
 use Rattle.record.proofs.Limits.{same_bits}
 use Rattle.record.proofs.save.stored_of.Statement.{statement}
 use Rattle.record.proofs.save.stored_of.Tie as tie
 
-within : (z : ℤ) → T (amountOk z) → nat_abs z ≤ amountLimit
-unfolding amountOk
-within z h = leb→le (nat_abs z) amountLimit h
+within : (z : ℤ) → T (amount_ok z) → nat_abs z ≤ amount_limit
+unfolding amount_ok
+within z h = leb→le (nat_abs z) amount_limit h
 
 -- a negative holding, as it is stored, and minus one less it, as the machine holds that
-module _ (z : ℤ) (h : T (amountOk z)) where
-  negative : lt_z (to_z w64 (of_z w64 z)) (pos 0) ≡ true → (n : ℕ) × (stored z ≡ 2 * n + 1) × (suc n ≤ amountLimit) × (negsuc 0 -ℤ to_z w64 (of_z w64 z) ≡ pos n)
+module _ (z : ℤ) (h : T (amount_ok z)) where
+  negative : lt_z (to_z w64 (of_z w64 z)) (pos 0) ≡ true → (n : ℕ) × (stored z ≡ 2 * n + 1) × (suc n ≤ amount_limit) × (negsuc 0 -ℤ to_z w64 (of_z w64 z) ≡ pos n)
   unfolding stored
   negative t = go z (within z h) (rw (same_bits z (within z h)) at t)
     where
-      go : (y : ℤ) → nat_abs y ≤ amountLimit → lt_z y (pos 0) ≡ true → (n : ℕ) × (stored y ≡ 2 * n + 1) × (suc n ≤ amountLimit) × (negsuc 0 -ℤ to_z w64 (of_z w64 y) ≡ pos n)
+      go : (y : ℤ) → nat_abs y ≤ amount_limit → lt_z y (pos 0) ≡ true → (n : ℕ) × (stored y ≡ 2 * n + 1) × (suc n ≤ amount_limit) × (negsuc 0 -ℤ to_z w64 (of_z w64 y) ≡ pos n)
       go (pos n) l e = absurd (subst T (sym e ∙ le-ltb n 0 (omega arith)) tt)
       go (negsuc n) l e = (n, omega arith, l, rw (same_bits (negsuc n) l, le-ltb (suc n) 1 (omega arith)) (ap pos (omega arith)))
 
   -- any other
-  other : lt_z (to_z w64 (of_z w64 z)) (pos 0) ≡ false → (n : ℕ) × (stored z ≡ 2 * n) × (n ≤ amountLimit) × (to_z w64 (of_z w64 z) ≡ pos n)
+  other : lt_z (to_z w64 (of_z w64 z)) (pos 0) ≡ false → (n : ℕ) × (stored z ≡ 2 * n) × (n ≤ amount_limit) × (to_z w64 (of_z w64 z) ≡ pos n)
   unfolding stored
   other t = go z (within z h) (rw (same_bits z (within z h)) at t)
     where
-      go : (y : ℤ) → nat_abs y ≤ amountLimit → lt_z y (pos 0) ≡ false → (n : ℕ) × (stored y ≡ 2 * n) × (n ≤ amountLimit) × (to_z w64 (of_z w64 y) ≡ pos n)
+      go : (y : ℤ) → nat_abs y ≤ amount_limit → lt_z y (pos 0) ≡ false → (n : ℕ) × (stored y ≡ 2 * n) × (n ≤ amount_limit) × (to_z w64 (of_z w64 y) ≡ pos n)
       go (pos n) l e = (n, refl, l, same_bits (pos n) l)
       go (negsuc n) l e = absurd (subst T e tt)
 
-below : (c : tie.Then1) → (n : ℕ) × (stored c.before.args.h ≡ 2 * n + 1) × (suc n ≤ amountLimit) × (negsuc 0 -ℤ to_z w64 (of_z w64 c.before.args.h) ≡ pos n)
+below : (c : tie.Then1) → (n : ℕ) × (stored c.before.args.h ≡ 2 * n + 1) × (suc n ≤ amount_limit) × (negsuc 0 -ℤ to_z w64 (of_z w64 c.before.args.h) ≡ pos n)
 below c = negative c.before.args.h c.before.requires c.if1.true
 
-above : (c : tie.Else1) → (n : ℕ) × (stored c.before.args.h ≡ 2 * n) × (n ≤ amountLimit) × (to_z w64 (of_z w64 c.before.args.h) ≡ pos n)
+above : (c : tie.Else1) → (n : ℕ) × (stored c.before.args.h ≡ 2 * n) × (n ≤ amount_limit) × (to_z w64 (of_z w64 c.before.args.h) ≡ pos n)
 above c = other c.before.args.h c.before.requires c.if1.false
 
 sub-result : tie.Need-overflow-sub-result

@@ -2,7 +2,7 @@
 use mathlib.Core.Path.{◌∙◌}
 use native.Mathlib.Omega.{arith}
 use lib.ListN.{length-set}
-use Rattle.record.proofs.Groups.{Grouping, grouping-none, grouping-room, grouping-more, grouping-last}
+use Rattle.record.proofs.Groups.{Grouping, grouping_none, grouping_room, grouping_more, grouping_last}
 use Rattle.record.proofs.save.write_number.Statement.{statement}
 use Rattle.record.proofs.save.write_number.Tie as tie
 
@@ -13,7 +13,7 @@ abbrev decreases-loop : tie.decreases-loop
 decreases-loop out₀ n at₀ rest₀ out at rest = rest
 
 loop-holds : tie.Need-loop-init invariant-loop decreases-loop
-loop-holds c = grouping-none _ _
+loop-holds c = grouping_none _ _
 
 cast-out : tie.Need-overflow-cast-out invariant-loop decreases-loop
 cast-out c = omega arith
@@ -22,31 +22,31 @@ add-out : tie.Need-overflow-add-out invariant-loop decreases-loop
 add-out c = omega arith
 
 slice-write-out : tie.Need-slice-write-out invariant-loop decreases-loop
-slice-write-out c = omega (arith, grouping-room _ _ _ _ _ c.before.before.requires c.before.loop.invariant)
+slice-write-out c = omega (arith, grouping_room _ _ _ _ _ c.before.before.requires c.before.loop.invariant)
 
 add_at : tie.Need-overflow-add-at invariant-loop decreases-loop
-add_at c = omega (arith, grouping-room _ _ _ _ _ c.before.before.requires c.before.loop.invariant)
+add_at c = omega (arith, grouping_room _ _ _ _ _ c.before.before.requires c.before.loop.invariant)
 
 loop-less : tie.Need-loop-smaller invariant-loop decreases-loop
 loop-less c = omega arith
 
 loop-again : tie.Need-loop-preserved invariant-loop decreases-loop
-loop-again c = grouping-more _ _ _ _ _ c.before.before.requires c.before.loop.invariant c.loop-test.true
+loop-again c = grouping_more _ _ _ _ _ c.before.before.requires c.before.loop.invariant c.loop-test.true
 
 cast-out-2 : tie.Need-overflow-cast-out-2 invariant-loop decreases-loop
 cast-out-2 c = omega arith
 
 slice-write-out-2 : tie.Need-slice-write-out-2 invariant-loop decreases-loop
-slice-write-out-2 c = omega (arith, grouping-room _ _ _ _ _ c.before.before.requires c.before.loop.invariant)
+slice-write-out-2 c = omega (arith, grouping_room _ _ _ _ _ c.before.before.requires c.before.loop.invariant)
 
 add-result : tie.Need-overflow-add-result invariant-loop decreases-loop
-add-result c = omega (arith, grouping-room _ _ _ _ _ c.before.before.requires c.before.loop.invariant)
+add-result c = omega (arith, grouping_room _ _ _ _ _ c.before.before.requires c.before.loop.invariant)
 
 same_length : tie.Need-same-length invariant-loop decreases-loop
-same_length c = length-set c.before.loop.out c.before.loop.at c.before.loop.rest ∙ (grouping-room _ _ _ _ _ c.before.before.requires c.before.loop.invariant).1
+same_length c = length-set c.before.loop.out c.before.loop.at c.before.loop.rest ∙ (grouping_room _ _ _ _ _ c.before.before.requires c.before.loop.invariant).1
 
 returns : tie.Need-returns invariant-loop decreases-loop
-returns c = grouping-last _ _ _ _ _ c.before.before.requires c.before.loop.invariant c.loop-test.false
+returns c = grouping_last _ _ _ _ _ c.before.before.requires c.before.loop.invariant c.loop-test.false
 
 pub write-number-spec : {M : Type 1} → statement M
 write-number-spec =

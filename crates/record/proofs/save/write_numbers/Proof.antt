@@ -6,7 +6,7 @@ use lib.ListN.{length, get_or}
 use borrow.Author.Rules.{rules}
 use Rattle.record.specs.Save.{in_groups}
 use Rattle.buffers.proofs.Texts.{part_room}
-use Rattle.record.proofs.Saving.{Saving, saving-none, saving-length, saving-room, saving-more, saving-all}
+use Rattle.record.proofs.Saving.{Saving, saving_none, saving_length, saving_room, saving_more, saving_all}
 use Rattle.record.proofs.save.write_numbers.Statement.{statement}
 use Rattle.record.proofs.save.write_numbers.Tie as tie
 
@@ -17,7 +17,7 @@ abbrev decreases-loop : tie.decreases-loop
 decreases-loop out₀ v at₀ i₀ out at i = 11 - i
 
 loop-holds : tie.Need-loop-init invariant-loop decreases-loop
-loop-holds c = saving-none _ _
+loop-holds c = saving_none _ _
 
 mul-n : tie.Need-overflow-mul-n invariant-loop decreases-loop
 mul-n c = search rules
@@ -34,7 +34,7 @@ room : (c : tie.In-loop invariant-loop decreases-loop) → let l = c.before.loop
 room c =
     let s = c.before.before.before in
     let g = c.before.loop.invariant in
-    (saving-room _ _ _ _ _ s.requires.1 g (more c), saving-length _ _ _ _ _ s.requires.1 g)
+    (saving_room _ _ _ _ _ s.requires.1 g (more c), saving_length _ _ _ _ _ s.requires.1 g)
 
 sub-write-number : tie.Need-overflow-sub-write-number invariant-loop decreases-loop
 sub-write-number c = omega (arith, room c)
@@ -63,15 +63,15 @@ loop-again : tie.Need-loop-preserved invariant-loop decreases-loop
 loop-again c =
     let w = c.before.before in
     let l = w.before.before in
-    saving-more _ _ _ _ _ l.before.before.before.requires.1 l.before.loop.invariant (more l) _ _ w.write-number.ensures.0 w.write-number.ensures.1
+    saving_more _ _ _ _ _ l.before.before.before.requires.1 l.before.loop.invariant (more l) _ _ w.write-number.ensures.0 w.write-number.ensures.1
 
 same_length : tie.Need-same-length invariant-loop decreases-loop
-same_length c = saving-length _ _ _ _ _ c.before.before.before.requires.1 c.before.loop.invariant
+same_length c = saving_length _ _ _ _ _ c.before.before.before.requires.1 c.before.loop.invariant
 
 returns : tie.Need-returns invariant-loop decreases-loop
 returns c =
     let s = c.before.before.before in
-    saving-all _ _ _ _ _ s.requires.1 c.before.loop.invariant (rw s.requires.0 c.loop-test.false)
+    saving_all _ _ _ _ _ s.requires.1 c.before.loop.invariant (rw s.requires.0 c.loop-test.false)
 
 pub write-numbers-spec : {M : Type 1} → statement M
 write-numbers-spec =

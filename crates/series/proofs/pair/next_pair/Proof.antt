@@ -1,8 +1,8 @@
 -- A later term by its rows. Assumes nothing.
 use mathlib.Core.Path.{ap, ◌∙◌}
 use borrow.Author.Rules.{rules}
-use Rattle.series.specs.Slices.{sliceTerm, withTerm}
-use Rattle.series.proofs.Pairs.{times-both}
+use Rattle.series.specs.Slices.{slice_term, with_term}
+use Rattle.series.proofs.Pairs.{times_both}
 use Rattle.series.proofs.pair.next_pair.Statement.{statement}
 use Rattle.series.proofs.pair.next_pair.Tie as tie
 
@@ -16,8 +16,8 @@ with-term-requires : tie.Need-with-term-requires
 with-term-requires c κs = search rules
 
 returns : tie.Need-returns
-unfolding sliceTerm
-returns c = c.with-term.ensures ∙ ap (withTerm 2 _) (times-both _ _ _ _ c.before.before.before.applied.ensures)
+unfolding slice_term
+returns c = c.with-term.ensures ∙ ap (with_term 2 _) (times_both _ _ _ _ c.before.before.before.applied.ensures)
 
 pub next-pair-spec : {M : Type 1} → statement M
 next-pair-spec = tie.close (tie.spec int-to-float-inv applied-requires with-term-requires returns)

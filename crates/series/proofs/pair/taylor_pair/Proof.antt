@@ -1,6 +1,6 @@
 -- The step over the slices' entries. Assumes nothing.
 use borrow.Author.Rules.{rules}
-use Rattle.series.proofs.Pairs.{both-set}
+use Rattle.series.proofs.Pairs.{both_set}
 use Rattle.series.proofs.pair.taylor_pair.Statement.{statement}
 use Rattle.series.proofs.pair.taylor_pair.Tie as tie
 
@@ -41,8 +41,8 @@ returns : tie.Need-returns
 returns c =
     let s = c.before.before.before.before.before.before.before.before.before.before.before in
     let r = c.sum-series.result in
-    let v = both-set s.args.v.now r.sum.end r.sum.centre s.requires.0 in
-    let t = both-set s.args.term.now r.term.end r.term.centre s.requires.4 in
+    let v = both_set s.args.v.now r.sum.end r.sum.centre s.requires.0 in
+    let t = both_set s.args.term.now r.term.end r.term.centre s.requires.4 in
     rw (v, t) (rw (c.before.pair-of4.ensures, c.before.before.before.pair-of3.ensures, c.before.before.before.before.pair-of2.ensures, c.before.before.before.before.before.pair_of.ensures) at c.sum-series.ensures)
 
 pub taylor-pair-spec : {M : Type 1} → statement M

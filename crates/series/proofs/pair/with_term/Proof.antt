@@ -4,7 +4,7 @@ use mathlib.Core.Path.{ap, ap₂, ◌∙◌}
 use borrow.Author.Rules.{rules}
 use Rattle.operator.specs.Vectors.{from}
 use Rattle.series.specs.Series.{plus, converged}
-use Rattle.series.specs.Slices.{sum_of, withTerm}
+use Rattle.series.specs.Slices.{sum_of, with_term}
 use Rattle.series.specs.Pairs.{pair_of}
 use Rattle.series.proofs.Pairs.{every_two}
 use Rattle.series.proofs.pair.with_term.Statement.{statement}
@@ -17,7 +17,7 @@ is-small-requires-2 : tie.Need-is-small-requires-2
 is-small-requires-2 c κs = search rules
 
 returns : tie.Need-returns
-unfolding from plus converged withTerm
+unfolding from plus converged with_term
 returns c =
     let a = c.before.before.before.before.before.before.args in
     ap (sum_of (pair_of a.term) (plus 2 (pair_of a.sum) (pair_of a.term))) (ap₂ ◌&&◌ c.before.is-small.ensures c.is-small2.ensures ∙ every_two _)

@@ -1,12 +1,12 @@
 -- Through the factors, or plainly. Assumes nothing.
 use mathlib.Core.Path.{refl}
 use borrow.Author.Rules.{rules}
-use Rattle.series.specs.Slices.{besideOf}
+use Rattle.series.specs.Slices.{beside_of}
 use Rattle.series.proofs.rows.beside.Statement.{statement}
 use Rattle.series.proofs.rows.beside.Tie as tie
 
 returns : tie.Need-returns
-unfolding besideOf
+unfolding beside_of
 returns c = rw c.if1.true refl
 
 mul-result : tie.Need-overflow-mul-result
@@ -22,7 +22,7 @@ shared-slice-read-result-2 : tie.Need-shared-slice-read-result-2
 shared-slice-read-result-2 c = search rules
 
 returns-2 : tie.Need-returns-2
-unfolding besideOf
+unfolding beside_of
 returns-2 c = rw c.before.before.if1.false refl
 
 pub beside-spec : {M : Type 1} → statement M

@@ -5,7 +5,7 @@ use native.Mathlib.Omega.{arith}
 use lib.ListN.{length}
 use Rattle.operator.specs.Vectors.{at, every}
 use Rattle.series.specs.Series.{small, converged}
-use Rattle.operator.proofs.Loops.{every-zero, every-suc, every-at}
+use Rattle.operator.proofs.Loops.{every_zero, every_suc, every_at}
 use Rattle.series.proofs.taylor.all_small.Statement.{statement}
 use Rattle.series.proofs.taylor.all_small.Tie as tie
 
@@ -16,7 +16,7 @@ abbrev decreases-loop : tie.decreases-loop
 decreases-loop t v all₀ i₀ all i = length t - i
 
 loop-holds : tie.Need-loop-init invariant-loop decreases-loop
-loop-holds c = (omega arith, every-zero _)
+loop-holds c = (omega arith, every_zero _)
 
 mul-is-small : tie.Need-overflow-mul-is-small invariant-loop decreases-loop
 mul-is-small c = omega arith
@@ -40,11 +40,11 @@ loop-less : tie.Need-loop-smaller invariant-loop decreases-loop
 loop-less c = omega arith
 
 loop-again : tie.Need-loop-preserved invariant-loop decreases-loop
-loop-again c = (omega arith, rw (c.before.before.before.before.loop.invariant.1, c.is-small.ensures) (every-suc c.before.before.before.before.loop.i _))
+loop-again c = (omega arith, rw (c.before.before.before.before.loop.invariant.1, c.is-small.ensures) (every_suc c.before.before.before.before.loop.i _))
 
 returns : tie.Need-returns invariant-loop decreases-loop
 unfolding converged
-returns c = c.before.loop.invariant.1 ∙ every-at _ _ _ (omega arith)
+returns c = c.before.loop.invariant.1 ∙ every_at _ _ _ (omega arith)
 
 pub all-small-spec : {M : Type 1} → statement M
 all-small-spec =

@@ -10,15 +10,15 @@ use lib.ListN.{length, length-set}
 use lib.Ieee.{Float}
 use Rattle.elementary.specs.Float.{◌⊕◌}
 use Rattle.operator.specs.Vectors.{at, before}
-use Rattle.series.specs.Series.{operatorOver}
-use Rattle.series.specs.Slices.{sliceRow}
-use Rattle.operator.proofs.Loops.{filled, filled_zero, stored, stored_last, at-filled, before-first, before-later}
-use Rattle.series.proofs.Slices.{never-plain, row-through, row_last, converged-at, first_made}
+use Rattle.series.specs.Series.{operator_over}
+use Rattle.series.specs.Slices.{slice_row}
+use Rattle.operator.proofs.Loops.{filled, filled_zero, stored, stored_last, at_filled, before_first, before_later}
+use Rattle.series.proofs.Slices.{never_plain, row_through, row_last, converged_at, first_made}
 use Rattle.series.proofs.taylor.first_term.Statement.{statement}
 use Rattle.series.proofs.taylor.first_term.Tie as tie
 
 abbrev row : Bool → List Float → List Float → Float → List Float → List Float → ℕ → Float
-row half v diag eta left right = sliceRow half false (operatorOver (length v) diag left right) eta v
+row half v diag eta left right = slice_row half false (operator_over (length v) diag left right) eta v
 
 abbrev invariant-loop : tie.invariant-loop
 invariant-loop v₀ diag eta-dt left right half out₀ lower₀ i₀ v out lower i = (i < length v₀) × (length out ≡ length v₀) × (length v ≡ length v₀) × (lower ≡ before v₀ i)
@@ -28,7 +28,7 @@ abbrev decreases-loop : tie.decreases-loop
 decreases-loop v₀ diag eta-dt left right half out₀ lower₀ i₀ v out lower i = length v₀ - i
 
 loop-holds : tie.Need-loop-init invariant-loop decreases-loop
-loop-holds c = (omega arith, omega arith, omega arith, before-first _ 0 refl, filled_zero _ _, filled_zero _ _)
+loop-holds c = (omega arith, omega arith, omega arith, before_first _ 0 refl, filled_zero _ _, filled_zero _ _)
 
 add-loop : tie.Need-overflow-add-loop invariant-loop decreases-loop
 add-loop c = omega arith
@@ -77,15 +77,15 @@ loop-again c =
     let v = a.v.now in
     let k = l.loop.i in
     let i = l.loop.invariant in
-    let here : at l.loop.v k ≡ at v k = ap (λ (m : List Float). at m k) i.5 ∙ at-filled _ v k k (le_refl k) in
-    let above : at l.loop.v (k + 1) ≡ at v (k + 1) = ap (λ (m : List Float). at m (k + 1)) i.5 ∙ at-filled _ v k (k + 1) (omega arith) in
+    let here : at l.loop.v k ≡ at v k = ap (λ (m : List Float). at m k) i.5 ∙ at_filled _ v k k (le_refl k) in
+    let above : at l.loop.v (k + 1) ≡ at v (k + 1) = ap (λ (m : List Float). at m (k + 1)) i.5 ∙ at_filled _ v k (k + 1) (omega arith) in
     let t : c.row_at.result ≡ row a.half v a.diag.now a.eta-dt a.left.now a.right.now k =
-    row-through a.half false _ a.eta-dt v k _ _ _ (omega arith) i.3 refl (never-plain (ltb 0 k)) (rw (here, above) at c.row_at.ensures) in
+    row_through a.half false _ a.eta-dt v k _ _ _ (omega arith) i.3 refl (never_plain (ltb 0 k)) (rw (here, above) at c.row_at.ensures) in
     let up : k ≡ k + 1 - 1 = omega arith in (
       omega arith,
       simp length-set i.1,
       simp length-set i.2,
-      here ∙ ap (at v) up ∙ before-later v (k + 1) (omega arith),
+      here ∙ ap (at v) up ∙ before_later v (k + 1) (omega arith),
       stored _ _ _ k _ (omega arith) i.4 t,
       stored _ _ _ k _ (omega arith) i.5 (rw (here, t)),
     )
@@ -129,11 +129,11 @@ returns c =
     let v = a.v.now in
     let k = l.loop.i in
     let i = l.loop.invariant in
-    let here : at l.loop.v k ≡ at v k = ap (λ (m : List Float). at m k) i.5 ∙ at-filled _ v k k (le_refl k) in
+    let here : at l.loop.v k ≡ at v k = ap (λ (m : List Float). at m k) i.5 ∙ at_filled _ v k k (le_refl k) in
     let t : q.last_row.result ≡ row a.half v a.diag.now a.eta-dt a.left.now a.right.now k =
     row_last a.half false _ a.eta-dt v k _ _ (omega arith) i.3 (rw here at q.last_row.ensures) in
     first_made a.half false _ a.eta-dt v _ _ _ (stored_last _ _ _ k k (length v) _ (omega arith) refl (omega arith) i.4 t) (stored_last _ v _ k k (length v) _ (omega arith) refl refl i.5 (rw (here, t)))
-    (c.has-converged.ensures ∙ converged-at _ _ _ _ (simp length-set i.1))
+    (c.has-converged.ensures ∙ converged_at _ _ _ _ (simp length-set i.1))
 
 pub first-term-spec : {M : Type 1} → statement M
 first-term-spec =

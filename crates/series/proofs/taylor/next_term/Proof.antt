@@ -11,15 +11,15 @@ use lib.ListN.{length, length-set}
 use lib.Ieee.{Float}
 use Rattle.elementary.specs.Float.{◌⊕◌, ◌⊖◌, ◌⊗◌, ◌⊘◌, whole, 1ᶠ}
 use Rattle.operator.specs.Vectors.{at, before}
-use Rattle.series.specs.Series.{operatorOver}
-use Rattle.series.specs.Slices.{sliceRow}
-use Rattle.operator.proofs.Loops.{filled, stored, stored_last, at-filled, later, later-one, later-is, later_first, later-all, before-first, before-later}
-use Rattle.series.proofs.Slices.{row-through, row-inner, row_last, converged-at, term_made}
+use Rattle.series.specs.Series.{operator_over}
+use Rattle.series.specs.Slices.{slice_row}
+use Rattle.operator.proofs.Loops.{filled, stored, stored_last, at_filled, later, later_one, later_is, later_first, later_all, before_first, before_later}
+use Rattle.series.proofs.Slices.{row_through, row_inner, row_last, converged_at, term_made}
 use Rattle.series.proofs.taylor.next_term.Statement.{statement}
 use Rattle.series.proofs.taylor.next_term.Tie as tie
 
 abbrev row : Bool → Bool → List Float → List Float → Float → List Float → List Float → ℕ → Float
-row half plain x diag eta left right = sliceRow half plain (operatorOver (length x) diag left right) eta x
+row half plain x diag eta left right = slice_row half plain (operator_over (length x) diag left right) eta x
 
 -- an entry of the term
 abbrev entry : Bool → Bool → List Float → List Float → Float → List Float → List Float → Float → ℕ → Float
@@ -51,7 +51,7 @@ loop-holds c =
     let p = s.requires in
     let x = s.args.x.now in
     let some : 0 < length x = le_trans (lit≤ tt) p.0 in
-    (le_refl 1, p.0, refl, p.1.term-n, before-later x 1 (le_refl 1), later-one _ x some, later-one _ s.args.v.now (rw p.1.term-n some))
+    (le_refl 1, p.0, refl, p.1.term_n, before_later x 1 (le_refl 1), later_one _ x some, later_one _ s.args.v.now (rw p.1.term_n some))
 
 add-loop : tie.Need-overflow-add-loop invariant-loop decreases-loop
 add-loop c = omega arith
@@ -112,19 +112,19 @@ loop-again c =
     let x = a.x.now in
     let k = l.loop.i in
     let i = l.loop.invariant in
-    let here : at l.loop.x k ≡ at x k = ap (λ (m : List Float). at m k) i.5 ∙ at-filled _ x k k (le_refl k) in
-    let above : at l.loop.x (k + 1) ≡ at x (k + 1) = ap (λ (m : List Float). at m (k + 1)) i.5 ∙ at-filled _ x k (k + 1) (omega arith) in
-    let sum : at l.loop.v k ≡ at a.v.now k = ap (λ (m : List Float). at m k) i.6 ∙ at-filled _ _ k k (le_refl k) in
+    let here : at l.loop.x k ≡ at x k = ap (λ (m : List Float). at m k) i.5 ∙ at_filled _ x k k (le_refl k) in
+    let above : at l.loop.x (k + 1) ≡ at x (k + 1) = ap (λ (m : List Float). at m (k + 1)) i.5 ∙ at_filled _ x k (k + 1) (omega arith) in
+    let sum : at l.loop.v k ≡ at a.v.now k = ap (λ (m : List Float). at m k) i.6 ∙ at_filled _ _ k k (le_refl k) in
     let t : a.eta-dt ⊗ c.before.before.beside.result ⊖ at a.diag.now k ⊗ at l.loop.x k ≡ row a.half a.plain x a.diag.now a.eta-dt a.left.now a.right.now k =
-    row-inner a.half a.plain _ a.eta-dt x k _ _ _ _ i.0 (omega arith) i.4 above c.before.before.beside.ensures (ap (λ (z : Float). a.eta-dt ⊗ c.before.before.beside.result ⊖ at a.diag.now k ⊗ z) here) in
+    row_inner a.half a.plain _ a.eta-dt x k _ _ _ _ i.0 (omega arith) i.4 above c.before.before.beside.ensures (ap (λ (z : Float). a.eta-dt ⊗ c.before.before.beside.result ⊖ at a.diag.now k ⊗ z) here) in
     let up : k ≡ k + 1 - 1 = omega arith in (
       omega arith,
       omega arith,
       simp length-set i.2,
       simp length-set i.3,
-      here ∙ ap (at x) up ∙ before-later x (k + 1) (omega arith),
-      stored _ x _ k _ i.1 i.5 (ap (λ (y : Float). y ⊗ (1ᶠ ⊘ whole (pos a.order))) t ∙ later-is _ x k i.0),
-      stored _ a.v.now _ k _ (omega arith) i.6 (ap₂ (λ (y z : Float). y ⊕ z ⊗ (1ᶠ ⊘ whole (pos a.order))) sum t ∙ later-is _ a.v.now k i.0),
+      here ∙ ap (at x) up ∙ before_later x (k + 1) (omega arith),
+      stored _ x _ k _ i.1 i.5 (ap (λ (y : Float). y ⊗ (1ᶠ ⊘ whole (pos a.order))) t ∙ later_is _ x k i.0),
+      stored _ a.v.now _ k _ (omega arith) i.6 (ap₂ (λ (y z : Float). y ⊕ z ⊗ (1ᶠ ⊘ whole (pos a.order))) sum t ∙ later_is _ a.v.now k i.0),
     )
 
 last-row-requires : tie.Need-last-row-requires invariant-loop decreases-loop
@@ -181,18 +181,18 @@ returns c =
     let inv = 1ᶠ ⊘ whole (pos a.order) in
     let f = entry a.half a.plain x a.diag.now a.eta-dt a.left.now a.right.now inv in
     let some : 0 < n = le_trans (lit≤ tt) p.0 in
-    let here : at l.loop.x k ≡ at x k = ap (λ (m : List Float). at m k) i.5 ∙ at-filled _ x k k (le_refl k) in
-    let sum : at l.loop.v k ≡ at v k = ap (λ (m : List Float). at m k) i.6 ∙ at-filled _ _ k k (le_refl k) in
+    let here : at l.loop.x k ≡ at x k = ap (λ (m : List Float). at m k) i.5 ∙ at_filled _ x k k (le_refl k) in
+    let sum : at l.loop.v k ≡ at v k = ap (λ (m : List Float). at m k) i.6 ∙ at_filled _ _ k k (le_refl k) in
     let first : l.before.before.row_at.result ≡ row a.half a.plain x a.diag.now a.eta-dt a.left.now a.right.now 0 =
-    row-through a.half a.plain _ a.eta-dt x 0 _ _ _ p.0 (before-first x 0 refl) refl refl l.before.before.row_at.ensures in
+    row_through a.half a.plain _ a.eta-dt x 0 _ _ _ p.0 (before_first x 0 refl) refl refl l.before.before.row_at.ensures in
     let last : q.last_row.result ≡ row a.half a.plain x a.diag.now a.eta-dt a.left.now a.right.now k =
     row_last a.half a.plain _ a.eta-dt x k _ _ (omega arith) i.4 (rw here at q.last_row.ensures) in
-    let terms = stored_last (later f x) x _ k k n _ (omega arith) refl refl i.5 (ap (λ (y : Float). y ⊗ inv) last ∙ later-is f x k i.0) in
-    let sums = stored_last (later (λ j. at v j ⊕ f j) v) v _ k k n _ (omega arith) refl p.1.term-n i.6 (ap₂ (λ (y z : Float). y ⊕ z ⊗ inv) sum last ∙ later-is (λ j. at v j ⊕ f j) v k i.0) in
+    let terms = stored_last (later f x) x _ k k n _ (omega arith) refl refl i.5 (ap (λ (y : Float). y ⊗ inv) last ∙ later_is f x k i.0) in
+    let sums = stored_last (later (λ j. at v j ⊕ f j) v) v _ k k n _ (omega arith) refl p.1.term_n i.6 (ap₂ (λ (y z : Float). y ⊕ z ⊗ inv) sum last ∙ later_is (λ j. at v j ⊕ f j) v k i.0) in
     term_made a.half a.plain _ a.eta-dt a.order x v _ _ _
-    (later-all f x _ n _ some terms (ap (λ (y : Float). y ⊗ inv) first))
-    (later-all (λ j. at v j ⊕ f j) v _ n _ some sums (ap₂ (λ (y z : Float). y ⊕ z ⊗ inv) (later_first _ v _ n some sums) first))
-    (c.has-converged.ensures ∙ converged-at _ _ _ _ (simp length-set i.2))
+    (later_all f x _ n _ some terms (ap (λ (y : Float). y ⊗ inv) first))
+    (later_all (λ j. at v j ⊕ f j) v _ n _ some sums (ap₂ (λ (y z : Float). y ⊕ z ⊗ inv) (later_first _ v _ n some sums) first))
+    (c.has-converged.ensures ∙ converged_at _ _ _ _ (simp length-set i.2))
 
 pub next-term-spec : {M : Type 1} → statement M
 next-term-spec =

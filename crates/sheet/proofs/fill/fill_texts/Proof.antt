@@ -5,9 +5,9 @@ use native.Mathlib.Omega.{arith}
 use lib.ListN.{length}
 use borrow.Author.Rules.{rules}
 use borrow.Rule.Slice.PartMut.{put_mid, same_len_mid}
-use Rattle.lines.specs.Lines.{leastRoom}
-use Rattle.sheet.specs.Kinds.{roomOf}
-use Rattle.sheet.proofs.Filling.{Filling, filling-none, filling-length, text-added, filling-end, filling-full, no-fill, short-fill}
+use Rattle.lines.specs.Lines.{least_room}
+use Rattle.sheet.specs.Kinds.{room_of}
+use Rattle.sheet.proofs.Filling.{Filling, filling_none, filling_length, text_added, filling_end, filling_full, no_fill, short_fill}
 use Rattle.sheet.proofs.fill.fill_texts.Statement.{statement}
 use Rattle.sheet.proofs.fill.fill_texts.Tie as tie
 
@@ -18,7 +18,7 @@ abbrev decreases-loop : tie.decreases-loop
 decreases-loop sheet at out₀ kind room n₀ next₀ out n next = length sheet - next
 
 returns : tie.Need-returns invariant-loop decreases-loop
-returns c = let a = c.before.before.before.args in no-fill a.kind a.sheet.now a.at a.out.now c.if1.true
+returns c = let a = c.before.before.before.args in no_fill a.kind a.sheet.now a.at a.out.now c.if1.true
 
 room-of-requires : tie.Need-room-of-requires invariant-loop decreases-loop
 room-of-requires c κs = search rules
@@ -27,23 +27,23 @@ returns-2 : tie.Need-returns-2 invariant-loop decreases-loop
 returns-2 c =
     let e = c.before.before in
     let a = e.before.before.before.args in
-    short-fill a.kind a.sheet.now a.at a.out.now e.if1.false (omega (arith, c.if2.true, c.before.room_of.ensures))
+    short_fill a.kind a.sheet.now a.at a.out.now e.if1.false (omega (arith, c.if2.true, c.before.room_of_lem.ensures))
 
 loop-holds : tie.Need-loop-init invariant-loop decreases-loop
-loop-holds c = filling-none _ _ _ _
+loop-holds c = filling_none _ _ _ _
 
 sub-loop : tie.Need-overflow-sub-loop invariant-loop decreases-loop
-sub-loop c = omega (arith, filling-length _ _ _ _ _ _ _ c.loop.invariant, c.loop.invariant.room)
+sub-loop c = omega (arith, filling_length _ _ _ _ _ _ _ c.loop.invariant, c.loop.invariant.room)
 
 -- in a turn: what is lent, its room, and that of the whole buffer
 within : (l : tie.In-loop invariant-loop decreases-loop) → l.before.loop.n ≤ length l.before.loop.out
-within l = omega (arith, filling-length _ _ _ _ _ _ _ l.before.loop.invariant, l.before.loop.invariant.room)
+within l = omega (arith, filling_length _ _ _ _ _ _ _ l.before.loop.invariant, l.before.loop.invariant.room)
 
-room : (l : tie.In-loop invariant-loop decreases-loop) → roomOf l.before.before.before.before.before.before.before.args.kind ≤ length l.before.loop.out - l.before.loop.n
-room l = omega (arith, l.loop-test, l.before.before.before.room_of.ensures)
+room : (l : tie.In-loop invariant-loop decreases-loop) → room_of l.before.before.before.before.before.before.before.args.kind ≤ length l.before.loop.out - l.before.loop.n
+room l = omega (arith, l.loop-test, l.before.before.before.room_of_lem.ensures)
 
-rooms : (l : tie.At-loop invariant-loop decreases-loop) → let a = l.before.before.before.before.before.before.args in (leastRoom ≤ length a.out.now) × (roomOf a.kind ≤ length a.out.now)
-rooms l = (l.before.before.before.if1.false, omega (arith, l.before.if2.false, l.before.before.room_of.ensures))
+rooms : (l : tie.At-loop invariant-loop decreases-loop) → let a = l.before.before.before.before.before.before.args in (least_room ≤ length a.out.now) × (room_of a.kind ≤ length a.out.now)
+rooms l = (l.before.before.before.if1.false, omega (arith, l.before.if2.false, l.before.before.room_of_lem.ensures))
 
 sub-next-text : tie.Need-overflow-sub-next-text invariant-loop decreases-loop
 sub-next-text c = within c
@@ -64,14 +64,14 @@ same_length : tie.Need-same-length invariant-loop decreases-loop
 same_length c =
     let w = c.before.before.before in
     let l = w.before.before.before.loop in
-    same_len_mid l.n (length l.out - l.n) l.out w.next-text.new.1.1.0 w.next-text.auto.1.1.0 ∙ filling-length _ _ _ _ _ _ _ l.invariant
+    same_len_mid l.n (length l.out - l.n) l.out w.next-text.new.1.1.0 w.next-text.auto.1.1.0 ∙ filling_length _ _ _ _ _ _ _ l.invariant
 
 returns-3 : tie.Need-returns-3 invariant-loop decreases-loop
 returns-3 c =
     let w = c.before.before.before in
     let l = w.before.before in
     let h = rooms l.before in
-    filling-end _ _ _ _ _ _ _ l.before.loop.invariant _ _ h.0 h.1 (room l) c.match.keys2 w.next-text.ensures.0 w.next-text.ensures.1
+    filling_end _ _ _ _ _ _ _ l.before.loop.invariant _ _ h.0 h.1 (room l) c.match.keys2 w.next-text.ensures.0 w.next-text.ensures.1
 
 -- a text more
 more : (c : tie.After-known-told invariant-loop decreases-loop) → let w = c.before.before.before.before.before in let l = w.before.before.before in let a = l.before.before.before.before.before.before.args in
@@ -80,7 +80,7 @@ more : (c : tie.After-known-told invariant-loop decreases-loop) → let w = c.be
 more c =
     let w = c.before.before.before.before.before in
     let l = w.before.before in
-    text-added _ _ _ _ _ _ _ l.before.loop.invariant _ _ _ _ (room l) (sym c.before.k.given.1 ∙ w.next-text.ensures.0) w.next-text.ensures.1
+    text_added _ _ _ _ _ _ _ l.before.loop.invariant _ _ _ _ (room l) (sym c.before.k.given.1 ∙ w.next-text.ensures.0) w.next-text.ensures.1
 
 add-n : tie.Need-overflow-add-n invariant-loop decreases-loop
 add-n c = omega (arith, (more c).0)
@@ -92,13 +92,13 @@ loop-again : tie.Need-loop-preserved invariant-loop decreases-loop
 loop-again c = (more c).3
 
 same-length-2 : tie.Need-same-length-2 invariant-loop decreases-loop
-same-length-2 c = filling-length _ _ _ _ _ _ _ c.before.loop.invariant
+same-length-2 c = filling_length _ _ _ _ _ _ _ c.before.loop.invariant
 
 returns-4 : tie.Need-returns-4 invariant-loop decreases-loop
 returns-4 c =
     let l = c.before in
     let h = rooms l in
-    filling-full _ _ _ _ _ _ _ l.loop.invariant h.0 h.1 (omega (arith, c.loop-test, l.before.before.room_of.ensures))
+    filling_full _ _ _ _ _ _ _ l.loop.invariant h.0 h.1 (omega (arith, c.loop-test, l.before.before.room_of_lem.ensures))
 
 pub fill-texts-spec : {M : Type 1} → statement M
 fill-texts-spec =

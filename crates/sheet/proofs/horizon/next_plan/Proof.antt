@@ -2,8 +2,8 @@ use mathlib.Core.Path.{ap, ◌∙◌}
 use lib.ListN.{length}
 use borrow.Author.Rules.{rules}
 use Rattle.sheet.specs.Sheet.{Step, answered, left}
-use Rattle.lines.specs.Lines.{hasRoom}
-use Rattle.sheet.proofs.Texts.{as-plan}
+use Rattle.lines.specs.Lines.{has_room}
+use Rattle.sheet.proofs.Texts.{as_plan}
 use Rattle.sheet.proofs.horizon.next_plan.Statement.{statement}
 use Rattle.sheet.proofs.horizon.next_plan.Tie as tie
 
@@ -18,8 +18,8 @@ returns c =
     let a = c.before.before.before.before.before.before.args in
     let b = a.line.now in
     let e = c.before.before.next-text.ensures in
-    let same = as-plan (length b) a.sheet.now a.at in
-    (e.0 ∙ ap (answered (hasRoom b)) same, e.1 ∙ ap (λ (x : Step). left (hasRoom b) x b) same)
+    let same = as_plan (length b) a.sheet.now a.at in
+    (e.0 ∙ ap (answered (has_room b)) same, e.1 ∙ ap (λ (x : Step). left (has_room b) x b) same)
 
 pub next-plan-spec : {M : Type 1} → statement M
 next-plan-spec = tie.close (tie.spec next-text-requires same_length returns)

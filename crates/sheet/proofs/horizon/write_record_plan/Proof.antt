@@ -2,7 +2,7 @@
 use mathlib.Core.Path.{◌≡◌}
 use borrow.Author.Rules.{rules}
 use Rattle.amounts.proofs.Limits.{kept}
-use Rattle.sheet.specs.Horizon.{plan_of, recordPlan}
+use Rattle.sheet.specs.Horizon.{plan_of, record_plan}
 use Rattle.sheet.proofs.horizon.write_record_plan.Statement.{statement}
 use Rattle.sheet.proofs.horizon.write_record_plan.Tie as tie
 
@@ -25,7 +25,7 @@ same_length : tie.Need-same-length
 same_length c = search rules
 
 returns : tie.Need-returns
-unfolding recordPlan
+unfolding record_plan
 returns c = rw (← reply c.before.before.before.before) c.before.before.write-plan.ensures
 
 pub write-record-plan-spec : {M : Type 1} → statement M

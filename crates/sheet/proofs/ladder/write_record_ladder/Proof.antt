@@ -5,21 +5,21 @@ use Prim.Native.Nat.{ℕ}
 use lib.ListN.{length}
 use borrow.Author.Rules.{rules}
 use Rattle.amounts.proofs.Limits.{kept}
-use Rattle.record.specs.Record.{configOf}
-use Rattle.lines.specs.Lines.{refusalLine, wrote, textLeft}
-use Rattle.lines.proofs.Written.{line-is}
-use Rattle.ladders.specs.Refusals.{smallLadderBuffer}
-use Rattle.ladders.specs.Ladder.{laddered, ladderedIn}
-use Rattle.sheet.specs.Ladders.{refusedBy, recordLadder}
+use Rattle.record.specs.Record.{config_of}
+use Rattle.lines.specs.Lines.{refusal_line, wrote, text_left}
+use Rattle.lines.proofs.Written.{line_is}
+use Rattle.ladders.specs.Refusals.{small_ladder_buffer}
+use Rattle.ladders.specs.Ladder.{laddered, laddered_in}
+use Rattle.sheet.specs.Ladders.{refused_by, record_ladder}
 use Rattle.ladders.specs.declared.ladder.LadderAnswer.TheVariants as LadderAnswer
-use Rattle.sheet.proofs.Ladders.{text-written, left-refused}
+use Rattle.sheet.proofs.Ladders.{text_written, left_refused}
 use Rattle.sheet.proofs.ladder.write_record_ladder.Statement.{statement}
 use Rattle.sheet.proofs.ladder.write_record_ladder.Tie as tie
 
 -- what was answered, and what was left
 answered : (c : tie.After-write-ladder) → let a = c.before.before.before.before.before.before.args in let r = a.r in
-    (c.write-ladder.result ≡ laddered r.mid_price (configOf r) r.volatility r.current_time a.out.now)
-    × (c.write-ladder.new.1.1.1.1.0 ≡ ladderedIn r.mid_price (configOf r) r.volatility r.current_time a.out.now)
+    (c.write-ladder.result ≡ laddered r.mid_price (config_of r) r.volatility r.current_time a.out.now)
+    × (c.write-ladder.new.1.1.1.1.0 ≡ laddered_in r.mid_price (config_of r) r.volatility r.current_time a.out.now)
 answered c =
     let r = c.before.before.before.before.before.before.args.r in
     let g = c.before.struct-told2.given in
@@ -27,9 +27,9 @@ answered c =
 
 -- a refusal leaves the buffer as it was, and the record's text is its line, but for 21
 unchanged : (c : tie.After-write-ladder) (n : ℕ) → c.write-ladder.result ≡ LadderAnswer.Refused n → let a = c.before.before.before.before.before.before.args in
-    (c.write-ladder.new.1.1.1.1.0 ≡ a.out.now) × (recordLadder (length a.out.now) a.r ≡ refusedBy (eqb n smallLadderBuffer) n)
-unfolding recordLadder
-unchanged c n e = let o = answered c in left-refused _ _ _ n (sym e ∙ o.0) o.1
+    (c.write-ladder.new.1.1.1.1.0 ≡ a.out.now) × (record_ladder (length a.out.now) a.r ≡ refused_by (eqb n small_ladder_buffer) n)
+unfolding record_ladder
+unchanged c n e = let o = answered c in left_refused _ _ _ n (sym e ∙ o.0) o.1
 
 config-of-requires : tie.Need-config-of-requires
 config-of-requires c κs = search rules
@@ -47,11 +47,11 @@ same_length : tie.Need-same-length
 same_length c = search rules
 
 returns : tie.Need-returns
-unfolding refusedBy wrote textLeft
+unfolding refused_by wrote text_left
 returns c =
     let k = c.before.before in
     let u = unchanged k.before.before.before.before _ k.number.given.1 in
-    rw (u.1, eq-eqb _ smallLadderBuffer c.if1.true) (refl, u.0)
+    rw (u.1, eq-eqb _ small_ladder_buffer c.if1.true) (refl, u.0)
 
 write-refusal-requires : tie.Need-write-refusal-requires
 write-refusal-requires c κs = search rules
@@ -60,17 +60,17 @@ same-length-2 : tie.Need-same-length-2
 same-length-2 c = search rules
 
 returns-2 : tie.Need-returns-2
-unfolding recordLadder
+unfolding record_ladder
 returns-2 c =
     let w = c.before.before.before.before.before in
     let o = answered w in
-    text-written _ _ _ _ (sym c.before.n.given.1 ∙ o.0) o.1
+    text_written _ _ _ _ (sym c.before.n.given.1 ∙ o.0) o.1
 
 same-length-3 : tie.Need-same-length-3
 same-length-3 c = search rules
 
 returns-3 : tie.Need-returns-3
-unfolding refusedBy
+unfolding refused_by
 returns-3 c =
     let w = c.before.before in
     let e = w.before.before in
@@ -78,7 +78,7 @@ returns-3 c =
     let l = k.before.before.before.before in
     let s = l.before.before.before.before.before.before in
     let u = unchanged l _ k.number.given.1 in
-    rw (u.1, ne_eqb _ smallLadderBuffer e.if1.false, ← line-is (refusalLine k.number.given.0.0) s.args.out.now s.requires) (rw u.0 at w.write-refusal.ensures)
+    rw (u.1, ne_eqb _ small_ladder_buffer e.if1.false, ← line_is (refusal_line k.number.given.0.0) s.args.out.now s.requires) (rw u.0 at w.write-refusal.ensures)
 
 pub write-record-ladder-spec : {M : Type 1} → statement M
 write-record-ladder-spec =

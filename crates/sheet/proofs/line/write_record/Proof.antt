@@ -7,9 +7,9 @@ use mir.Syntax.{w64}
 use mir.Val.{SFits, to_z, of_z}
 use mir.Facts.{to_z-of_z}
 use borrow.Author.Rules.{rules}
-use Rattle.quote.specs.Quotes.{exactQuotes}
-use Rattle.record.specs.Record.{configOf}
-use Rattle.sheet.specs.Sheet.{recordLine}
+use Rattle.quote.specs.Quotes.{exact_quotes}
+use Rattle.record.specs.Record.{config_of}
+use Rattle.sheet.specs.Sheet.{record_line}
 use Rattle.sheet.proofs.line.write_record.Statement.{statement}
 use Rattle.sheet.proofs.line.write_record.Tie as tie
 
@@ -18,7 +18,7 @@ passed : (z : ℤ) → mag z < 2 ^ 63 → to_z w64 (of_z w64 z) ≡ z
 passed z h = let f : SFits w64 z = record { sfits = h } in to_z-of_z f
 
 reply : (c : tie.After-exact-quotes) → let r = c.before.before.before.before.before.before.args.r in
-    c.exact-quotes.result ≡ exactQuotes r.mid_price r.inventory (configOf r) r.volatility r.current_time
+    c.exact-quotes.result ≡ exact_quotes r.mid_price r.inventory (config_of r) r.volatility r.current_time
 reply c =
     let r = c.before.before.before.before.before.before.args.r in
     let g = c.before.struct-told3.given in
@@ -37,7 +37,7 @@ same_length : tie.Need-same-length
 same_length c = search rules
 
 returns : tie.Need-returns
-unfolding recordLine
+unfolding record_line
 returns c = rw (← reply c.before.before.before.before) c.before.before.write-answer.ensures
 
 pub write-record-spec : {M : Type 1} → statement M

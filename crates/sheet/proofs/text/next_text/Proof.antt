@@ -1,22 +1,22 @@
 -- `sheet::text::next_text` meets its contract: at each return the tests that led there, and what was read, say which line is due. Assumes nothing.
 use mathlib.Core.Path.{◌≡◌, sym, ap, ◌∙◌}
 use lib.ListN.{length}
-use Rattle.lines.specs.Lines.{refusalLine}
-use Rattle.sheet.specs.Refusals.{longSheet}
+use Rattle.lines.specs.Lines.{refusal_line}
+use Rattle.sheet.specs.Refusals.{long_sheet}
 use Rattle.sheet.specs.Sheet.{step_of}
-use Rattle.sheet.specs.Inner.{recordText, textIn}
-use Rattle.sheet.proofs.Steps.{step_end, step-long, step-read, no_room, no_line, one-text, one_line}
+use Rattle.sheet.specs.Inner.{record_text, text_in}
+use Rattle.sheet.proofs.Steps.{step_end, step_long, step_read, no_room, no_line, one_text, one_line}
 use borrow.Author.Rules.{rules}
 use Rattle.sheet.proofs.text.next_text.Statement.{statement}
 use Rattle.sheet.proofs.text.next_text.Tie as tie
 
 -- the step there, by the record that is read
 step-there : (c : tie.After-read-as) → let a = c.before.before.before.before.before.before.before.args in
-    textIn a.kind (length a.out.now) a.sheet.now a.at ≡ step_of (recordText a.kind (length a.out.now)) (length a.sheet.now) c.read_as.result
+    text_in a.kind (length a.out.now) a.sheet.now a.at ≡ step_of (record_text a.kind (length a.out.now)) (length a.sheet.now) c.read_as.result
 step-there c =
     let f = c.before in
     let e = f.before in
-    step-read _ _ _ _ e.before.if2.false e.if3.false ∙ ap (step_of _ _) (sym (rw (← f.is-flat.ensures) c.read_as.ensures))
+    step_read _ _ _ _ e.before.if2.false e.if3.false ∙ ap (step_of _ _) (sym (rw (← f.is-flat.ensures) c.read_as.ensures))
 
 returns : tie.Need-returns
 returns c = no_room _ _ c.if1.true
@@ -38,7 +38,7 @@ returns-3 c =
     let w = c.before.before.before in
     let e = w.before.before in
     let a = e.before.before.before.before.before.args in
-    let z = one_line (textIn a.kind (length a.out.now) a.sheet.now a.at) (refusalLine longSheet) _ a.out.now _ _ e.before.before.if1.false (step-long _ _ _ _ e.before.if2.false e.if3.true) w.write-refusal.ensures.0 w.write-refusal.ensures.1 in
+    let z = one_line (text_in a.kind (length a.out.now) a.sheet.now a.at) (refusal_line long_sheet) _ a.out.now _ _ e.before.before.if1.false (step_long _ _ _ _ e.before.if2.false e.if3.true) w.write-refusal.ensures.0 w.write-refusal.ensures.1 in
     (c.stepped.ensures ∙ z.0, z.1)
 
 is-flat-requires : tie.Need-is-flat-requires
@@ -83,7 +83,7 @@ returns-4 c =
     let w = c.before.before.before in
     let k = w.before.before.before in
     let r = k.before.before in
-    let z = one-text _ _ _ _ _ _ r.before.before.before.before.if1.false (step-there r ∙ ap (step_of _ _) k.r.given.1) w.write-text.ensures.0 w.write-text.ensures.1 in
+    let z = one_text _ _ _ _ _ _ r.before.before.before.before.if1.false (step-there r ∙ ap (step_of _ _) k.r.given.1) w.write-text.ensures.0 w.write-text.ensures.1 in
     (c.stepped2.ensures ∙ z.0, z.1)
 
 same-length-3 : tie.Need-same-length-3

@@ -2,8 +2,8 @@
 use native.Mathlib.Omega.{arith}
 use mir.Facts.{to_z-of_z}
 use borrow.Author.Rules.{rules}
-use Rattle.table.proofs.Checked.{row-passed}
-use Rattle.table.proofs.Answering.{first-is, row_read}
+use Rattle.table.proofs.Checked.{row_passed}
+use Rattle.table.proofs.Answering.{first_is, row_read}
 use Rattle.table.proofs.rows.answer_of_row.Statement.{statement}
 use Rattle.table.proofs.rows.answer_of_row.Tie as tie
 
@@ -28,7 +28,7 @@ cast-answer-in-bits : tie.Need-overflow-cast-answer-in-bits
 cast-answer-in-bits c =
     let s = c.before.before.before in
     let t = s.args.table.now in
-    rw (first-is t s.args.r _ c.before.row_at.ensures s.requires.0 s.requires.1) (omega (arith, (row-passed t s.args.r s.requires.2).steps))
+    rw (first_is t s.args.r _ c.before.row_at.ensures s.requires.0 s.requires.1) (omega (arith, (row_passed t s.args.r s.requires.2).steps))
 
 -- src/rows.rt:141:16
 add-answer-in-bits-2 : tie.Need-overflow-add-answer-in-bits-2

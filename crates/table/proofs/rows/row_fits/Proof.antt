@@ -1,6 +1,6 @@
 -- `table::rows::row_fits` meets its contract: a bound beyond 200 fails, and below it the three other tests decide. Assumes nothing.
 use borrow.Author.Rules.{rules}
-use Rattle.table.proofs.Looking.{row-far, row_near}
+use Rattle.table.proofs.Looking.{row_far, row_near}
 use Rattle.table.proofs.rows.row_fits.Statement.{statement}
 use Rattle.table.proofs.rows.row_fits.Tie as tie
 
@@ -20,7 +20,7 @@ cast-if1 : tie.Need-overflow-cast-if1
 cast-if1 c = search rules
 
 returns : tie.Need-returns
-returns c = row-far _ _ _ c.before.before.row_at.ensures c.if1.true
+returns c = row_far _ _ _ c.before.before.row_at.ensures c.if1.true
 
 add-result : tie.Need-overflow-add-result
 add-result c = search rules

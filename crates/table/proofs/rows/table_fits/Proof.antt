@@ -1,8 +1,8 @@
 -- `table::rows::table_fits` meets its contract: where the counts pass, the filled rows decide. Assumes nothing.
 use mathlib.Core.Path.{sym, ◌∙◌}
 use borrow.Author.Rules.{rules}
-use Rattle.table.proofs.Checked.{counts-passed}
-use Rattle.table.proofs.Looking.{rows-decide, counts-off}
+use Rattle.table.proofs.Checked.{counts_passed}
+use Rattle.table.proofs.Looking.{rows_decide, counts_off}
 use Rattle.table.proofs.rows.table_fits.Statement.{statement}
 use Rattle.table.proofs.rows.table_fits.Tie as tie
 
@@ -18,13 +18,13 @@ counts-fit-requires c κs = search rules
 rows-fit-requires : tie.Need-rows-fit-requires
 rows-fit-requires c κs =
     let s = c.before.before.before.before.before in
-    (s.requires, (counts-passed _ _ (sym c.before.counts-fit.ensures ∙ c.if1.true)).few)
+    (s.requires, (counts_passed _ _ (sym c.before.counts-fit.ensures ∙ c.if1.true)).few)
 
 returns : tie.Need-returns
-returns c = rows-decide _ _ (sym c.before.before.counts-fit.ensures ∙ c.before.if1.true) c.rows_fit.ensures
+returns c = rows_decide _ _ (sym c.before.before.counts-fit.ensures ∙ c.before.if1.true) c.rows_fit.ensures
 
 returns-2 : tie.Need-returns-2
-returns-2 c = counts-off _ (sym c.before.counts-fit.ensures ∙ c.if1.false)
+returns-2 c = counts_off _ (sym c.before.counts-fit.ensures ∙ c.if1.false)
 
 pub table-fits-spec : {M : Type 1} → statement M
 table-fits-spec =

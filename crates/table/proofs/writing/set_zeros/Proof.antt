@@ -2,7 +2,7 @@
 use Prim.Native.Nat.{◌-◌}
 use native.Mathlib.Omega.{arith}
 use lib.ListN.{length, replicate}
-use Rattle.table.proofs.Stores.{Stored, stored-all, zeros-none, zeros-more}
+use Rattle.table.proofs.Stores.{Stored, stored_all, zeros_none, zeros_more}
 use Rattle.table.proofs.writing.set_zeros.Statement.{statement}
 use Rattle.table.proofs.writing.set_zeros.Tie as tie
 
@@ -13,7 +13,7 @@ abbrev decreases-loop : tie.decreases-loop
 decreases-loop out₀ i₀ out i = length out₀ - i
 
 loop-holds : tie.Need-loop-init invariant-loop decreases-loop
-loop-holds c = zeros-none _
+loop-holds c = zeros_none _
 
 mul-out : tie.Need-overflow-mul-out invariant-loop decreases-loop
 mul-out c = omega arith
@@ -28,13 +28,13 @@ loop-less : tie.Need-loop-smaller invariant-loop decreases-loop
 loop-less c = omega arith
 
 loop-again : tie.Need-loop-preserved invariant-loop decreases-loop
-loop-again c = zeros-more _ _ _ c.before.loop.invariant c.loop-test.true
+loop-again c = zeros_more _ _ _ c.before.loop.invariant c.loop-test.true
 
 same_length : tie.Need-same-length invariant-loop decreases-loop
 same_length c = c.before.loop.invariant.size
 
 returns : tie.Need-returns invariant-loop decreases-loop
-returns c = stored-all _ _ _ _ c.before.loop.invariant c.loop-test.false
+returns c = stored_all _ _ _ _ c.before.loop.invariant c.loop-test.false
 
 pub set-zeros-spec : {M : Type 1} → statement M
 set-zeros-spec =

@@ -4,7 +4,7 @@ use Prim.Native.Nat.{◌-◌}
 use native.Mathlib.Omega.{arith}
 use lib.ListN.{length, length-map}
 use Rattle.table.specs.Table.{bits}
-use Rattle.table.proofs.Stores.{Stored, stored-all, bits_none, bits-more}
+use Rattle.table.proofs.Stores.{Stored, stored_all, bits_none, bits_more}
 use Rattle.table.proofs.writing.write_bits.Statement.{statement}
 use Rattle.table.proofs.writing.write_bits.Tie as tie
 
@@ -39,13 +39,13 @@ loop-less : tie.Need-loop-smaller invariant-loop decreases-loop
 loop-less c = omega arith
 
 loop-again : tie.Need-loop-preserved invariant-loop decreases-loop
-loop-again c = bits-more _ c.before.before.before.before.before.before.args.floats.now _ _ _ c.before.before.before.loop.invariant c.before.before.loop-test.true c.bits_of.ensures
+loop-again c = bits_more _ c.before.before.before.before.before.before.args.floats.now _ _ _ c.before.before.before.loop.invariant c.before.before.loop-test.true c.bits_of.ensures
 
 same_length : tie.Need-same-length invariant-loop decreases-loop
 same_length c = c.before.loop.invariant.size
 
 returns : tie.Need-returns invariant-loop decreases-loop
-returns c = stored-all _ _ _ _ c.before.loop.invariant c.loop-test.false
+returns c = stored_all _ _ _ _ c.before.loop.invariant c.loop-test.false
 
 pub write-bits-spec : {M : Type 1} → statement M
 write-bits-spec =

@@ -1,6 +1,6 @@
 -- Each way after a step is one of `AfterBy`. Assumes nothing.
 use borrow.Author.Tests.{not-true, not-false}
-use Rattle.vector.proofs.RunLaws.{after-refused, after-paced, after-asked, after-failed}
+use Rattle.vector.proofs.RunLaws.{after_refused, after_paced, after_asked, after_failed}
 use borrow.Author.Rules.{rules}
 use Rattle.vector.proofs.run.after_step.Statement.{statement}
 use Rattle.vector.proofs.run.after_step.Tie as tie
@@ -17,7 +17,7 @@ same_length c = search rules
 returns : tie.Need-returns
 returns c =
     let top = c.before.before.before.largest.ensures in
-    rw (← top.1) (after-refused _ _ _ _ _ _ _ _ (not-true _ c.before.if1.true) c.refused.ensures)
+    rw (← top.1) (after_refused _ _ _ _ _ _ _ _ (not-true _ c.before.if1.true) c.refused.ensures)
 
 sub-steps : tie.Need-overflow-sub-steps
 sub-steps c = search rules
@@ -39,7 +39,7 @@ returns-2 c =
     let d = c.before.before.before.before.divide in
     let e = c.before.before.before.before.before.before.before.before.before in
     let top = c.before.before.before.before.before.before.before.before.before.before.before.largest.ensures in
-    rw (← top.1) (after-paced _ _ _ _ _ _ _ _ _ top.0 d.ensures.0 (not-false _ e.if1.false) d.ensures.1 c.before.if2.true c.paced.ensures)
+    rw (← top.1) (after_paced _ _ _ _ _ _ _ _ _ top.0 d.ensures.0 (not-false _ e.if1.false) d.ensures.1 c.before.if2.true c.paced.ensures)
 
 rebalance-requires : tie.Need-rebalance-requires
 rebalance-requires c κs = search rules
@@ -60,7 +60,7 @@ returns-3 c =
     let top = c.before.before.before.before.before.before.before.before.before.before.before.before.before.before.before.before.before.before.before.largest.ensures in
     let f = c.before.before.before.before.before.before.rebalance.ensures in
     rw (← top.1)
-    (after-asked _ _ _ _ _ _ _ _ _ top.0 d.ensures.0 (not-false _ e.if1.false) d.ensures.1 _ _ _ d.auto.0 f.1.1 c.before.before.before.before.before.before.before.before.before.if2.false c.before.if3.true f.0 f.1.0 c.asking.ensures)
+    (after_asked _ _ _ _ _ _ _ _ _ top.0 d.ensures.0 (not-false _ e.if1.false) d.ensures.1 _ _ _ d.auto.0 f.1.1 c.before.before.before.before.before.before.before.before.before.if2.false c.before.if3.true f.0 f.1.0 c.asking.ensures)
 
 refused-requires-2 : tie.Need-refused-requires-2
 refused-requires-2 c κs = search rules
@@ -77,7 +77,7 @@ returns-4 c =
     let e = c.before.before.before.before.before.before.before.before.before.before.before.before.before.before.before.before.before in
     let top = c.before.before.before.before.before.before.before.before.before.before.before.before.before.before.before.before.before.before.before.largest.ensures in
     let f = c.before.before.before.before.before.before.rebalance.ensures in
-    rw (← top.1) (after-failed _ _ _ _ _ _ _ _ _ top.0 d.ensures.0 (not-false _ e.if1.false) d.ensures.1 _ _ _ d.auto.0 f.1.1 c.before.before.before.before.before.before.before.before.before.if2.false c.before.if3.false c.refused2.ensures)
+    rw (← top.1) (after_failed _ _ _ _ _ _ _ _ _ top.0 d.ensures.0 (not-false _ e.if1.false) d.ensures.1 _ _ _ d.auto.0 f.1.1 c.before.before.before.before.before.before.before.before.before.if2.false c.before.if3.false c.refused2.ensures)
 
 pub after-step-spec : {M : Type 1} → statement M
 after-step-spec =

@@ -1,5 +1,5 @@
 use borrow.Author.Rules.{rules}
-use Rattle.vector.specs.Values.{blankVector}
+use Rattle.vector.specs.Values.{blank_vector}
 use Rattle.vector.proofs.run.blank.Statement.{statement}
 use Rattle.vector.proofs.run.blank.Tie as tie
 
@@ -10,7 +10,7 @@ zeros-requires-2 : tie.Need-zeros-requires-2
 zeros-requires-2 c κs = search rules
 
 returns : tie.Need-returns
-unfolding blankVector
+unfolding blank_vector
 returns c = cc
 
 pub blank-spec : {M : Type 1} → statement M

@@ -10,8 +10,8 @@ use lib.Ieee.{Float, inf}
 use Rattle.elementary.specs.Float.{◌⊘◌}
 use Rattle.operator.specs.Vectors.{at, every, fold, smaller}
 use Rattle.vector.specs.Run.{rebalances}
-use Rattle.operator.proofs.Loops.{filled, filled_zero, stored, filled-all, at-filled, every-zero, every-suc, every-at}
-use Rattle.vector.proofs.RunLaws.{calm-is}
+use Rattle.operator.proofs.Loops.{filled, filled_zero, stored, filled_all, at_filled, every_zero, every_suc, every_at}
+use Rattle.vector.proofs.RunLaws.{calm_is}
 use Rattle.vector.proofs.run.divide.Statement.{statement}
 use Rattle.vector.proofs.run.divide.Tie as tie
 
@@ -26,7 +26,7 @@ abbrev decreases-loop : tie.decreases-loop
 decreases-loop w₀ max steps calm₀ i₀ w calm i = length w₀ - i
 
 loop-holds : tie.Need-loop-init invariant-loop decreases-loop
-loop-holds c = (omega arith, refl, filled_zero _ _, every-zero _)
+loop-holds c = (omega arith, refl, filled_zero _ _, every_zero _)
 
 mul-x : tie.Need-overflow-mul-x invariant-loop decreases-loop
 mul-x c = omega arith
@@ -56,8 +56,8 @@ loop-again c =
     let inv = at-loop.loop.invariant in
     let x = at-loop.before.before.args in
     let f = quotient x.w.now x.max in
-    let old : at at-loop.loop.w i ⊘ x.max ≡ f i = rw inv.2 (ap (λ (y : Float). y ⊘ x.max) (at-filled f x.w.now i i (le_refl i))) in
-    (omega arith, simp length-set inv.1, stored f x.w.now _ i _ (omega arith) inv.2 old, rw (inv.3, c.must-rebalance.ensures, old) (every-suc i _))
+    let old : at at-loop.loop.w i ⊘ x.max ≡ f i = rw inv.2 (ap (λ (y : Float). y ⊘ x.max) (at_filled f x.w.now i i (le_refl i))) in
+    (omega arith, simp length-set inv.1, stored f x.w.now _ i _ (omega arith) inv.2 old, rw (inv.3, c.must-rebalance.ensures, old) (every_suc i _))
 
 same_length : tie.Need-same-length invariant-loop decreases-loop
 same_length c = omega arith
@@ -67,8 +67,8 @@ returns c =
     let i = c.before.loop.i in
     let x = c.before.before.before.args in
     let e : i ≡ length x.w.now = omega arith in
-    let all = filled-all _ _ _ i _ e e c.before.loop.invariant.2 in
-    (all, c.before.loop.invariant.3 ∙ every-at _ _ _ e ∙ calm-is _ (quotient x.w.now x.max) x.steps ∙ ap (λ (l : List Float). not (rebalances (fold smaller (inf false) l) x.steps)) (sym all))
+    let all = filled_all _ _ _ i _ e e c.before.loop.invariant.2 in
+    (all, c.before.loop.invariant.3 ∙ every_at _ _ _ e ∙ calm_is _ (quotient x.w.now x.max) x.steps ∙ ap (λ (l : List Float). not (rebalances (fold smaller (inf false) l) x.steps)) (sym all))
 
 pub divide-spec : {M : Type 1} → statement M
 divide-spec =

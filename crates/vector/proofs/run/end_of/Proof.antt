@@ -1,19 +1,19 @@
 use mathlib.Core.Path.{◌≡◌, refl}
 use Prim.Native.Nat.{ℕ, zero, suc, ◌<◌, ◌≤◌}
 use native.Mathlib.Omega.{arith}
-use Rattle.vector.specs.Inner.{endBy}
+use Rattle.vector.specs.Inner.{end_by}
 use Rattle.vector.specs.declared.Outcome.{Outcome}
 use Rattle.vector.specs.declared.Outcome.TheVariants as Outcome
 use Rattle.vector.proofs.run.end_of.Statement.{statement}
 use Rattle.vector.proofs.run.end_of.Tie as tie
 
-some_left : (s : ℕ) (r : Outcome) → 0 < s → Outcome.Refused 11 ≡ endBy s r
-unfolding endBy
+some_left : (s : ℕ) (r : Outcome) → 0 < s → Outcome.Refused 11 ≡ end_by s r
+unfolding end_by
 some_left zero r h = absurd (omega arith)
 some_left (suc s) r h = refl
 
-none_left : (s : ℕ) (r : Outcome) → s ≤ 0 → r ≡ endBy s r
-unfolding endBy
+none_left : (s : ℕ) (r : Outcome) → s ≤ 0 → r ≡ end_by s r
+unfolding end_by
 none_left zero r h = refl
 none_left (suc s) r h = absurd (omega arith)
 

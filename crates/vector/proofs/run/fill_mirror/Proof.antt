@@ -1,4 +1,4 @@
--- The entries so far are those of `filledOut`; what is read stands before row n, and has not changed. Assumes nothing.
+-- The entries so far are those of `filled_out`; what is read stands before row n, and has not changed. Assumes nothing.
 use mathlib.Core.Path.{◌≡◌, refl, sym, ap, ◌∙◌}
 use Prim.Native.Nat.{ℕ, ◌-◌, ◌≤◌, ◌<◌}
 use native.Mathlib.Omega.{arith}
@@ -9,8 +9,8 @@ use lib.Dec.{ltb}
 use lib.ListN.{length, length-set}
 use lib.Ieee.{Float}
 use Rattle.operator.specs.Vectors.{at}
-use Rattle.series.specs.Half.{filledOut}
-use Rattle.operator.proofs.Loops.{filled, filled-kept, stored, filled-all, at-filled-before}
+use Rattle.series.specs.Half.{filled_out}
+use Rattle.operator.proofs.Loops.{filled, filled_kept, stored, filled_all, at_filled_before}
 use Rattle.vector.proofs.run.fill_mirror.Statement.{statement}
 use Rattle.vector.proofs.run.fill_mirror.Tie as tie
 
@@ -34,7 +34,7 @@ sub-last : tie.Need-overflow-sub-last invariant-loop decreases-loop
 sub-last c = omega arith
 
 loop-holds : tie.Need-loop-init invariant-loop decreases-loop
-loop-holds c = let x = c.args.x.now in (omega arith, omega arith, refl, filled-kept (entry x c.args.n) x c.args.n (omega arith) (kept x c.args.n))
+loop-holds c = let x = c.args.x.now in (omega arith, omega arith, refl, filled_kept (entry x c.args.n) x c.args.n (omega arith) (kept x c.args.n))
 
 sub-x : tie.Need-overflow-sub-x invariant-loop decreases-loop
 sub-x c = omega arith
@@ -65,15 +65,15 @@ loop-again c =
     let i = l.loop.i in
     let v = l.loop.invariant in
     let far = length x - 1 - i in
-    let same : at l.loop.x far ≡ at x far = ap (λ (m : List Float). at m far) v.3 ∙ at-filled-before (entry x a.n) x i far (omega arith) ∙ sym (kept x a.n far (omega arith)) in
+    let same : at l.loop.x far ≡ at x far = ap (λ (m : List Float). at m far) v.3 ∙ at_filled_before (entry x a.n) x i far (omega arith) ∙ sym (kept x a.n far (omega arith)) in
     (omega arith, omega arith, simp length-set v.2, stored (entry x a.n) x _ i _ (omega arith) v.3 (same ∙ taken x a.n i v.0))
 
 same_length : tie.Need-same-length invariant-loop decreases-loop
 same_length c = omega arith
 
 returns : tie.Need-returns invariant-loop decreases-loop
-unfolding filledOut
-returns c = let a = c.before.before.args in filled-all (entry a.x.now a.n) a.x.now _ c.before.loop.i _ (omega arith) (omega arith) c.before.loop.invariant.3
+unfolding filled_out
+returns c = let a = c.before.before.args in filled_all (entry a.x.now a.n) a.x.now _ c.before.loop.i _ (omega arith) (omega arith) c.before.loop.invariant.3
 
 pub fill-mirror-spec : {M : Type 1} → statement M
 fill-mirror-spec =

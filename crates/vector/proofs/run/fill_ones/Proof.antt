@@ -4,7 +4,7 @@ use Prim.Native.Nat.{◌-◌, ◌≤◌}
 use native.Mathlib.Omega.{arith}
 use lib.ListN.{length, length-set}
 use Rattle.elementary.specs.Float.{1ᶠ}
-use Rattle.operator.proofs.Loops.{filled, filled_zero, stored, filled-all, fill-tab}
+use Rattle.operator.proofs.Loops.{filled, filled_zero, stored, filled_all, fill_tab}
 use Rattle.vector.proofs.run.fill_ones.Statement.{statement}
 use Rattle.vector.proofs.run.fill_ones.Tie as tie
 
@@ -36,7 +36,7 @@ same_length : tie.Need-same-length invariant-loop decreases-loop
 same_length c = omega arith
 
 returns : tie.Need-returns invariant-loop decreases-loop
-returns c = let n = length c.before.before.args.w.now in filled-all _ _ _ c.before.loop.i n (omega arith) (omega arith) c.before.loop.invariant.2 ∙ sym (fill-tab n 1ᶠ)
+returns c = let n = length c.before.before.args.w.now in filled_all _ _ _ c.before.loop.i n (omega arith) (omega arith) c.before.loop.invariant.2 ∙ sym (fill_tab n 1ᶠ)
 
 pub fill-ones-spec : {M : Type 1} → statement M
 fill-ones-spec =

@@ -10,9 +10,9 @@ use lib.Ieee.{Float, binary64, lt}
 use Rattle.elementary.specs.Float.{0ᶠ, finite, positive}
 use Rattle.operator.specs.Vectors.{at, every, fold, larger}
 use Rattle.series.specs.Slices.{Fit}
-use Rattle.operator.proofs.Lists.{tab-own}
-use Rattle.operator.proofs.Loops.{every-zero, every-suc, every-at, fold-take}
-use Rattle.series.proofs.Extremes.{Gathered, larger-keeps, larger-apart, zero-gathered, zero-zero, positive-all}
+use Rattle.operator.proofs.Lists.{tab_own}
+use Rattle.operator.proofs.Loops.{every_zero, every_suc, every_at, fold_take}
+use Rattle.series.proofs.Extremes.{Gathered, larger_keeps, larger_apart, zero_gathered, zero_zero, positive_all}
 use Rattle.vector.proofs.run.largest.Statement.{statement}
 use Rattle.vector.proofs.run.largest.Tie as tie
 
@@ -24,10 +24,10 @@ two-more true false false y = refl
 two-more false b x y = refl
 
 -- every weight is positive just where all are above zero and the largest is finite
-all-positive : (w : List Float) → Fit w → (m : Float) (t p : Bool) → m ≡ fold larger 0ᶠ w → t ≡ every (length w) (λ i. lt 0ᶠ (at w i)) → p ≡ (t && finite m)
+all_positive : (w : List Float) → Fit w → (m : Float) (t p : Bool) → m ≡ fold larger 0ᶠ w → t ≡ every (length w) (λ i. lt 0ᶠ (at w i)) → p ≡ (t && finite m)
     → p ≡ every (length w) (λ i. positive (at w i))
-all-positive w f m t p em et ep =
-    ep ∙ ap₂ (λ (a : Bool) (x : Float). a && finite x) et (em ∙ ap (fold larger 0ᶠ) (tab-own (length w) w refl)) ∙ positive-all (at w) f (length w)
+all_positive w f m t p em et ep =
+    ep ∙ ap₂ (λ (a : Bool) (x : Float). a && finite x) et (em ∙ ap (fold larger 0ᶠ) (tab_own (length w) w refl)) ∙ positive_all (at w) f (length w)
 
 abbrev invariant-loop : tie.invariant-loop
 invariant-loop w even₀ odd₀ first₀ second₀ i₀ even odd first second i =
@@ -38,7 +38,7 @@ decreases-loop w even₀ odd₀ first₀ second₀ i₀ even odd first second i 
 
 loop-holds : tie.Need-loop-init invariant-loop decreases-loop
 unfolding fold
-loop-holds c = (omega arith, zero-gathered, zero-gathered, zero-zero, every-zero _)
+loop-holds c = (omega arith, zero_gathered, zero_gathered, zero_zero, every_zero _)
 
 add-loop : tie.Need-overflow-add-loop invariant-loop decreases-loop
 add-loop c = omega arith
@@ -83,16 +83,16 @@ loop-again c =
     let ey = c.larger-of2.ensures in
     let two : k + 1 + 1 ≡ k + 2 = omega arith in
     let all : larger (larger (larger x y) (at w k)) (at w (k + 1)) ≡ fold larger 0ᶠ (take (k + 2) w) =
-    rw i.3 (sym (fold-take larger 0ᶠ w (k + 1) (omega arith) ∙ ap (λ (z : Float). larger z (at w (k + 1))) (fold-take larger 0ᶠ w k (omega arith))) ∙ ap (λ (m : ℕ). fold larger 0ᶠ (take m w)) two) in
+    rw i.3 (sym (fold_take larger 0ᶠ w (k + 1) (omega arith) ∙ ap (λ (z : Float). larger z (at w (k + 1))) (fold_take larger 0ᶠ w k (omega arith))) ∙ ap (λ (m : ℕ). fold larger 0ᶠ (take m w)) two) in
     let flags : ((l.loop.first && lt 0ᶠ (at w k)) && (l.loop.second && lt 0ᶠ (at w (k + 1)))) ≡ every (k + 2) (λ j. lt 0ᶠ (at w j)) =
     two-more l.loop.first l.loop.second (lt 0ᶠ (at w k)) (lt 0ᶠ (at w (k + 1)))
     ∙ ap (λ (b : Bool). (b && lt 0ᶠ (at w k)) && lt 0ᶠ (at w (k + 1))) i.4
-    ∙ ap (λ (b : Bool). b && lt 0ᶠ (at w (k + 1))) (every-suc k (λ j. lt 0ᶠ (at w j)))
-    ∙ every-suc (k + 1) (λ j. lt 0ᶠ (at w j)) ∙ every-at (k + 1 + 1) (k + 2) (λ j. lt 0ᶠ (at w j)) two in (
+    ∙ ap (λ (b : Bool). b && lt 0ᶠ (at w (k + 1))) (every_suc k (λ j. lt 0ᶠ (at w j)))
+    ∙ every_suc (k + 1) (λ j. lt 0ᶠ (at w j)) ∙ every_at (k + 1 + 1) (k + 2) (λ j. lt 0ᶠ (at w j)) two in (
       omega arith,
-      rw ex (larger-keeps binary64 x (at w k) i.1 (a.requires k)),
-      rw ey (larger-keeps binary64 y (at w (k + 1)) i.2 (a.requires (k + 1))),
-      rw (ex, ey) (larger-apart binary64 x y (at w k) (at w (k + 1)) i.1 i.2 (a.requires k) (a.requires (k + 1)) ∙ all),
+      rw ex (larger_keeps binary64 x (at w k) i.1 (a.requires k)),
+      rw ey (larger_keeps binary64 y (at w (k + 1)) i.2 (a.requires (k + 1))),
+      rw (ex, ey) (larger_apart binary64 x y (at w k) (at w (k + 1)) i.1 i.2 (a.requires k) (a.requires (k + 1)) ∙ all),
       flags,
     )
 
@@ -119,10 +119,10 @@ returns c =
     let k = l.loop.i in
     let both : c.before.before.before.before.larger-of3.result ≡ fold larger 0ᶠ (take k w) = c.before.before.before.before.larger-of3.ensures ∙ l.loop.invariant.3 in
     let max : c.before.larger-of4.result ≡ fold larger 0ᶠ w =
-    c.before.larger-of4.ensures ∙ rw both (sym (fold-take larger 0ᶠ w k (omega arith)) ∙ ap (fold larger 0ᶠ) (take_all (k + 1) w (omega arith))) in
+    c.before.larger-of4.ensures ∙ rw both (sym (fold_take larger 0ᶠ w k (omega arith)) ∙ ap (fold larger 0ᶠ) (take_all (k + 1) w (omega arith))) in
     let flags : ((l.loop.first && l.loop.second) && lt 0ᶠ (at w k)) ≡ every (length w) (λ j. lt 0ᶠ (at w j)) =
-    ap (λ (b : Bool). b && lt 0ᶠ (at w k)) l.loop.invariant.4 ∙ every-suc k (λ j. lt 0ᶠ (at w j)) ∙ every-at (k + 1) (length w) (λ j. lt 0ᶠ (at w j)) (omega arith) in
-    (c.top_of.ensures.0 ∙ max, all-positive w a.requires _ _ _ max flags c.top_of.ensures.1)
+    ap (λ (b : Bool). b && lt 0ᶠ (at w k)) l.loop.invariant.4 ∙ every_suc k (λ j. lt 0ᶠ (at w j)) ∙ every_at (k + 1) (length w) (λ j. lt 0ᶠ (at w j)) (omega arith) in
+    (c.top_of.ensures.0 ∙ max, all_positive w a.requires _ _ _ max flags c.top_of.ensures.1)
 
 top-of-requires-2 : tie.Need-top-of-requires-2 invariant-loop decreases-loop
 top-of-requires-2 c κs = tt
@@ -134,8 +134,8 @@ returns-2 c =
     let w = a.args.w.now in
     let k = l.loop.i in
     let max : c.before.before.larger-of3.result ≡ fold larger 0ᶠ w = c.before.before.larger-of3.ensures ∙ l.loop.invariant.3 ∙ ap (fold larger 0ᶠ) (take_all k w (omega arith)) in
-    let flags : (l.loop.first && l.loop.second) ≡ every (length w) (λ j. lt 0ᶠ (at w j)) = l.loop.invariant.4 ∙ every-at k (length w) (λ j. lt 0ᶠ (at w j)) (omega arith) in
-    (c.top-of2.ensures.0 ∙ max, all-positive w a.requires _ _ _ max flags c.top-of2.ensures.1)
+    let flags : (l.loop.first && l.loop.second) ≡ every (length w) (λ j. lt 0ᶠ (at w j)) = l.loop.invariant.4 ∙ every_at k (length w) (λ j. lt 0ᶠ (at w j)) (omega arith) in
+    (c.top-of2.ensures.0 ∙ max, all_positive w a.requires _ _ _ max flags c.top-of2.ensures.1)
 
 pub largest-spec : {M : Type 1} → statement M
 largest-spec =

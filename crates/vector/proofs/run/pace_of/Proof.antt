@@ -27,7 +27,7 @@ returns : tie.Need-returns
 returns c = c.paced.ensures ∙ ap (told _ _) (sym c.before.before.plan.given.1)
 
 returns-2 : tie.Need-returns-2
-returns-2 c = c.over-cap.ensures ∙ ap (told _ _) (sym c.before.before.plan2.given.1)
+returns-2 c = c.over_the_cap.ensures ∙ ap (told _ _) (sym c.before.before.plan2.given.1)
 
 returns-3 : tie.Need-returns-3
 returns-3 c = search rules

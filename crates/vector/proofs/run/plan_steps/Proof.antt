@@ -7,16 +7,16 @@ use native.Mathlib.Omega.{arith}
 use native.Mathlib.Nat.{le_refl, le_trans}
 use lib.ListN.{length}
 use lib.Ieee.{Float}
-use Rattle.plan.specs.Plan.{Ended, cap, fixedOver}
+use Rattle.plan.specs.Plan.{Ended, cap, fixed_over}
 use Rattle.vector.specs.Inner.{Standing, weight}
 use Rattle.elementary.specs.Float.{◌⊗◌}
-use Rattle.series.specs.Series.{taylorStep}
+use Rattle.series.specs.Series.{taylor_step}
 use Rattle.series.specs.Slices.{SliceSum, Sizes, Fit}
-use Rattle.series.specs.Half.{fullSize, fullFactors, full, fullOperator, SumIs, StandsFor}
-use Rattle.operator.proofs.Slices.{ones-between}
-use Rattle.series.proofs.Steps.{step-stands}
+use Rattle.series.specs.Half.{full_size, full_factors, full, full_operator, SumIs, StandsFor}
+use Rattle.operator.proofs.Slices.{ones_between_lem}
+use Rattle.series.proofs.Steps.{step_stands}
 use Rattle.vector.specs.declared.run.Pace.{Pace}
-use Rattle.vector.proofs.FullRun.{after-step-full}
+use Rattle.vector.proofs.FullRun.{after_step_full}
 use Rattle.vector.proofs.RunLaws.{stands_on, after_less, weighs, both_some, one_none}
 use Rattle.vector.proofs.run.plan_steps.Statement.{statement}
 use Rattle.vector.proofs.run.plan_steps.Tie as tie
@@ -24,7 +24,7 @@ use Rattle.vector.proofs.run.plan_steps.Tie as tie
 -- where n rows of the slices stand
 abbrev stands : Bool → ℕ → Float → List Float → List Float → List Float → List Float → Ended → List Float → List Float → Pace → Type 0
 stands half n eta left right diag d r w o a =
-    Standing (fixedOver (fullSize half n) d eta) r (full half n w) (full half n o) (fullFactors half n left right) (fullFactors half n right left) (full half n diag) a
+    Standing (fixed_over (full_size half n) d eta) r (full half n w) (full half n o) (full_factors half n left right) (full_factors half n right left) (full half n diag) a
 
 abbrev invariant-loop : tie.invariant-loop
 invariant-loop w₀ o₀ diag left right term₀ eta half plain pace₀ w o term pace =
@@ -45,8 +45,8 @@ taylor-step-requires c κs = tt
 
 -- the step is the one over all rows
 stood : (c : tie.After-taylor-step invariant-loop decreases-loop) → let l = c.before.before.before.before.before.before.before in let a = l.before.before.before.before.before.before.before.before.args in let n = length a.w.now in
-    SumIs (fullSize a.half n) c.taylor-step.result (full a.half n c.taylor-step.new.0)
-    (taylorStep (fullOperator a.half n a.diag.now a.left.now a.right.now) (a.eta ⊗ l.loop.pace.dt) (full a.half n l.loop.w)) × Fit c.taylor-step.new.0
+    SumIs (full_size a.half n) c.taylor-step.result (full a.half n c.taylor-step.new.0)
+    (taylor_step (full_operator a.half n a.diag.now a.left.now a.right.now) (a.eta ⊗ l.loop.pace.dt) (full a.half n l.loop.w)) × Fit c.taylor-step.new.0
 stood c =
     let l = c.before.before.before.before.before.before.before in
     let i = l.loop.invariant in
@@ -55,9 +55,9 @@ stood c =
     let p = s.requires.0 in
     let z = s.requires.1 in
     let plain = l.before.all_ones in
-    let sizes : Sizes (length a.w.now) a.diag.now a.left.now a.right.now l.loop.term = record { diag-n = z.diag-n; left-n = z.left-n; right-n = z.right-n; term-n = i.2 ∙ z.term-n } in
-    let step = step-stands a.half plain.result l.loop.w a.diag.now a.left.now a.right.now l.loop.term (a.eta ⊗ l.loop.pace.dt) (rw i.0 p.0) (rw i.0 sizes) (rw i.0 p.3)
-    (λ e. ones-between _ _ _ (z.left-n ∙ sym i.0) (sym plain.ensures ∙ e)) in
+    let sizes : Sizes (length a.w.now) a.diag.now a.left.now a.right.now l.loop.term = record { diag_n = z.diag_n; left_n = z.left_n; right_n = z.right_n; term_n = i.2 ∙ z.term_n } in
+    let step = step_stands a.half plain.result l.loop.w a.diag.now a.left.now a.right.now l.loop.term (a.eta ⊗ l.loop.pace.dt) (rw i.0 p.0) (rw i.0 sizes) (rw i.0 p.3)
+    (λ e. ones_between_lem _ _ _ (z.left_n ∙ sym i.0) (sym plain.ensures ∙ e)) in
     rw i.0 at (subst (λ (r : SliceSum). StandsFor a.half l.loop.w a.diag.now (a.eta ⊗ l.loop.pace.dt) a.left.now a.right.now r × Fit r.sum) (sym c.taylor-step.ensures) step)
 
 after-step-requires : tie.Need-after-step-requires invariant-loop decreases-loop
@@ -92,7 +92,7 @@ loop-again c =
       t.auto.1.1.1.1.1.1.1.0 ∙ i.2,
       omega (arith, less.0, i.3),
       le_trans less.1 (le_trans (weighs l.pace) i.4),
-      λ d r s. stands_on _ _ _ _ _ _ _ _ _ _ _ _ _ x.0 x.1 (stood q).0 (after-step-full h m (omega (arith, p.requires.0.0)) l.pace _ _ _ _ _ n (stood q).1 t.result (rw n at a.ensures)) (i.5 d r s),
+      λ d r s. stands_on _ _ _ _ _ _ _ _ _ _ _ _ _ x.0 x.1 (stood q).0 (after_step_full h m (omega (arith, p.requires.0.0)) l.pace _ _ _ _ _ n (stood q).1 t.result (rw n at a.ensures)) (i.5 d r s),
     )
 
 same_length : tie.Need-same-length invariant-loop decreases-loop

@@ -7,15 +7,15 @@ use mathlib.Core.List.{List}
 use lib.ListN.{length, length-set}
 use lib.Ieee.{Float}
 use Rattle.elementary.specs.Float.{◌⊕◌, 1ᶠ, positive}
-use Rattle.elementary.specs.Elementary.{LN, orNan}
+use Rattle.elementary.specs.Elementary.{LN, or_nan}
 use Rattle.operator.specs.Vectors.{at, every}
-use Rattle.operator.proofs.Loops.{filled, filled_zero, stored, filled-all, at-filled, every-zero, every-suc, every-at, fill-tab}
+use Rattle.operator.proofs.Loops.{filled, filled_zero, stored, filled_all, at_filled, every_zero, every_suc, every_at, fill_tab}
 use Rattle.vector.proofs.run.rebalance.Statement.{statement}
 use Rattle.vector.proofs.run.rebalance.Tie as tie
 
 -- an offset with its weight in it
 abbrev moved : List Float → List Float → ℕ → Float
-moved w o i = at o i ⊕ orNan (LN (at w i))
+moved w o i = at o i ⊕ or_nan (LN (at w i))
 
 abbrev invariant-loop : tie.invariant-loop
 invariant-loop w₀ o₀ all₀ i₀ w o all i =
@@ -26,7 +26,7 @@ abbrev decreases-loop : tie.decreases-loop
 decreases-loop w₀ o₀ all₀ i₀ w o all i = length w₀ - i
 
 loop-holds : tie.Need-loop-init invariant-loop decreases-loop
-loop-holds c = (omega arith, refl, omega arith, filled_zero _ _, filled_zero _ _, every-zero _)
+loop-holds c = (omega arith, refl, omega arith, filled_zero _ _, filled_zero _ _, every_zero _)
 
 mul-x : tie.Need-overflow-mul-x invariant-loop decreases-loop
 mul-x c = omega arith
@@ -70,14 +70,14 @@ loop-again c =
     let i = at-loop.loop.i in
     let inv = at-loop.loop.invariant in
     let x = at-loop.before.before.before.args in
-    let w-old : at at-loop.loop.w i ≡ at x.w.now i = ap (λ (l : List Float). at l i) inv.3 ∙ at-filled _ _ i i (le_refl i) in
-    let o-old : at at-loop.loop.o i ≡ at x.o.now i = ap (λ (l : List Float). at l i) inv.4 ∙ at-filled _ _ i i (le_refl i) in (
+    let w-old : at at-loop.loop.w i ≡ at x.w.now i = ap (λ (l : List Float). at l i) inv.3 ∙ at_filled _ _ i i (le_refl i) in
+    let o-old : at at-loop.loop.o i ≡ at x.o.now i = ap (λ (l : List Float). at l i) inv.4 ∙ at_filled _ _ i i (le_refl i) in (
       omega arith,
       simp length-set inv.1,
       simp length-set inv.2,
       stored _ _ _ i _ (omega arith) inv.3 refl,
       stored _ _ _ i _ (omega arith) inv.4 (rw (c.ln-or-nan.ensures, w-old, o-old)),
-      rw (inv.5, c.before.before.is-positive-finite.ensures, w-old) (every-suc i _),
+      rw (inv.5, c.before.before.is-positive-finite.ensures, w-old) (every_suc i _),
     )
 
 same_length : tie.Need-same-length invariant-loop decreases-loop
@@ -91,7 +91,7 @@ returns c =
     let i = c.before.loop.i in
     let inv = c.before.loop.invariant in
     let e : i ≡ length c.before.before.before.before.args.w.now = omega arith in
-    (filled-all _ _ _ i _ e e inv.3 ∙ sym (fill-tab _ _), (filled-all _ _ _ i _ (omega arith) e inv.4, inv.5 ∙ every-at _ _ _ e))
+    (filled_all _ _ _ i _ e e inv.3 ∙ sym (fill_tab _ _), (filled_all _ _ _ i _ (omega arith) e inv.4, inv.5 ∙ every_at _ _ _ e))
 
 pub rebalance-spec : {M : Type 1} → statement M
 rebalance-spec =

@@ -1,5 +1,5 @@
 use borrow.Author.Rules.{rules}
-use Rattle.vector.specs.Values.{refusedVector}
+use Rattle.vector.specs.Values.{refused_vector}
 use Rattle.vector.proofs.run.refused_vector.Statement.{statement}
 use Rattle.vector.proofs.run.refused_vector.Tie as tie
 
@@ -7,7 +7,7 @@ blank-requires : tie.Need-blank-requires
 blank-requires c κs = search rules
 
 returns : tie.Need-returns
-unfolding refusedVector
+unfolding refused_vector
 returns c = cc
 
 pub refused-vector-spec : {M : Type 1} → statement M

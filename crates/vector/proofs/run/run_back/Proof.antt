@@ -12,32 +12,32 @@ use denote.Enum.Declared.{tag_of}
 use types.Run.{OneOf}
 use Rattle.elementary.specs.Float.{0ᶠ, 1ᶠ}
 use Rattle.operator.specs.Vectors.{fill}
-use Rattle.plan.specs.Plan.{Ended, vector, overCap, failed, room}
+use Rattle.plan.specs.Plan.{Ended, vector, over_cap, failed, room}
 use Rattle.operator.specs.Operator.{rows}
-use Rattle.vector.specs.Values.{padded, blankVector, refusedVector, vectorBy}
+use Rattle.vector.specs.Values.{padded, blank_vector, refused_vector, vector_by}
 use Rattle.vector.specs.Inner.{EndIs}
-use Rattle.series.specs.Half.{fullSize}
+use Rattle.series.specs.Half.{full_size}
 use Rattle.vector.specs.declared.ValueVector.{ValueVector}
 use Rattle.vector.specs.declared.Outcome.{Outcome}
 use Rattle.vector.specs.contracts.Outcome.{the_type}
-use Rattle.vector.proofs.Room.{lent, length-lent, lent-room, back, own-w, own-o}
+use Rattle.vector.proofs.Room.{lent, length_lent, lent_room, back, own_w, own_o}
 use Rattle.vector.proofs.RunLaws.{done}
-use Rattle.vector.proofs.FullRun.{out-room, out-length, out-asks, out-is}
+use Rattle.vector.proofs.FullRun.{out_room, out_length, out_asks, out_is}
 use Rattle.vector.proofs.run.run_back.Statement.{statement}
 use Rattle.vector.proofs.run.run_back.Tie as tie
 
 -- a run that is not done leaves the blank vector
-not_done : (n : ℕ) (r : Ended) (q : Outcome) (w o : List Float) (v : ValueVector) → EndIs r q w o → OneOf (1 ∷ 2 ∷ []) (tag_of the_type q) → v ≡ blankVector → record { outcome = q; vector = v } ≡ vectorBy n r
-unfolding EndIs vectorBy refusedVector
+not_done : (n : ℕ) (r : Ended) (q : Outcome) (w o : List Float) (v : ValueVector) → EndIs r q w o → OneOf (1 ∷ 2 ∷ []) (tag_of the_type q) → v ≡ blank_vector → record { outcome = q; vector = v } ≡ vector_by n r
+unfolding EndIs vector_by refused_vector
 not_done n (vector w' o' s) q w o v h k e = ⊎_elim (λ z. absurd (omega arith)) (λ z. absurd (omega arith)) (subst (λ (x : Outcome). OneOf (1 ∷ 2 ∷ []) (tag_of the_type x)) h.0 k)
-not_done n (overCap need c) q w o v h k e = rw (h, e)
+not_done n (over_cap need c) q w o v h k e = rw (h, e)
 not_done n (failed s) q w o v h k e = rw (h, e)
 
 weights : (c : tie.Start) → c.args.v.w ≡ padded c.args.n (fill c.args.n 1ᶠ)
-weights c = own-w _ _ _ _ c.requires.0.4
+weights c = own_w _ _ _ _ c.requires.0.4
 
 offsets : (c : tie.Start) → c.args.v.log_offset ≡ padded c.args.n (fill c.args.n 0ᶠ)
-offsets c = own-o _ _ _ _ c.requires.0.4
+offsets c = own_o _ _ _ _ c.requires.0.4
 
 ones : (c : tie.Start) → length (fill c.args.n 1ᶠ) ≡ c.args.n
 ones c = length-replicate c.args.n 1ᶠ
@@ -62,31 +62,31 @@ offsets-back : (c : tie.After-run-rows) → c.run-rows.new.1.0 ++ drop (first c)
 offsets-back c = back _ _ _ (offsets (entry c)) (zeros (entry c)) _
 
 weights-long : (c : tie.After-run-rows) → length c.run-rows.new.0 ≡ first c
-weights-long c = c.run-rows.auto.0 ∙ length-lent _ _ _ (weights (entry c)) (ones (entry c))
+weights-long c = c.run-rows.auto.0 ∙ length_lent _ _ _ (weights (entry c)) (ones (entry c))
 
 offsets-long : (c : tie.After-run-rows) → length c.run-rows.new.1.0 ≡ first c
-offsets-long c = c.run-rows.auto.1.0 ∙ length-lent _ _ _ (offsets (entry c)) (zeros (entry c))
+offsets-long c = c.run-rows.auto.1.0 ∙ length_lent _ _ _ (offsets (entry c)) (zeros (entry c))
 
 some : (c : tie.After-run-rows) → 1 ≤ first c
 some c = omega (arith, (entry c).requires.0.0)
 
-sized : (c : tie.After-run-rows) → fullSize (half c) (first c) ≡ rows (entry c).args.input.bound
+sized : (c : tie.After-run-rows) → full_size (half c) (first c) ≡ rows (entry c).args.input.bound
 sized c = (entry c).requires.1.sized
 
 within : (c : tie.After-run-rows) → rows (entry c).args.input.bound ≤ room
 within c = omega (arith, (entry c).requires.0.2)
 
 array-borrow-prefix-w : tie.Need-array-borrow-prefix-w
-array-borrow-prefix-w c = let s = c.before.before in lent-room _ _ _ (weights s) (ones s)
+array-borrow-prefix-w c = let s = c.before.before in lent_room _ _ _ (weights s) (ones s)
 
 slice-aggregate-run-rows : tie.Need-slice-aggregate-run-rows
-slice-aggregate-run-rows c = let s = c.before.before.before in sym (length-lent _ _ _ (weights s) (ones s))
+slice-aggregate-run-rows c = let s = c.before.before.before in sym (length_lent _ _ _ (weights s) (ones s))
 
 array-borrow-prefix-o : tie.Need-array-borrow-prefix-o
-array-borrow-prefix-o c = let s = c.before.before.before in lent-room _ _ _ (offsets s) (zeros s)
+array-borrow-prefix-o c = let s = c.before.before.before in lent_room _ _ _ (offsets s) (zeros s)
 
 slice-aggregate-run-rows-2 : tie.Need-slice-aggregate-run-rows-2
-slice-aggregate-run-rows-2 c = let s = c.before.before.before.before in sym (length-lent _ _ _ (offsets s) (zeros s))
+slice-aggregate-run-rows-2 c = let s = c.before.before.before.before in sym (length_lent _ _ _ (offsets s) (zeros s))
 
 run-rows-requires : tie.Need-run-rows-requires
 run-rows-requires c κs =
@@ -107,29 +107,29 @@ cast-all : tie.Need-overflow-cast-all
 cast-all c = search rules
 
 array-borrow-prefix-w-2 : tie.Need-array-borrow-prefix-w-2
-array-borrow-prefix-w-2 c = let p = c.before.before.before.before.before.before in out-room (half p) _ _ _ (weights-back p) (weights-long p) (some p) _ (sized p) (within p)
+array-borrow-prefix-w-2 c = let p = c.before.before.before.before.before.before in out_room (half p) _ _ _ (weights-back p) (weights-long p) (some p) _ (sized p) (within p)
 
 slice-aggregate-fill-mirror : tie.Need-slice-aggregate-fill-mirror
-slice-aggregate-fill-mirror c = let p = c.before.before.before.before.before.before.before in sym (out-length (half p) _ _ _ (weights-back p) (weights-long p) (some p) _ (sized p) (within p))
+slice-aggregate-fill-mirror c = let p = c.before.before.before.before.before.before.before in sym (out_length (half p) _ _ _ (weights-back p) (weights-long p) (some p) _ (sized p) (within p))
 
 fill-mirror-requires : tie.Need-fill-mirror-requires
-fill-mirror-requires c κs = let p = c.before.before.before.before.before.before.before in out-asks (half p) _ _ _ (weights-back p) (weights-long p) (some p) _ (sized p) (within p)
+fill-mirror-requires c κs = let p = c.before.before.before.before.before.before.before in out_asks (half p) _ _ _ (weights-back p) (weights-long p) (some p) _ (sized p) (within p)
 
 array-borrow-prefix-o-2 : tie.Need-array-borrow-prefix-o-2
-array-borrow-prefix-o-2 c = let p = c.before.before.before.before.before.before.before.before.before in out-room (half p) _ _ _ (offsets-back p) (offsets-long p) (some p) _ (sized p) (within p)
+array-borrow-prefix-o-2 c = let p = c.before.before.before.before.before.before.before.before.before in out_room (half p) _ _ _ (offsets-back p) (offsets-long p) (some p) _ (sized p) (within p)
 
 slice-aggregate-fill-mirror-2 : tie.Need-slice-aggregate-fill-mirror-2
-slice-aggregate-fill-mirror-2 c = let p = c.before.before.before.before.before.before.before.before.before.before in sym (out-length (half p) _ _ _ (offsets-back p) (offsets-long p) (some p) _ (sized p) (within p))
+slice-aggregate-fill-mirror-2 c = let p = c.before.before.before.before.before.before.before.before.before.before in sym (out_length (half p) _ _ _ (offsets-back p) (offsets-long p) (some p) _ (sized p) (within p))
 
 fill-mirror-requires-2 : tie.Need-fill-mirror-requires-2
-fill-mirror-requires-2 c κs = let p = c.before.before.before.before.before.before.before.before.before.before in out-asks (half p) _ _ _ (offsets-back p) (offsets-long p) (some p) _ (sized p) (within p)
+fill-mirror-requires-2 c κs = let p = c.before.before.before.before.before.before.before.before.before.before in out_asks (half p) _ _ _ (offsets-back p) (offsets-long p) (some p) _ (sized p) (within p)
 
 returns : tie.Need-returns
 returns c =
     let p = c.before.before.before.before.before.before.before.before.before.before.before.before in
     done _ _ _ _ _ _ _ _ p.run-rows.ensures c.before.before.before.before.before.before.before.before.outcome.given.1
-    (out-is (half p) _ _ _ (weights-back p) (weights-long p) (some p) _ (sized p) (within p) _ c.before.before.before.before.fill-mirror.ensures)
-    (out-is (half p) _ _ _ (offsets-back p) (offsets-long p) (some p) _ (sized p) (within p) _ c.before.fill-mirror2.ensures)
+    (out_is (half p) _ _ _ (weights-back p) (weights-long p) (some p) _ (sized p) (within p) _ c.before.before.before.before.fill-mirror.ensures)
+    (out_is (half p) _ _ _ (offsets-back p) (offsets-long p) (some p) _ (sized p) (within p) _ c.before.fill-mirror2.ensures)
 
 blank-requires : tie.Need-blank-requires
 blank-requires c κs = search rules

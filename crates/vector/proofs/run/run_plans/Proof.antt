@@ -5,19 +5,19 @@ use native.Mathlib.Omega.{arith}
 use Rattle.elementary.specs.Float.{1ᶠ}
 use Rattle.operator.specs.Vectors.{fill}
 use Rattle.plan.specs.Plan.{cap, begin}
-use Rattle.vector.specs.Run.{runOn}
+use Rattle.vector.specs.Run.{run_on}
 use Rattle.vector.specs.Inner.{Between, weight}
-use Rattle.series.specs.Half.{fullSize, full}
-use Rattle.vector.specs.Half.{fullFixed}
-use Rattle.series.proofs.Full.{full-fill}
+use Rattle.series.specs.Half.{full_size, full}
+use Rattle.vector.specs.Half.{full_fixed}
+use Rattle.series.proofs.Full.{full_fill}
 use Rattle.vector.proofs.RunLaws.{between_first, between_next}
 use Rattle.vector.proofs.run.run_plans.Statement.{statement}
 use Rattle.vector.proofs.run.run_plans.Tie as tie
 
 abbrev invariant-loop : tie.invariant-loop
 invariant-loop w₀ o₀ diag-s eta tau n half pace₀ w o pace =
-    let p = fullFixed half n diag-s eta in
-    (length w ≡ length w₀) × (length o ≡ length o₀) × Between p (runOn cap p (begin p cap (fill (fullSize half n) 1ᶠ) (full half n o₀) tau)) (full half n w) (full half n o) pace
+    let p = full_fixed half n diag-s eta in
+    (length w ≡ length w₀) × (length o ≡ length o₀) × Between p (run_on cap p (begin p cap (fill (full_size half n) 1ᶠ) (full half n o₀) tau)) (full half n w) (full half n o) pace
 
 abbrev decreases-loop : tie.decreases-loop
 decreases-loop w₀ o₀ diag-s eta tau n half pace₀ w o pace = weight pace
@@ -28,7 +28,7 @@ asking-requires c κs = tt
 loop-holds : tie.Need-loop-init invariant-loop decreases-loop
 loop-holds c =
     let s = c.before.before.before.before in
-    (refl, refl, between_first _ _ _ _ _ c.asking.ensures (ap (full s.args.half s.args.n) s.requires.2 ∙ full-fill s.args.half s.args.n (omega (arith, s.requires.0)) 1ᶠ))
+    (refl, refl, between_first _ _ _ _ _ c.asking.ensures (ap (full s.args.half s.args.n) s.requires.2 ∙ full_fill s.args.half s.args.n (omega (arith, s.requires.0)) 1ᶠ))
 
 run-plan-requires : tie.Need-run-plan-requires invariant-loop decreases-loop
 run-plan-requires c κs =
