@@ -22,7 +22,7 @@ use Rattle.model.specs.declared.Model.{Model}
 use Rattle.model.specs.declared.ModelAnswer.{ModelAnswer}
 use Rattle.model.proofs.Turned.{beta_none}
 use Rattle.model.proofs.Passed.{Made, stopped, passed, made, exact_passed, positive_number, k_passed}
-use Rattle.distances.specs.Drift.{driftless_entry, driftless_steps as entrySteps, driftless_count}
+use Rattle.distances.specs.Drift.{driftless_entry, driftless_steps as entry_steps, driftless_count}
 
 -- ---- a test less at the end, where it follows from the first
 one_less : (k g a s x y z t : Bool) → (k ≡ true → t ≡ true) → (k && g && a && s && x && y && z && t) ≡ (k && g && a && s && x && y && z)
@@ -83,7 +83,7 @@ module _ (mid h : ℤ) (c : GLFTConfig) (vol : ℤ) (t : ℕ) (e : c.drift ≡ p
   entry m q = (driftless_entry m.k m.base m.alpha m.eta m.q_max tau q).answer
 
   abbrev spent : Model → ℤ → ℕ
-  spent m q = entrySteps m.k m.base m.alpha m.eta m.q_max tau q
+  spent m q = entry_steps m.k m.base m.alpha m.eta m.q_max tau q
 
   abbrev count : Model → ℤ → FirstPlan
   count m q = driftless_count m.k m.base m.alpha m.eta m.q_max tau q

@@ -6,7 +6,7 @@ use Rattle.elementary.specs.Checks.{first_failing, check_of}
 use Rattle.elementary.specs.declared.Check.{Check}
 use Rattle.plan.specs.declared.FirstPlan.{FirstPlan}
 use Rattle.plan.specs.declared.FirstPlan.TheVariants as FirstPlan
-use Rattle.distances.specs.Drift.{driftless_entry, driftless_steps as entrySteps, driftless_count}
+use Rattle.distances.specs.Drift.{driftless_entry, driftless_steps as entry_steps, driftless_count}
 use Rattle.distances.specs.Refusals.{holding}
 use Rattle.distances.specs.declared.Answer.{Answer}
 use Rattle.distances.specs.declared.Answer.TheVariants as Answer
@@ -53,7 +53,7 @@ driftless_answer mid h c vol t =
     from_model Answer.Refused (λ m q. (driftless_entry m.k m.base m.alpha m.eta m.q_max (tau_of c.terminal_time t) q).answer) (driftless_exact mid h c vol t)
 
 unfoldable pub driftless_steps : ℤ → ℤ → GLFTConfig → ℤ → ℕ → ℕ
-driftless_steps mid h c vol t = from_model (λ r. 0) (λ m q. entrySteps m.k m.base m.alpha m.eta m.q_max (tau_of c.terminal_time t) q) (driftless_exact mid h c vol t)
+driftless_steps mid h c vol t = from_model (λ r. 0) (λ m q. entry_steps m.k m.base m.alpha m.eta m.q_max (tau_of c.terminal_time t) q) (driftless_exact mid h c vol t)
 
 unfoldable pub driftless_plan : ℤ → ℤ → GLFTConfig → ℤ → ℕ → FirstPlan
 driftless_plan mid h c vol t =
