@@ -4,7 +4,8 @@
 usage: python3 tools/respell.py [FOLDER]
 
 It goes by tools/respelled.tsv, a line for each name: the old one, a tab, the new one. It is run once, on what port.py
-made of the repository. Functions of src/, strings, inputs and outputs are not touched.
+made of the repository: a second run would respell what the first one wrote. Functions of src/, strings, inputs and
+outputs are not touched.
 """
 
 import os

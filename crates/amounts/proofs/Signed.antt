@@ -1,6 +1,6 @@
 -- What a change of sign does to magnitude, quotient, remainder and order of integers, and to whole numbers as floats. Assumes nothing.
 use Rattle.std.proofs.Common.{◌≡◌, ℕ, zero, suc, ◌*◌, ◌/◌, ◌%◌, ◌<◌, ℤ, pos, negsuc, ◌+ℤ◌, ◌-ℤ◌, ◌*ℤ◌, neg_ℤ, nat_abs, sym, refl, ap, ◌∙◌, mul-zero, arith, le-ltb, lt-ltb}
-use native.Mathlib.Nat.{zero_div}
+use native.Mathlib.Nat.{zero-div}
 use lib.IntN.{+ℤ_comm, +ℤ_assoc, +ℤ_invl, +ℤ_idl, neg_ℤ-neg_ℤ}
 use lib.Signed.{lt_z, quot_z, rem_z}
 use lib.Dec.{leb-suc-suc}
@@ -13,8 +13,8 @@ nat_abs_neg (pos (suc n)) = refl
 nat_abs_neg (negsuc n) = refl
 
 pub quot_neg : (z d : ℤ) → quot_z (neg_ℤ z) d ≡ neg_ℤ (quot_z z d)
-quot_neg (pos zero) (pos d) = rw (zero_div d)
-quot_neg (pos zero) (negsuc d) = rw (zero_div (suc d))
+quot_neg (pos zero) (pos d) = rw (zero-div d)
+quot_neg (pos zero) (negsuc d) = rw (zero-div (suc d))
 quot_neg (pos (suc n)) (pos d) = refl
 quot_neg (pos (suc n)) (negsuc d) = sym (neg_ℤ-neg_ℤ (pos (suc n / suc d)))
 quot_neg (negsuc n) (pos d) = sym (neg_ℤ-neg_ℤ (pos (suc n / d)))

@@ -17,7 +17,7 @@ use Rattle.elementary.specs.Float.{◌⊕◌, ◌⊖◌, 0ᶠ, 1ᶠ, finite, pos
 use Rattle.elementary.specs.Reply.{given}
 use Rattle.elementary.specs.Elementary.{horner, mantissa, exponent, odds, ln_sum, ln_series, ln_join, ln_parts, ln_halved, ln_of, LN, or_nan}
 use Rattle.elementary.proofs.Count.{positive_is}
-use Rattle.elementary.proofs.Exact.{minus_zero, zero_add_f, zero_div}
+use Rattle.elementary.proofs.Exact.{minus_zero, zero_add_f, zero-div}
 use Rattle.operator.specs.Vectors.{at, fill}
 use Rattle.operator.specs.Operator.{rows}
 use Rattle.vector.specs.Run.{fixed, run_for, run, run_from}
@@ -65,7 +65,7 @@ module _ (n : ℕ) (k base : Float) (held : T (fits binary64 base)) (k-ok : T (p
   distance_is : (i j : ℕ) → i < n → j < n → distance (flat n) k base i j ≡ base
   unfolding distance flat vector_of
   distance_is i j h l =
-      rw (at_padded n i 1ᶠ h, at_padded n j 1ᶠ l, at_padded n i 0ᶠ h, at_padded n j 0ᶠ l, ln_one, no_difference, zero_div binary64 k (above_zero k k-ok).0)
+      rw (at_padded n i 1ᶠ h, at_padded n j 1ᶠ l, at_padded n i 0ᶠ h, at_padded n j 0ᶠ l, ln_one, no_difference, zero-div binary64 k (above_zero k k-ok).0)
       (zero_add_f binary64 base held (above_zero base base_ok).1)
 
   bid_is : (c : Bool) (i : ℕ) → (T c → suc i < n) → bid_at c (flat n) k base i ≡ base_bid c base

@@ -434,5 +434,5 @@ zero_over f (fin false (suc m) e) a =
     ∙ ap (λ (n : ℕ). round f false n d) (zero-mul (down e))
     ∙ round_value f (of_bits f 0) false 0 d (mul-pos (mul-pos (zero-lt-suc m) (up_pos e)) (zero-lt-suc 0)) (of_bits-fits f 0) (zero_value f d)
 
-pub zero_div : (f : Format) (x : Float) → T (above x) → div f (of_bits f 0) x ≡ of_bits f 0
-zero_div f x a = ap (λ (z : Float). div f z x) (zero_is f) ∙ zero_over f x a
+pub zero-div : (f : Format) (x : Float) → T (above x) → div f (of_bits f 0) x ≡ of_bits f 0
+zero-div f x a = ap (λ (z : Float). div f z x) (zero_is f) ∙ zero_over f x a

@@ -1,7 +1,7 @@
 -- A float that its format holds is m * 2 ^ g units of the format's smallest value, with an m of no more digits than the format keeps.
 -- So its leading digits are all that it has, and floats lie no closer than on a grid. Assumes nothing.
 use Rattle.std.proofs.Common.{◌≡◌, ℕ, suc, ◌+◌, ◌-◌, ◌*◌, ◌/◌, ◌^◌, ◌<◌, ◌≤◌, Bool, true, false, not, T, leb, ◌⊎◌, ℤ, sym, refl, ap, ◌∙◌, subst, inl, inr, le_trans, le_of_eq, lt_of_lt_of_le, le_of_suc-le-suc, add-zero, le_of_lt, mul-le-mul_right, zero-lt-suc, mul_assoc, lt_of_mul-lt-mul_right, mul-pos, zero-mul, mul-one, not-le_of_lt, mul-div_cancel, add-one, arith, leb→le, pow_pos, pow_mono, pow-add, shl_lt}
-use native.Mathlib.Nat.{zero_div}
+use native.Mathlib.Nat.{zero-div}
 use lib.Dec.{nleb→lt}
 use lib.Ieee.{Float, nan, inf, fin, Format, prec, low, down, size, fits}
 use lib.Ieee.Digits.{size-le}
@@ -25,7 +25,7 @@ regroup m a b c d e =
 
 pub count_zero : (f : Format) (s : Bool) (e : ℤ) → count f (fin s 0 e) ≡ 0
 unfolding count
-count_zero f s e = simp (zero-mul, zero_div)
+count_zero f s e = simp (zero-mul, zero-div)
 
 pub count_val : (f : Format) (x : Float) (s : Bool) (c : ℕ) → HasValue x s c (2 ^ low f) → count f x ≡ c
 unfolding count

@@ -1,5 +1,5 @@
 -- The law of the square root, `specs/Root.antt`: the answer is the float nearest to the root. Assumes nothing.
-use Rattle.std.proofs.Common.{◌≡◌, ℕ, zero, suc, ◌+◌, ◌*◌, ◌/◌, ◌%◌, ◌^◌, ◌<◌, ◌≤◌, Bool, true, false, T, ℤ, sym, refl, ap, ◌∙◌, subst, zero_le, le_trans, le_of_eq, lt_of_lt_of_le, lt_of_le_of_lt, mul-le-mul_right, zero-lt-suc, mul-le-mul, mul-lt-mul_of_pos_right, mul-pos, zero-mul, arith, pow_pos}
+use Rattle.std.proofs.Common.{◌≡◌, ℕ, zero, suc, ◌+◌, ◌*◌, ◌/◌, ◌%◌, ◌^◌, ◌<◌, ◌≤◌, Bool, true, false, T, ℤ, sym, refl, ap, ◌∙◌, subst, zero-le, le_trans, le_of_eq, lt_of_lt_of_le, lt_of_le_of_lt, mul-le-mul_right, zero-lt-suc, mul-le-mul, mul-lt-mul_of_pos_right, mul-pos, zero-mul, arith, pow_pos}
 use native.Mathlib.Nat.{mul-mul-mul_comm, pow-succ'}
 use lib.Ieee.{Float, nan, inf, fin, binary64, size, fits, le, of_bits}
 use lib.Ieee.Fits.{round-fits}
@@ -83,7 +83,7 @@ unfolding of_bits
 zero_val = (refl, refl)
 
 sign_val : (x : Float) (a c : ℕ) → 0 < c → HasValue x false a c → T (le 0ᶠ x)
-sign_val x a c h v = le_of_values 0ᶠ x 0 1 a c (zero-lt-suc 0) h zero_val v (subst (λ (z : ℕ). z ≤ a * 1) (sym (zero-mul c)) zero_le)
+sign_val x a c h v = le_of_values 0ᶠ x 0 1 a c (zero-lt-suc 0) h zero_val v (subst (λ (z : ℕ). z ≤ a * 1) (sym (zero-mul c)) zero-le)
 
 -- ---- the root of n units
 sqrt_of_fits : (n : ℕ) → T (fits binary64 (sqrt_of n))

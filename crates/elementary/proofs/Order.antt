@@ -54,9 +54,9 @@ unfolding le
 le_inf inf⁺ = tt
 le_inf (fin⁺ m e) = tt
 
-zero_le : {x : Float} → Nonneg x → T (le (fin false 0 (pos 0)) x)
-zero_le inf⁺ = le_inf (fin⁺ 0 (pos 0))
-zero_le (fin⁺ m e) = cross→le 0 (pos 0) m e (omega arith)
+zero-le : {x : Float} → Nonneg x → T (le (fin false 0 (pos 0)) x)
+zero-le inf⁺ = le_inf (fin⁺ 0 (pos 0))
+zero-le (fin⁺ m e) = cross→le 0 (pos 0) m e (omega arith)
 
 self : {x : Float} → Nonneg x → T (le x x)
 self inf⁺ = le_inf inf⁺
@@ -319,7 +319,7 @@ div_mono f x x' y p p' q = divs f (cases x p) (cases x' p') (positive_cases y q)
 divisors : (f : Format) {x y y' : Float} → Nonneg x → T (finite x) → Positive y → Nonneg y' → T (le y y') → T (le (div f x y') (div f x y))
 unfolding div finite
 divisors f inf⁺ t (fin> n d g) q h = absurd t
-divisors f (fin⁺ m e) t (fin> n d g) inf⁺ h = zero_le (div_positive f (fin⁺ m e) (fin> n d g))
+divisors f (fin⁺ m e) t (fin> n d g) inf⁺ h = zero-le (div_positive f (fin⁺ m e) (fin> n d g))
 divisors f (fin⁺ m e) t (fin> n d g) (fin⁺ n' d') h =
     let b : 0 < n' * up d' * down d = lt_of_lt_of_le (mul-pos (mul-pos g (up_pos d)) (down_pos d')) (le→cross n d n' d' h) in
     ratios f m e m e n' d' n d (first_pos n' (up d') (first_pos (n' * up d') (down d) b)) g (self (fin⁺ m e)) h

@@ -2,7 +2,7 @@
 -- NaNs, infinities and values that no format holds are included. Assumes nothing.
 use Rattle.std.proofs.Common.{◌≡◌, ℕ, zero, suc, ◌+◌, ◌-◌, ◌*◌, ◌^◌, ◌<◌, Bool, true, false, cond, not, ◌||◌, T, eqb, ltb, pos, negsuc, sym, refl, ap, ◌∙◌, subst, ap₂, le_refl, mul_comm, add_comm, mul-pos, mul-one, arith, ltb-false, ltb-true, le-ltb, ne_eqb, eqb-true}
 use Prim.Native.Nat.compare
-use native.Mathlib.Nat.{zero_div, zero-mod, sub_self}
+use native.Mathlib.Nat.{zero-div, zero-mod, sub_self}
 use mathlib.Core.Bool.{beq, not-not}
 use borrow.Author.Tests.{eqb-false}
 use lib.Ieee.{Float, nan, inf, fin, Format, binary32, binary64, prec, emax, low, up, down, unlike, span, climb, size, odd, units, round, neg, sum, add, sub, mul, div, below, level, lt, eq, le, of_int, of_bits, is_nan}
@@ -293,8 +293,8 @@ mul_finite f (fin s m e) (fin t n d) h = (tt, tt)
 pub round_zero : (f : Format) (s : Bool) (d : ℕ) → 0 < d → round f s 0 d ≡ fin s 0 (pos 0)
 unfolding round size span climb units odd
 round_zero f s zero h = absurd (omega arith)
-round_zero binary32 s (suc d) h = rw (zero_div (suc d), mul-one (suc d), zero_div (suc d), zero-mod (suc d), compare.zero-suc d)
-round_zero binary64 s (suc d) h = rw (zero_div (suc d), mul-one (suc d), zero_div (suc d), zero-mod (suc d), compare.zero-suc d)
+round_zero binary32 s (suc d) h = rw (zero-div (suc d), mul-one (suc d), zero-div (suc d), zero-mod (suc d), compare.zero-suc d)
+round_zero binary64 s (suc d) h = rw (zero-div (suc d), mul-one (suc d), zero-div (suc d), zero-mod (suc d), compare.zero-suc d)
 
 eq_zero : (f : Format) → eq (fin false 0 (pos 0)) (of_bits f 0) ≡ true
 unfolding eq of_bits

@@ -1,5 +1,5 @@
 -- Rounding up to a whole number: the laws of `ceil_of`, and what the code that cuts off a fraction computes. Assumes nothing.
-use Rattle.std.proofs.Common.{◌≡◌, ℕ, zero, suc, ◌+◌, ◌-◌, ◌*◌, ◌/◌, ◌^◌, ◌<◌, ◌≤◌, Bool, true, false, T, ℤ, pos, negsuc, sym, refl, ap, ◌∙◌, subst, true≢false, suc-le-suc, zero_le, mul-le-mul_right, zero-lt-suc, mul_comm, div-lt_iff_lt-mul, mul-lt-mul_of_pos_right, mul-pos, mul-one, le-mul_of_pos_right, div-mul-le_self, arith, lit<, ltb→lt, lt→ltb, pow_mono, ltb-false, ltb-true}
+use Rattle.std.proofs.Common.{◌≡◌, ℕ, zero, suc, ◌+◌, ◌-◌, ◌*◌, ◌/◌, ◌^◌, ◌<◌, ◌≤◌, Bool, true, false, T, ℤ, pos, negsuc, sym, refl, ap, ◌∙◌, subst, true≢false, suc-le-suc, zero-le, mul-le-mul_right, zero-lt-suc, mul_comm, div-lt_iff_lt-mul, mul-lt-mul_of_pos_right, mul-pos, mul-one, le-mul_of_pos_right, div-mul-le_self, arith, lit<, ltb→lt, lt→ltb, pow_mono, ltb-false, ltb-true}
 use native.Mathlib.Nat.{lt-div-mul-add, div-eq_of_lt-le}
 use lib.Ieee.{Float, nan, inf, fin, binary64, up, down, round, neg, below, lt, of_int, of_bits, to_unsigned, fits}
 use lib.Ieee.Fits.{up_pos, down_pos}
@@ -50,7 +50,7 @@ ceil_whole s m e k t h = ceil_is s m e k (next_self s (m * up e) (down e) k (dow
 
 pub ceil_large : CeilLarge
 ceil_large s m (pos j) t h = ceil_whole s m (pos j) (m * up (pos j)) t (sym (mul-one (m * up (pos j))))
-ceil_large s m (negsuc j) t h = absurd (omega (arith, (held binary64 s m (negsuc j) t).digits, pow_mono {i = 1} {j = suc j} (suc-le-suc zero_le)))
+ceil_large s m (negsuc j) t h = absurd (omega (arith, (held binary64 s m (negsuc j) t).digits, pow_mono {i = 1} {j = suc j} (suc-le-suc zero-le)))
 
 pub ceil_least : CeilLeast
 ceil_least s m (pos j) t =

@@ -11,7 +11,7 @@ use lib.Ieee.{Float, eq}
 use Rattle.elementary.specs.Float.{◌⊗◌, 1ᶠ, finite}
 use Rattle.operator.specs.Vectors.{tab, at, every}
 use Rattle.operator.specs.Operator.{rows, diagonal_at, left_at}
-use Rattle.operator.specs.Slices.{both_sized, diagonal_fits, diagonal_over, scaled_over, right_by, factors_fit, left_over_lem, right_over, both_fine, one_at, ones_between, Ones}
+use Rattle.operator.specs.Slices.{both_sized, diagonal_fits, diagonal_over, scaled_over, right_by, factors_fit, left_over, right_over, both_fine, one_at, ones_between, Ones}
 use Rattle.operator.proofs.Lists.{every_each}
 use Rattle.operator.proofs.Loops.{every_suc}
 
@@ -40,8 +40,8 @@ unfolding scaled_over
 scaled_over_lem s dt d d' long e = e ∙ rw (eq-eqb (length d) (length s) long) refl
 
 module _ (o left right : List Float) (a : length left ≡ length o) (b : length right ≡ length o) where
-  pub left_over_lem : (l' : List Float) → l' ≡ left_over_lem o left right → l' ≡ tab (length o) (left_at o)
-  unfolding left_over_lem
+  pub left_over_lem : (l' : List Float) → l' ≡ left_over o left right → l' ≡ tab (length o) (left_at o)
+  unfolding left_over
   left_over_lem l' e = e ∙ rw (sized_both (length o) (length left) (length right) a b) refl
 
   pub right_over_lem : (half : Bool) (r' : List Float) → r' ≡ right_over half o left right → r' ≡ tab (length o) (right_by half (length o) o)

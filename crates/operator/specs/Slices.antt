@@ -32,8 +32,8 @@ right_by half n o i = right_or n o i (past half (left_at o i) 0ᶠ)
 abbrev pub factors_fit : List Float → List Float → List Float → Bool
 factors_fit o left right = both_sized (length o) (length left) (length right)
 
-unfoldable pub left_over_lem : List Float → List Float → List Float → List Float
-left_over_lem o left right = cond (factors_fit o left right) (tab (length o) (left_at o)) left
+unfoldable pub left_over : List Float → List Float → List Float → List Float
+left_over o left right = cond (factors_fit o left right) (tab (length o) (left_at o)) left
 
 unfoldable pub right_over : Bool → List Float → List Float → List Float → List Float
 right_over half o left right = cond (factors_fit o left right) (tab (length o) (right_by half (length o) o)) right

@@ -5,7 +5,7 @@ ghost use Rattle.std.specs.Prelude.{◌≡◌, ◌<◌, ◌&&◌, length};
 ghost use Rattle.elementary.specs.Float.{finite};
 ghost use Rattle.operator.specs.Vectors.{every};
 ghost use Rattle.operator.specs.Operator.{left_at, right_or};
-ghost use Rattle.operator.specs.Slices.{both_sized, past, factors_fit, left_over_lem, right_over, both_fine, ones_between};
+ghost use Rattle.operator.specs.Slices.{both_sized, past, factors_fit, left_over, right_over, both_fine, ones_between};
 
 // The left factor of row i.
 fn left_factor(o: &[f64], i: usize) -> f64
@@ -45,7 +45,7 @@ fn both_sized(n: usize, a: usize, b: usize) -> bool
 
 // The factors of every row, and whether all are finite.
 pub fn set_factors(o: &[f64], left: &mut [f64], right: &mut [f64], half: bool) -> bool
-    ensures left_after { left.new ≡ left_over_lem o.now left.old right.old }
+    ensures left_after { left.new ≡ left_over o.now left.old right.old }
     ensures right_after { right.new ≡ right_over half o.now left.old right.old }
     ensures value { result ≡ (factors_fit o.now left.old right.old && both_fine (length o.now) left.new right.new) }
 {

@@ -1,7 +1,7 @@
 // New factors, a plan over them and its diagonal, in the slices that a caller lends. Those whose lengths do
 // not fit stay as they are.
 ghost use Rattle.std.specs.Prelude.{◌≡◌, ◌&&◌, length};
-ghost use Rattle.operator.specs.Slices.{factors_fit, left_over_lem, right_over, both_fine};
+ghost use Rattle.operator.specs.Slices.{factors_fit, left_over, right_over, both_fine};
 ghost use Rattle.plan.specs.Slices.{diagonal_for, plan_from};
 
 use crate::plan::{Planned, plan_with};
@@ -30,7 +30,7 @@ pub fn set_plan(
     budget: u32,
     half: bool,
 ) -> Planned
-    ensures left_after { left.new ≡ left_over_lem o.now left.old right.old }
+    ensures left_after { left.new ≡ left_over o.now left.old right.old }
     ensures right_after { right.new ≡ right_over half o.now left.old right.old }
     ensures diag_after { diag.new ≡ diagonal_for result diag_s.now diag.old }
     ensures value { result ≡ plan_from (factors_fit o.now left.old right.old && both_fine (length o.now) left.new right.new) rest diag_s.now eta left.new right.new budget }

@@ -4,7 +4,7 @@ mod output;
 ghost use Rattle.std.specs.Prelude.{◌≡◌, ◌+◌, ◌<◌, ◌≤◌, length};
 ghost use Rattle.feed.specs.Feed.{Fed};
 ghost use Rattle.sheet.specs.Sheet.{most_bytes};
-ghost use Rattle.sheet.specs.Kinds.{room_of_lem, printed_as};
+ghost use Rattle.sheet.specs.Kinds.{room_of, printed_as};
 ghost use Rattle.sheet.specs.Fill.{filled_as, left_as};
 ghost use Rattle.sheet.specs.declared.fill.FillAnswer.TheVariants.{Filled};
 ghost use Rattle.printing.specs.Printing.{Counted, OfSomeSheet};
@@ -33,7 +33,7 @@ struct Texts {
 
 // Puts the texts from a place of a sheet on into a buffer that has the room.
 fn fill(s: &[u8], at: usize, out: &mut [u8], kind: Kind) -> Texts
-    requires { room_of_lem kind ≤ length out.old }
+    requires { room_of kind ≤ length out.old }
     ensures out_value { filled_as kind s.now at out.old ≡ Filled result.count result.next }
     ensures out_after { out.new ≡ left_as kind s.now at out.old }
 {

@@ -14,7 +14,7 @@ use Rattle.amounts.specs.Refusals.{limits}
 use Rattle.record.specs.Refusals.{small_record_buffer}
 use Rattle.record.specs.Record.{Read, taken, refused, numbers, fields, record_of, record_ok, record_if, record_from, read_record}
 use Rattle.buffers.specs.Over.{over}
-use Rattle.record.specs.Save.{all_in_groups, numbers_of, record_bytes, none_below_lem, save_ok, record_room, saved, saved_in}
+use Rattle.record.specs.Save.{all_in_groups, numbers_of, record_bytes, none_below, save_ok, record_room, saved, saved_in}
 use Rattle.record.specs.Promises.{Bytes, RecordsMove, SavesFit, SavedAsRead, ReadAsSaved}
 use Rattle.record.specs.Refusing.{SaveRefusals}
 use Rattle.record.specs.declared.record.Record.{Record}
@@ -57,9 +57,9 @@ saves_fit r b n e = go (way r b)
         omega (arith, bytes_fit r (subst T (sym k) tt))
 
 -- ---- its refusals
-and_false : (x y : Bool) → (x && y) ≡ false → (x ≡ false) ⊎ (y ≡ false)
-and_false true y e = inr e
-and_false false y e = inl refl
+and-false : (x y : Bool) → (x && y) ≡ false → (x ≡ false) ⊎ (y ≡ false)
+and-false true y e = inr e
+and-false false y e = inl refl
 
 false_and : (x y : Bool) → (x ≡ false) ⊎ (y ≡ false) → (x && y) ≡ false
 false_and true y (inl e) = let z : ◌≡◌ {A = ℕ} 0 1 = cc in absurd (omega arith)
@@ -72,15 +72,15 @@ module _ (r : Record) (b : List ℕ) where
   by_20 e (none h k) = let z = same_number (saved r b) limits small_record_buffer (saved_none r b h k).0 e in absurd (omega arith)
   by_20 e (whole h k) = absurd (not_both (saved r b) small_record_buffer _ e (saved_whole r b h k).0)
 
-  by_2 : saved r b ≡ SaveAnswer.Refused limits → Way r b → (record_room ≤ length b) × ((record_ok r ≡ false) ⊎ (none_below_lem r ≡ false))
+  by_2 : saved r b ≡ SaveAnswer.Refused limits → Way r b → (record_room ≤ length b) × ((record_ok r ≡ false) ⊎ (none_below r ≡ false))
   unfolding save_ok
   by_2 e (short h) = let z = same_number (saved r b) small_record_buffer limits (saved_short r b h).0 e in absurd (omega arith)
-  by_2 e (none h k) = (h, and_false (record_ok r) (none_below_lem r) k)
+  by_2 e (none h k) = (h, and-false (record_ok r) (none_below r) k)
   by_2 e (whole h k) = absurd (not_both (saved r b) limits _ e (saved_whole r b h k).0)
 
-  cannot : (record_ok r ≡ false) ⊎ (none_below_lem r ≡ false) → save_ok r ≡ false
+  cannot : (record_ok r ≡ false) ⊎ (none_below r ≡ false) → save_ok r ≡ false
   unfolding save_ok
-  cannot h = false_and (record_ok r) (none_below_lem r) h
+  cannot h = false_and (record_ok r) (none_below r) h
 
   by_none : (k : ℕ) → saved r b ≡ SaveAnswer.Refused k → Way r b → ((k ≡ small_record_buffer) ⊎ (k ≡ limits)) × (saved_in r b ≡ b)
   by_none k e (short h) = (inl (same_number (saved r b) k small_record_buffer e (saved_short r b h).0), (saved_short r b h).1)
@@ -103,7 +103,7 @@ back : (r : Record) → T (save_ok r) → (u t : List ℕ) → read_record (u ++
 unfolding read_record record_from record_if save_ok
 back r h u t =
     let e : drop (length u) (u ++ record_bytes r ++ t) ≡ record_bytes r ++ t = ap (drop (length u)) (append_assoc u (record_bytes r) t) ∙ drop_at u (record_bytes r ++ t) (length u) refl in
-    let o : record_ok r ≡ true = yes (record_ok r) (and_yes (record_ok r) (none_below_lem r) h).0 in
+    let o : record_ok r ≡ true = yes (record_ok r) (and_yes (record_ok r) (none_below r) h).0 in
     rw (e, record_read r t h, record_again r h, o) (ap (RecordAnswer.Record r) (simp length-append (omega arith)))
 
 pub read_as_saved : ReadAsSaved
@@ -128,8 +128,8 @@ from_record n (taken v l) r next e =
     (v, l, refl, h.0, h.1, h.2)
 from_record n (refused k) r next e = let z : ◌≡◌ {A = ℕ} 0 1 = cc in absurd (omega arith)
 
-none_below_lem : (v : List ℕ) → none_below_lem (record_of v) ≡ true
-unfolding none_below_lem record_of
+none_below_lem : (v : List ℕ) → none_below (record_of v) ≡ true
+unfolding none_below record_of
 none_below_lem v = simp leb-zero
 
 -- a record that the reader takes can be saved, and what is left after its bytes stands at the next place

@@ -1,6 +1,6 @@
 -- A record saved: its numbers written and read, one after the other, and the record that they make. Assumes nothing.
 use mathlib.Core.Path.{◌≡◌, refl, sym, ap, ◌∙◌}
-use Prim.Native.Nat.{ℕ, zero, suc, ◌+◌, ◌-◌, ◌*◌, ◌^◌, ◌<◌, ◌≤◌, zero_le}
+use Prim.Native.Nat.{ℕ, zero, suc, ◌+◌, ◌-◌, ◌*◌, ◌^◌, ◌<◌, ◌≤◌, zero-le}
 use native.Mathlib.Nat.{le_refl, le_of_eq}
 use native.Mathlib.Numerals.{add-one}
 use native.Mathlib.Omega.{arith}
@@ -19,7 +19,7 @@ use Rattle.amounts.specs.Amounts.{amount_limit}
 use Rattle.record.specs.Refusals.{small_record_buffer}
 use Rattle.record.specs.Record.{taken, ◌then◌, number, numbers, most_groups, fields, stored, record_of, record_ok}
 use Rattle.buffers.specs.Over.{over}
-use Rattle.record.specs.Save.{in_groups, all_in_groups, numbers_of, record_bytes, none_below_lem, save_ok, record_room, saved_if, saved_in_if, saved, saved_in}
+use Rattle.record.specs.Save.{in_groups, all_in_groups, numbers_of, record_bytes, none_below, save_ok, record_room, saved_if, saved_in_if, saved, saved_in}
 use Rattle.record.specs.Promises.{Bytes}
 use Rattle.record.specs.declared.record.Record.{Record}
 use Rattle.record.specs.declared.save.SaveAnswer.TheVariants as SaveAnswer
@@ -49,7 +49,7 @@ pub record Saving (v l out : List ℕ) (at i : ℕ) : Type 0 where
 
 pub saving_none : (v l : List ℕ) → Saving v l l 0 0
 unfolding all_in_groups
-saving_none v l = record { few = zero_le; wrote = wrote_none l }
+saving_none v l = record { few = zero-le; wrote = wrote_none l }
 
 module _ (v l out : List ℕ) (at i : ℕ) (fits : length (all_in_groups v) ≤ length l) (g : Saving v l out at i) where
   pub saving_length : length out ≡ length l
@@ -175,9 +175,9 @@ seven m v r k a l s h =
     (b1.0, b1.1, b2.1, b3.1, b4.1, b5.1, b6.1)
 
 pub not_below : (r : Record) → T (save_ok r) → NotBelow r
-unfolding save_ok none_below_lem
+unfolding save_ok none_below
 not_below r h =
-    let p = seven (le_z (pos 0) r.mid_price) (le_z (pos 0) r.volatility) (le_z (pos 0) r.risk_aversion) (le_z (pos 0) r.order_intensity_k) (le_z (pos 0) r.intensity_scale_a) (le_z (pos 0) r.lot_size) (le_z (pos 0) r.min_spread) (and_yes (record_ok r) (none_below_lem r) h).1 in
+    let p = seven (le_z (pos 0) r.mid_price) (le_z (pos 0) r.volatility) (le_z (pos 0) r.risk_aversion) (le_z (pos 0) r.order_intensity_k) (le_z (pos 0) r.intensity_scale_a) (le_z (pos 0) r.lot_size) (le_z (pos 0) r.min_spread) (and_yes (record_ok r) (none_below r) h).1 in
     record { mid = p.0; volatility = p.1; risk = p.2; k = p.3; scale = p.4; lot = p.5; spread = p.6 }
 
 pos_again : (z : ℤ) → T (le_z (pos 0) z) → pos (nat_abs z) ≡ z
@@ -193,7 +193,7 @@ record_again r h =
 -- ---- a record within its limits has numbers that the groups hold, and fits the least buffer
 pub limits_kept : (r : Record) → T (save_ok r) → Bounds (numbers_of r)
 unfolding save_ok
-limits_kept r h = bounds (numbers_of r) (rw (record_again r h) (and_yes (record_ok r) (none_below_lem r) h).0)
+limits_kept r h = bounds (numbers_of r) (rw (record_again r h) (and_yes (record_ok r) (none_below r) h).0)
 
 pub holding_kept : (r : Record) → T (save_ok r) → nat_abs r.inventory ≤ amount_limit
 unfolding numbers_of

@@ -3,7 +3,7 @@ use Rattle.std.specs.Prelude.{◌≡◌, ◌⊎◌, ◌↔◌, ℕ, suc, ◌-◌
 use Rattle.amounts.specs.Refusals.{limits}
 use Rattle.record.specs.Refusals.{cut_short, malformed, small_record_buffer}
 use Rattle.record.specs.Record.{taken, most_groups, numbers, fields, record_of, record_ok, read_record, numbers_answer, numbers_left}
-use Rattle.record.specs.Save.{none_below_lem, record_room, saved, saved_in}
+use Rattle.record.specs.Save.{none_below, record_room, saved, saved_in}
 use Rattle.record.specs.declared.record.Record.{Record}
 use Rattle.record.specs.declared.record.NumbersAnswer.TheVariants as NumbersAnswer
 use Rattle.record.specs.declared.record.RecordAnswer.TheVariants as RecordAnswer
@@ -66,5 +66,5 @@ RecordSkips = (s : List ℕ) (at k next : ℕ) → (read_record s at ≡ RecordA
 abbrev pub SaveRefusals : Type 0
 SaveRefusals = (r : Record) (b : List ℕ)
     → ((saved r b ≡ SaveAnswer.Refused small_record_buffer) ↔ (length b < record_room))
-    × ((saved r b ≡ SaveAnswer.Refused limits) ↔ ((record_room ≤ length b) × ((record_ok r ≡ false) ⊎ (none_below_lem r ≡ false))))
+    × ((saved r b ≡ SaveAnswer.Refused limits) ↔ ((record_room ≤ length b) × ((record_ok r ≡ false) ⊎ (none_below r ≡ false))))
     × ((k : ℕ) → saved r b ≡ SaveAnswer.Refused k → ((k ≡ small_record_buffer) ⊎ (k ≡ limits)) × (saved_in r b ≡ b))

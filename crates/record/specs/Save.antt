@@ -44,13 +44,13 @@ unfoldable pub record_bytes : Record → List ℕ
 record_bytes r = all_in_groups (numbers_of r)
 
 -- ---- what can be saved: every number within its limit, and none below zero but the holding, or 2
-unfoldable pub none_below_lem : Record → Bool
-none_below_lem r =
+unfoldable pub none_below : Record → Bool
+none_below r =
     le_z (pos 0) r.mid_price && le_z (pos 0) r.volatility && le_z (pos 0) r.risk_aversion && le_z (pos 0) r.order_intensity_k
     && le_z (pos 0) r.intensity_scale_a && le_z (pos 0) r.lot_size && le_z (pos 0) r.min_spread
 
 unfoldable pub save_ok : Record → Bool
-save_ok r = record_ok r && none_below_lem r
+save_ok r = record_ok r && none_below r
 
 -- ---- the least buffer for a record: the most groups for each of its numbers, 88 bytes
 abbrev pub record_room : ℕ

@@ -3,7 +3,7 @@ ghost use Rattle.std.specs.Prelude.{◌≡◌, ◌≤◌, length, T};
 ghost use Rattle.amounts.specs.Amounts.{amount_ok};
 ghost use Rattle.record.specs.Record.{fields, stored};
 ghost use Rattle.buffers.specs.Over.{over};
-ghost use Rattle.record.specs.Save.{in_groups, all_in_groups, numbers_of, none_below_lem, save_ok, saved, saved_in};
+ghost use Rattle.record.specs.Save.{in_groups, all_in_groups, numbers_of, none_below, save_ok, saved, saved_in};
 
 use crate::record::{FIELDS, MOST_GROUPS, Record, config_of};
 use crate::refusals::SMALL_RECORD_BUFFER;
@@ -87,7 +87,7 @@ fn numbers_of(r: Record) -> [u64; FIELDS]
 
 // Whether no amount but the holding is below zero.
 fn none_below_lem(r: Record) -> bool
-    ensures { result ≡ none_below_lem r }
+    ensures { result ≡ none_below r }
 {
     (0 <= r.mid_price)
         & (0 <= r.volatility)

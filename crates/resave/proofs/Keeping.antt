@@ -1,6 +1,6 @@
 -- What is kept of a sheet, record by record: a loop that writes it, and the statement. Assumes nothing.
 use mathlib.Core.Path.{◌≡◌, refl, sym, ap, ◌∙◌}
-use Prim.Native.Nat.{ℕ, zero, suc, ◌+◌, ◌-◌, ◌<◌, ◌≤◌, zero_le}
+use Prim.Native.Nat.{ℕ, zero, suc, ◌+◌, ◌-◌, ◌<◌, ◌≤◌, zero-le}
 use native.Mathlib.Nat.{le_refl}
 use native.Mathlib.Omega.{arith}
 use mathlib.Core.List.{List, [], ◌++◌, append_assoc, append-nil}
@@ -21,7 +21,7 @@ use Rattle.record.specs.declared.record.RecordAnswer.TheVariants as RecordAnswer
 use Rattle.buffers.proofs.Texts.{Wrote, wrote_none, wrote_length, wrote_part}
 use Rattle.record.proofs.Refusing.{record_refusals}
 use Rattle.record.proofs.Saved.{records_move, taken_moves, taken_bytes}
-use Rattle.resave.specs.Resave.{piece, onward, kept_from_lem, kept_if, kept, Taken, here, further, KeptUpTo}
+use Rattle.resave.specs.Resave.{piece, onward, kept_from, kept_if, kept, Taken, here, further, KeptUpTo}
 
 -- ---- from the end on nothing is kept
 stopped_end : Stopped [] cut_short
@@ -31,8 +31,8 @@ stopped_end = by_6 {n = 0} (lit< tt) at_once (refl, lit< tt)
 past_end : (s : List ℕ) (at : ℕ) → length s ≤ at → read_record s at ≡ RecordAnswer.Refused cut_short
 past_end s at h = (record_refusals s at cut_short).1 (rw (drop_of_length-le s h) stopped_end)
 
-kept_none : (k : ℕ) (s : List ℕ) (at : ℕ) → length s ≤ at → kept_from_lem k s at ≡ []
-unfolding kept_from_lem piece onward
+kept_none : (k : ℕ) (s : List ℕ) (at : ℕ) → length s ≤ at → kept_from k s at ≡ []
+unfolding kept_from piece onward
 kept_none zero s at h = refl
 kept_none (suc k) s at h = rw (past_end s at h) (kept_none k s (length s) (le_refl (length s)))
 
@@ -60,13 +60,13 @@ pub record Keeping (s l out : List ℕ) (n at : ℕ) : Type 0 where
   pub enough : length s ≤ at + turns
   pub so_far : List ℕ
   pub wrote : Wrote l so_far out n
-  pub whole : so_far ++ kept_from_lem turns s at ≡ kept_from_lem (length s) s 0
+  pub whole : so_far ++ kept_from turns s at ≡ kept_from (length s) s 0
 
 pub keeping_none : (s l : List ℕ) → Keeping s l l 0 0
 keeping_none s l =
     record {
-      within = zero_le;
-      short = zero_le;
+      within = zero-le;
+      short = zero-le;
       turns = length s;
       enough = omega arith;
       so_far = [];
@@ -82,8 +82,8 @@ module _ (s l out : List ℕ) (n at : ℕ) (most : length s ≤ most_bytes) (roo
 
   -- a turn: what is kept of the record at the place goes into the part of the buffer after the n bytes
   module _ (bytes : Bytes s) (more : at < length s) where
-    kept_more : (k : ℕ) → g.turns ≡ suc k → g.so_far ++ piece (read_record s at) ++ kept_from_lem k s (onward (length s) (read_record s at)) ≡ kept_from_lem (length s) s 0
-    unfolding kept_from_lem
+    kept_more : (k : ℕ) → g.turns ≡ suc k → g.so_far ++ piece (read_record s at) ++ kept_from k s (onward (length s) (read_record s at)) ≡ kept_from (length s) s 0
+    unfolding kept_from
     kept_more k e = append_assoc g.so_far (piece (read_record s at)) _ ∙ rw e at g.whole
 
     pub keeping_less : (next : ℕ) → next ≡ onward (length s) (read_record s at) → (at < next) × (next ≤ length s)
@@ -124,14 +124,14 @@ ordered : {s : List ℕ} {at p : ℕ} → Taken s at p → at ≤ p
 ordered here = le_refl _
 ordered {s} {at} (further {next = next} r e t) = omega (arith, taken_moves s at r next e, ordered t)
 
-kept_stop : (k j : ℕ) (s : List ℕ) (at : ℕ) → read_record s at ≡ RecordAnswer.Refused j → kept_from_lem k s at ≡ []
-unfolding kept_from_lem piece onward
+kept_stop : (k j : ℕ) (s : List ℕ) (at : ℕ) → read_record s at ≡ RecordAnswer.Refused j → kept_from k s at ≡ []
+unfolding kept_from piece onward
 kept_stop zero j s at e = refl
 kept_stop (suc k) j s at e = rw e (kept_none k s (length s) (le_refl (length s)))
 
 -- d bytes from a place on
-kept_from_lem : {s : List ℕ} {at p : ℕ} (k j d : ℕ) → Bytes s → length s ≤ at + k → p ≡ at + d → Taken s at p → read_record s p ≡ RecordAnswer.Refused j → kept_from_lem k s at ≡ take d (drop at s)
-unfolding kept_from_lem piece onward
+kept_from_lem : {s : List ℕ} {at p : ℕ} (k j d : ℕ) → Bytes s → length s ≤ at + k → p ≡ at + d → Taken s at p → read_record s p ≡ RecordAnswer.Refused j → kept_from k s at ≡ take d (drop at s)
+unfolding kept_from piece onward
 kept_from_lem {s} {at} k j d h n q here e = let z : d ≡ 0 = omega arith in rw z (kept_stop k j s at e)
 kept_from_lem {s} {at} zero j d h n q (further {next = next} r i t) e = absurd (omega (arith, taken_moves s at r next i))
 kept_from_lem {s} {at} (suc k) j d h n q (further {next = next} r i t) e =

@@ -22,13 +22,13 @@ onward n (RecordAnswer.Skipped k next) = next
 onward n (RecordAnswer.Refused k) = n
 
 -- ---- from a place on; a record takes a byte at least, so as many turns as bytes are enough
-unfoldable pub kept_from_lem : ℕ → List ℕ → ℕ → List ℕ
-kept_from_lem zero s at = []
-kept_from_lem (suc k) s at = let a = read_record s at in piece a ++ kept_from_lem k s (onward (length s) a)
+unfoldable pub kept_from : ℕ → List ℕ → ℕ → List ℕ
+kept_from zero s at = []
+kept_from (suc k) s at = let a = read_record s at in piece a ++ kept_from k s (onward (length s) a)
 
 -- is the sheet no longer than the longest; of one that is longer nothing is kept
 unfoldable pub kept_if : Bool → List ℕ → List ℕ
-kept_if true s = kept_from_lem (length s) s 0
+kept_if true s = kept_from (length s) s 0
 kept_if false s = []
 
 unfoldable pub kept : List ℕ → List ℕ

@@ -18,8 +18,8 @@ use Rattle.lines.specs.Refusals.{small_buffer}
 use Rattle.lines.specs.Lines.{least_room, has_room}
 use Rattle.ladders.specs.Refusals.{small_ladder_buffer}
 use Rattle.sheet.specs.Sheet.{Step, line, end, answered, left, refuse}
-use Rattle.sheet.specs.Kinds.{room_of_lem, text_at}
-use Rattle.sheet.specs.Inner.{text_in_lem}
+use Rattle.sheet.specs.Kinds.{room_of, text_at}
+use Rattle.sheet.specs.Inner.{text_in}
 use Rattle.sheet.specs.Fill.{Fill, up_to, after, fill_by, fill, filled_if, left_if, filled_as, left_as}
 use Rattle.sheet.specs.declared.text.Kind.{Kind}
 use Rattle.sheet.specs.declared.line.LineAnswer.{LineAnswer}
@@ -36,14 +36,14 @@ done (suc j) false x k s at room e = refl
 done (suc j) true x k s at room e = rw e
 
 enough : (i j : ℕ) (k : Kind) (s : List ℕ) (at room : ℕ) → length s ≤ i + at → length s ≤ j + at
-    → fill_by i (leb (room_of_lem k) room) (text_at k s at) k s at room ≡ fill_by j (leb (room_of_lem k) room) (text_at k s at) k s at room
+    → fill_by i (leb (room_of k) room) (text_at k s at) k s at room ≡ fill_by j (leb (room_of k) room) (text_at k s at) k s at room
 unfolding fill_by
-enough zero j k s at room h g = sym (done j (leb (room_of_lem k) room) (text_at k s at) k s at room (text_end k s at (omega arith)))
-enough (suc i) zero k s at room h g = done (suc i) (leb (room_of_lem k) room) (text_at k s at) k s at room (text_end k s at (omega arith))
-enough (suc i) (suc j) k s at room h g = go (leb (room_of_lem k) room) (text_at k s at) refl (λ next rest m. enough i j k s next rest (omega arith) (omega arith))
+enough zero j k s at room h g = sym (done j (leb (room_of k) room) (text_at k s at) k s at room (text_end k s at (omega arith)))
+enough (suc i) zero k s at room h g = done (suc i) (leb (room_of k) room) (text_at k s at) k s at room (text_end k s at (omega arith))
+enough (suc i) (suc j) k s at room h g = go (leb (room_of k) room) (text_at k s at) refl (λ next rest m. enough i j k s next rest (omega arith) (omega arith))
   where
     go : (b : Bool) (x : Step) → text_at k s at ≡ x
-        → ((next rest : ℕ) → at < next → fill_by i (leb (room_of_lem k) rest) (text_at k s next) k s next rest ≡ fill_by j (leb (room_of_lem k) rest) (text_at k s next) k s next rest)
+        → ((next rest : ℕ) → at < next → fill_by i (leb (room_of k) rest) (text_at k s next) k s next rest ≡ fill_by j (leb (room_of k) rest) (text_at k s next) k s next rest)
         → fill_by (suc i) b x k s at room ≡ fill_by (suc j) b x k s at room
     go false x e f = refl
     go true end e f = refl
@@ -52,9 +52,9 @@ enough (suc i) (suc j) k s at room h g = go (leb (room_of_lem k) room) (text_at 
 
 -- ---- a fill by its first step
 module _ (k : Kind) (s : List ℕ) (at room : ℕ) where
-  pub fill_full : room < room_of_lem k → fill k s at room ≡ up_to [] at
+  pub fill_full : room < room_of k → fill k s at room ≡ up_to [] at
   unfolding fill fill_by
-  fill_full h = rw (lt-leb (room_of_lem k) room h) (full (length s))
+  fill_full h = rw (lt-leb (room_of k) room h) (full (length s))
     where
       full : (j : ℕ) → fill_by j false (text_at k s at) k s at room ≡ up_to [] at
       full zero = refl
@@ -62,15 +62,15 @@ module _ (k : Kind) (s : List ℕ) (at room : ℕ) where
 
   pub fill_end : text_at k s at ≡ end → fill k s at room ≡ up_to [] at
   unfolding fill
-  fill_end e = done (length s) (leb (room_of_lem k) room) (text_at k s at) k s at room e
+  fill_end e = done (length s) (leb (room_of k) room) (text_at k s at) k s at room e
 
-  pub fill_text : (t : List ℕ) (next : ℕ) → room_of_lem k ≤ room → text_at k s at ≡ line t next → fill k s at room ≡ after t (fill k s next (room - length t))
+  pub fill_text : (t : List ℕ) (next : ℕ) → room_of k ≤ room → text_at k s at ≡ line t next → fill k s at room ≡ after t (fill k s next (room - length t))
   unfolding fill fill_by
   fill_text t next h e =
-      rw (le-leb (room_of_lem k) room h, e)
+      rw (le-leb (room_of k) room h, e)
       (go (length s) (text_before k s at t next e) (λ j g. enough j (length s) k s next (room - length t) (omega (arith, (texts_move k s at t next e).0)) (omega arith)))
     where
-      go : (i : ℕ) → at < i → ((j : ℕ) → i ≡ suc j → fill_by j (leb (room_of_lem k) (room - length t)) (text_at k s next) k s next (room - length t) ≡ fill k s next (room - length t))
+      go : (i : ℕ) → at < i → ((j : ℕ) → i ≡ suc j → fill_by j (leb (room_of k) (room - length t)) (text_at k s next) k s next (room - length t) ≡ fill k s next (room - length t))
           → fill_by i true (line t next) k s at room ≡ after t (fill k s next (room - length t))
       go zero p f = absurd (omega arith)
       go (suc j) p f = ap (after t) (f j refl)
@@ -118,15 +118,15 @@ module _ (k : Kind) (s : List ℕ) (at : ℕ) (l out : List ℕ) (n next : ℕ) 
   filling_length = wrote_length l f.text out n f.wrote f.room
 
   -- it has the room, so the text in it is the one at the place
-  part_is : room_of_lem k ≤ length out - n → text_in_lem k (length part) s next ≡ text_at k s next
+  part_is : room_of k ≤ length out - n → text_in k (length part) s next ≡ text_at k s next
   part_is h = with_room k (length part) s next (rw (mid_len n (length out) out (le_refl (length out))) h)
 
   -- a text more
-  pub text_added : (b : Bool) (j place : ℕ) (back : List ℕ) → room_of_lem k ≤ length out - n → LineAnswer.Written j place ≡ answered b (text_in_lem k (length part) s next)
-      → back ≡ left b (text_in_lem k (length part) s next) part
+  pub text_added : (b : Bool) (j place : ℕ) (back : List ℕ) → room_of k ≤ length out - n → LineAnswer.Written j place ≡ answered b (text_in k (length part) s next)
+      → back ≡ left b (text_in k (length part) s next) part
       → (n + j ≤ length l) × (next < place) × (place ≤ length s) × Filling k s at l (put_mid n (length out - n) out back) (n + j) place
   text_added b j place back h e o =
-      let w = text_in_lem b (text_in_lem k (length part) s next) j place part back e o in
+      let w = text_in_lem b (text_in k (length part) s next) j place part back e o in
       let t = w.0 in
       let x = sym (part_is h) ∙ w.1 in
       let m = texts_move k s next t place x in
@@ -144,17 +144,17 @@ module _ (k : Kind) (s : List ℕ) (at : ℕ) (l out : List ℕ) (n next : ℕ) 
       )
 
   -- nothing more: no room, or no text
-  filling_done : least_room ≤ length l → room_of_lem k ≤ length l → fill k s next (length l - n) ≡ up_to [] next → (FillAnswer.Filled n next ≡ filled_as k s at l) × (out ≡ left_as k s at l)
+  filling_done : least_room ≤ length l → room_of k ≤ length l → fill k s next (length l - n) ≡ up_to [] next → (FillAnswer.Filled n next ≡ filled_as k s at l) × (out ≡ left_as k s at l)
   unfolding filled_if left_if after
   filling_done h g e =
-      rw (le-leb least_room (length l) h, le-leb (room_of_lem k) (length l) g, f.so_far, e, append-nil f.text) (ap (λ (j : ℕ). FillAnswer.Filled j next) f.wrote.up_to_lem, f.wrote.is)
+      rw (le-leb least_room (length l) h, le-leb (room_of k) (length l) g, f.so_far, e, append-nil f.text) (ap (λ (j : ℕ). FillAnswer.Filled j next) f.wrote.up_to_lem, f.wrote.is)
 
-  pub filling_full : least_room ≤ length l → room_of_lem k ≤ length l → length out - n < room_of_lem k → (FillAnswer.Filled n next ≡ filled_as k s at l) × (out ≡ left_as k s at l)
+  pub filling_full : least_room ≤ length l → room_of k ≤ length l → length out - n < room_of k → (FillAnswer.Filled n next ≡ filled_as k s at l) × (out ≡ left_as k s at l)
   filling_full h g m = filling_done h g (fill_full k s next (length l - n) (omega (arith, filling_length)))
 
   -- the answer is no text, so the sheet is at its end
-  pub filling_end : (r : LineAnswer) (back : List ℕ) → least_room ≤ length l → room_of_lem k ≤ length l → room_of_lem k ≤ length out - n → OneOf (1 ∷ 2 ∷ []) (tag_of the_type r)
-      → r ≡ answered (has_room part) (text_in_lem k (length part) s next) → back ≡ left (has_room part) (text_in_lem k (length part) s next) part
+  pub filling_end : (r : LineAnswer) (back : List ℕ) → least_room ≤ length l → room_of k ≤ length l → room_of k ≤ length out - n → OneOf (1 ∷ 2 ∷ []) (tag_of the_type r)
+      → r ≡ answered (has_room part) (text_in k (length part) s next) → back ≡ left (has_room part) (text_in k (length part) s next) part
       → (FillAnswer.Filled n next ≡ filled_as k s at l) × (put_mid n (length out - n) out back ≡ left_as k s at l)
   unfolding left
   filling_end r back h g m c e o =
@@ -171,6 +171,6 @@ module _ (k : Kind) (s : List ℕ) (at : ℕ) (l : List ℕ) where
   unfolding filled_if left_if
   no_fill h = rw (lt-leb least_room (length l) h) (refl, refl)
 
-  pub short_fill : least_room ≤ length l → length l < room_of_lem k → (FillAnswer.Refused small_ladder_buffer ≡ filled_as k s at l) × (l ≡ left_as k s at l)
+  pub short_fill : least_room ≤ length l → length l < room_of k → (FillAnswer.Refused small_ladder_buffer ≡ filled_as k s at l) × (l ≡ left_as k s at l)
   unfolding filled_if left_if
-  short_fill h g = rw (le-leb least_room (length l) h, lt-leb (room_of_lem k) (length l) g) (refl, refl)
+  short_fill h g = rw (le-leb least_room (length l) h, lt-leb (room_of k) (length l) g) (refl, refl)

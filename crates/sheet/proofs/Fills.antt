@@ -12,7 +12,7 @@ use borrow.Author.Tests.{le-leb, leb-true, ltb-true, ltb-false}
 use Rattle.buffers.specs.Over.{over}
 use Rattle.lines.specs.Lines.{least_room, has_room}
 use Rattle.sheet.specs.Sheet.{Step, line, end, refuse}
-use Rattle.sheet.specs.Kinds.{room_of_lem, text_at}
+use Rattle.sheet.specs.Kinds.{room_of, text_at}
 use Rattle.sheet.specs.Fill.{Fill, up_to, after, fill_by, fill, filled_if, left_if, filled_as, left_as}
 use Rattle.sheet.specs.Promises.{Followed, stepped, ended, FillsFit, FillsMove, FillsEnd, Fills, finished, onward, FillsMakeTheWhole, FillsFinish}
 use Rattle.sheet.specs.declared.text.Kind.{Kind}
@@ -40,13 +40,13 @@ leads_after k s at room t next e h (up_to v place) f =
       λ u g. rw (append_assoc t v u) (stepped e (f.3 u g)),
     )
 
-leads_by : (j : ℕ) (k : Kind) (s : List ℕ) (at room : ℕ) → Leads k s at room (fill_by j (leb (room_of_lem k) room) (text_at k s at) k s at room)
+leads_by : (j : ℕ) (k : Kind) (s : List ℕ) (at room : ℕ) → Leads k s at room (fill_by j (leb (room_of k) room) (text_at k s at) k s at room)
 unfolding fill_by
 leads_by zero k s at room = leads_none k s at room
-leads_by (suc j) k s at room = go (leb (room_of_lem k) room) (leb-true (room_of_lem k) room) (text_at k s at) refl (leads_by j k s)
+leads_by (suc j) k s at room = go (leb (room_of k) room) (leb-true (room_of k) room) (text_at k s at) refl (leads_by j k s)
   where
-    go : (b : Bool) → (b ≡ true → room_of_lem k ≤ room) → (x : Step) → text_at k s at ≡ x
-        → ((next rest : ℕ) → Leads k s next rest (fill_by j (leb (room_of_lem k) rest) (text_at k s next) k s next rest)) → Leads k s at room (fill_by (suc j) b x k s at room)
+    go : (b : Bool) → (b ≡ true → room_of k ≤ room) → (x : Step) → text_at k s at ≡ x
+        → ((next rest : ℕ) → Leads k s next rest (fill_by j (leb (room_of k) rest) (text_at k s next) k s next rest)) → Leads k s at room (fill_by (suc j) b x k s at room)
     go false r x e f = leads_none k s at room
     go true r end e f = leads_none k s at room
     go true r (refuse n) e f = leads_none k s at room
@@ -64,8 +64,8 @@ told true false f n next e = let z : ◌≡◌ {A = ℕ} 0 1 = cc in absurd (ome
 told true true (up_to t p) n next e = let z : p ≡ next = cc in (t, refl, refl, ap (up_to t) z, cc)
 
 module _ (k : Kind) (s : List ℕ) (at : ℕ) (b : List ℕ) (n next : ℕ) (e : filled_as k s at b ≡ FillAnswer.Filled n next) where
-  w : (t : List ℕ) × (has_room b ≡ true) × (leb (room_of_lem k) (length b) ≡ true) × (fill k s at (length b) ≡ up_to t next) × (n ≡ length t)
-  w = told (has_room b) (leb (room_of_lem k) (length b)) (fill k s at (length b)) n next e
+  w : (t : List ℕ) × (has_room b ≡ true) × (leb (room_of k) (length b) ≡ true) × (fill k s at (length b) ≡ up_to t next) × (n ≡ length t)
+  w = told (has_room b) (leb (room_of k) (length b)) (fill k s at (length b)) n next e
 
   led : Leads k s at (length b) (up_to w.0 next)
   led = subst (Leads k s at (length b)) w.3 (leads k s at (length b))
@@ -74,8 +74,8 @@ module _ (k : Kind) (s : List ℕ) (at : ℕ) (b : List ℕ) (n next : ℕ) (e :
   unfolding left_if over
   handed = rw (w.1, w.2, w.3) (take_at w.0 (drop (length w.0) b) n (sym w.4))
 
-  had_room : room_of_lem k ≤ length b
-  had_room = leb-true (room_of_lem k) (length b) w.2
+  had_room : room_of k ≤ length b
+  had_room = leb-true (room_of k) (length b) w.2
 
 pub fills_fit : FillsFit
 unfolding Leads
@@ -130,11 +130,11 @@ some_fill true true (up_to t next) d e = (length t, next, refl)
 some_fill false m (up_to t next) d e = let z : ◌≡◌ {A = ℕ} 0 1 = cc in absurd (omega arith)
 some_fill true false (up_to t next) d e = let z : ◌≡◌ {A = ℕ} 0 1 = cc in absurd (omega arith)
 
-pub fill_there : (k : Kind) (s : List ℕ) (at : ℕ) (b : List ℕ) → room_of_lem k ≤ length b → (n : ℕ) × (next : ℕ) × (filled_as k s at b ≡ FillAnswer.Filled n next)
+pub fill_there : (k : Kind) (s : List ℕ) (at : ℕ) (b : List ℕ) → room_of k ≤ length b → (n : ℕ) × (next : ℕ) × (filled_as k s at b ≡ FillAnswer.Filled n next)
 fill_there k s at b r =
-    some_fill (has_room b) (leb (room_of_lem k) (length b)) (fill k s at (length b)) (le-leb least_room (length b) (le_trans (room_least k) r)) (le-leb (room_of_lem k) (length b) r)
+    some_fill (has_room b) (leb (room_of k) (length b)) (fill k s at (length b)) (le-leb least_room (length b) (le_trans (room_least k) r)) (le-leb (room_of k) (length b) r)
 
-finish : (j : ℕ) (k : Kind) (s b : List ℕ) (at : ℕ) → room_of_lem k ≤ length b → length s ≤ j + at → (t : List ℕ) × Fills k s at t
+finish : (j : ℕ) (k : Kind) (s b : List ℕ) (at : ℕ) → room_of k ≤ length b → length s ≤ j + at → (t : List ℕ) × Fills k s at t
 finish zero k s b at r h = ([], finished {at = at} (omega arith))
 finish (suc j) k s b at r h = go (ltb at (length s)) (ltb-true at (length s)) (ltb-false at (length s)) (λ next m. finish j k s b next r (omega arith))
   where

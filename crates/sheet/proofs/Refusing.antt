@@ -13,7 +13,7 @@ use Rattle.lines.specs.Lines.{least_room, has_room}
 use Rattle.ladders.specs.Refusals.{small_ladder_buffer}
 use Rattle.sheet.proofs.Texts.{line_written}
 use Rattle.sheet.specs.Sheet.{Step, line, end, line_at, answered, refuse}
-use Rattle.sheet.specs.Kinds.{room_of_lem}
+use Rattle.sheet.specs.Kinds.{room_of}
 use Rattle.sheet.specs.Fill.{Fill, up_to, fill, filled_if, left_if}
 use Rattle.sheet.specs.Refusing.{BufferRefusals, FillRefusals}
 use Rattle.sheet.specs.declared.text.Kind.TheVariants as Kind
@@ -54,17 +54,17 @@ unfolding filled_if
 fill_refusals k s at b n = (
   (
     λ e.
-        elim (fill_refused (has_room b) (leb (room_of_lem k) (length b)) (fill k s at (length b)) n e) [
+        elim (fill_refused (has_room b) (leb (room_of k) (length b)) (fill k s at (length b)) n e) [
           | inl h ↦ inl (h.0, leb-false least_room (length b) h.1)
-          | inr h ↦ inr (h.0, leb-true least_room (length b) h.1, leb-false (room_of_lem k) (length b) h.2)
+          | inr h ↦ inr (h.0, leb-true least_room (length b) h.1, leb-false (room_of k) (length b) h.2)
         ],
     λ x.
         elim x [
           | inl h ↦ rw (lt-leb least_room (length b) h.1, h.0)
-          | inr h ↦ rw (le-leb least_room (length b) h.1, lt-leb (room_of_lem k) (length b) h.2, h.0)
+          | inr h ↦ rw (le-leb least_room (length b) h.1, lt-leb (room_of k) (length b) h.2, h.0)
         ],
   ),
-  λ e. fill_left (has_room b) (leb (room_of_lem k) (length b)) (fill k s at (length b)) n b e,
+  λ e. fill_left (has_room b) (leb (room_of k) (length b)) (fill k s at (length b)) n b e,
 )
 
 pub buffer_refusals : BufferRefusals

@@ -13,7 +13,7 @@ use Rattle.lines.specs.Lines.{refusal_line, least_room, has_room, Text, text, re
 use Rattle.lines.specs.declared.line.LineWritten.{LineWritten}
 use Rattle.lines.proofs.Written.{line_is}
 use Rattle.record.specs.declared.record.RecordAnswer.TheVariants as RecordAnswer
-use Rattle.sheet.specs.Inner.{stepped_by_lem}
+use Rattle.sheet.specs.Inner.{stepped_by}
 use Rattle.sheet.specs.Sheet.{most_bytes, line_text, Step, line, end, refuse, step_by, step_of, step_if, step_at, line_at, answered, left}
 use Rattle.record.specs.declared.record.Record.{Record}
 use Rattle.record.specs.declared.record.RecordAnswer.{RecordAnswer}
@@ -51,19 +51,19 @@ unfolding answered left
 no_line t l h e = rw (le-leb least_room (length l) h, e) (refl, refl)
 
 -- by what a writer answers, and leaves
-by_text : (x : Text) (next : ℕ) (l : List ℕ) → (stepped_by_lem (wrote x) next ≡ answered true (step_by x next)) × (text_left x l ≡ left true (step_by x next) l)
-unfolding stepped_by_lem wrote text_left step_by answered left
+by_text : (x : Text) (next : ℕ) (l : List ℕ) → (stepped_by (wrote x) next ≡ answered true (step_by x next)) × (text_left x l ≡ left true (step_by x next) l)
+unfolding stepped_by wrote text_left step_by answered left
 by_text (text t) next l = (refl, refl)
 by_text (refusal n) next l = (refl, refl)
 
 pub one_text : (t : Step) (x : Text) (next : ℕ) (l out : List ℕ) (w : LineWritten) → least_room ≤ length l → t ≡ step_by x next → w ≡ wrote x → out ≡ text_left x l
-    → (stepped_by_lem w next ≡ answered (has_room l) t) × (out ≡ left (has_room l) t l)
+    → (stepped_by w next ≡ answered (has_room l) t) × (out ≡ left (has_room l) t l)
 one_text t x next l out w h e k o =
     let b = by_text x next l in
-    rw (le-leb least_room (length l) h, e) (ap (λ (v : LineWritten). stepped_by_lem v next) k ∙ b.0, o ∙ b.1)
+    rw (le-leb least_room (length l) h, e) (ap (λ (v : LineWritten). stepped_by v next) k ∙ b.0, o ∙ b.1)
 
 pub one_line : (t : Step) (u : List ℕ) (next : ℕ) (l out : List ℕ) (w : LineWritten) → least_room ≤ length l → t ≡ line u next → w ≡ wrote (line_for u l) → out ≡ text_left (line_for u l) l
-    → (stepped_by_lem w next ≡ answered (has_room l) t) × (out ≡ left (has_room l) t l)
+    → (stepped_by w next ≡ answered (has_room l) t) × (out ≡ left (has_room l) t l)
 unfolding step_by
 one_line t u next l out w h e k o =
     let x = line_is u l h in

@@ -19,8 +19,8 @@ use Rattle.sheet.specs.Refusals.{long_sheet}
 use Rattle.sheet.specs.Sheet.{most_bytes, record_line, line, end, refuse, step_by, step_of, step_if, step_at, line_at, printed}
 use Rattle.sheet.specs.Ladders.{ladder_at}
 use Rattle.sheet.specs.Horizon.{plan_at}
-use Rattle.sheet.specs.Kinds.{is_flat, room_of_lem, text_of, whole_text, text_at, printed_as}
-use Rattle.sheet.specs.Inner.{record_text, text_in_lem}
+use Rattle.sheet.specs.Kinds.{is_flat, room_of, text_of, whole_text, text_at, printed_as}
+use Rattle.sheet.specs.Inner.{record_text, text_in}
 use Rattle.sheet.specs.Promises.{LinesFit, LinesMove, TextsStand, TextsFit, TextsMove, TextsDue}
 use Rattle.sheet.specs.declared.text.Kind.{Kind}
 use Rattle.sheet.specs.declared.text.Kind.TheVariants as Kind
@@ -42,26 +42,26 @@ at_same true false f g h n a = refl
 at_same true true f g h n a = step_same f g h n a
 
 -- ---- what `next_text` writes is the line, the ladder or the plan
-pub as_line : (room : ℕ) (s : List ℕ) (at : ℕ) → text_in_lem Kind.Line room s at ≡ line_at s at
+pub as_line : (room : ℕ) (s : List ℕ) (at : ℕ) → text_in Kind.Line room s at ≡ line_at s at
 unfolding line_at step_at record_text
 as_line room s at = rw (as_it_is s at) (at_same _ _ _ _ (λ r. refl) _ _)
 
-pub as_ladder : (room : ℕ) (s : List ℕ) (at : ℕ) → text_in_lem Kind.Ladder room s at ≡ ladder_at room s at
+pub as_ladder : (room : ℕ) (s : List ℕ) (at : ℕ) → text_in Kind.Ladder room s at ≡ ladder_at room s at
 unfolding ladder_at step_at record_text
 as_ladder room s at = at_same _ _ _ _ (λ r. refl) _ _
 
-pub as_plan : (room : ℕ) (s : List ℕ) (at : ℕ) → text_in_lem Kind.Plan room s at ≡ plan_at s at
+pub as_plan : (room : ℕ) (s : List ℕ) (at : ℕ) → text_in Kind.Plan room s at ≡ plan_at s at
 unfolding plan_at step_at record_text
 as_plan room s at = rw (as_it_is s at) (at_same _ _ _ _ (λ r. refl) _ _)
 
 -- ---- with the room for any, a text does not depend on the room
-whole : (k : Kind) (room : ℕ) → room_of_lem k ≤ room → (r : Record) → record_text k room r ≡ whole_text k r
+whole : (k : Kind) (room : ℕ) → room_of k ≤ room → (r : Record) → record_text k room r ≡ whole_text k r
 unfolding record_text text_of
 whole Kind.Line room h r = refl
 whole Kind.Ladder room h r = record_whole room h r
 whole Kind.Plan room h r = refl
 
-pub with_room : (k : Kind) (room : ℕ) (s : List ℕ) (at : ℕ) → room_of_lem k ≤ room → text_in_lem k room s at ≡ text_at k s at
+pub with_room : (k : Kind) (room : ℕ) (s : List ℕ) (at : ℕ) → room_of k ≤ room → text_in k room s at ≡ text_at k s at
 unfolding text_at step_at
 with_room k room s at h = at_same _ _ _ _ (whole k room h) _ _
 
@@ -78,12 +78,12 @@ texts_stand = record {
 }
 
 -- ---- the room
-pub room_least : (k : Kind) → least_room ≤ room_of_lem k
+pub room_least : (k : Kind) → least_room ≤ room_of k
 room_least Kind.Line = omega arith
 room_least Kind.Ladder = omega arith
 room_least Kind.Plan = omega arith
 
-pub room_most : (k : Kind) → room_of_lem k ≤ most_ladder
+pub room_most : (k : Kind) → room_of k ≤ most_ladder
 room_most Kind.Line = omega arith
 room_most Kind.Ladder = omega arith
 room_most Kind.Plan = omega arith
@@ -92,19 +92,19 @@ line_most : (r : Record) → length (record_line r) ≤ least_room
 unfolding record_line
 line_most r = reply_most _ (replies_kept r.mid_price r.inventory (config_of r) r.volatility r.current_time)
 
-pub text_most : (k : Kind) (r : Record) → length (text_of k r) ≤ room_of_lem k
+pub text_most : (k : Kind) (r : Record) → length (text_of k r) ≤ room_of k
 unfolding text_of
 text_most Kind.Line r = line_most r
 text_most Kind.Ladder r = whole_most r
 text_most Kind.Plan r = plan_most r
 
-pub number_most : (k : Kind) (n : ℕ) → n < 256 → length (refusal_line n) ≤ room_of_lem k
+pub number_most : (k : Kind) (n : ℕ) → n < 256 → length (refusal_line n) ≤ room_of k
 number_most k n h = le_trans (refusal_most n h) (room_least k)
 
 -- ---- at a place of a sheet
 module _ (k : Kind) (s : List ℕ) (at : ℕ) where
   abbrev Fits : List ℕ → Type 0
-  Fits t = length t ≤ room_of_lem k
+  Fits t = length t ≤ room_of k
 
   fits : (r : Record) (t : List ℕ) → whole_text k r ≡ text t → Fits t
   fits r t e = let z : text_of k r ≡ t = cc in subst Fits z (text_most k r)

@@ -15,7 +15,7 @@ use Rattle.record.proofs.Left.{next_moves, next_left}
 use Rattle.lines.specs.Lines.{refusal_line}
 use Rattle.sheet.specs.Refusals.{long_sheet}
 use Rattle.sheet.specs.Sheet.{most_bytes, line, step_of, step_by, first, head_if, head_by, head_of, texts, printed_if, printed_by}
-use Rattle.sheet.specs.Kinds.{is_flat, room_of_lem, text_of, whole_text, text_at, printed_as}
+use Rattle.sheet.specs.Kinds.{is_flat, room_of, text_of, whole_text, text_at, printed_as}
 use Rattle.sheet.specs.Promises.{Followed, StepsMakeTheWhole, PrintedBounded}
 use Rattle.sheet.specs.Promises as Promises
 use Rattle.sheet.specs.declared.text.Kind.{Kind}
@@ -87,17 +87,17 @@ steps_make_the_whole k s = go (leb (length s) most_bytes) (leb-true (length s) m
     go false f g = last_text k s 0 (refusal_line long_sheet) (text_long k s 0 (omega (arith, g refl)) (g refl))
 
 -- ---- the bound: a text for each byte
-followed_most : {k : Kind} {s : List ℕ} {at : ℕ} {v : List ℕ} → Followed k s at v → length v ≤ (length s - at) * room_of_lem k
+followed_most : {k : Kind} {s : List ℕ} {at : ℕ} {v : List ℕ} → Followed k s at v → length v ≤ (length s - at) * room_of k
 followed_most (Promises.ended e) = omega arith
 followed_most {k} {s} {at} (Promises.stepped {next = next} {t = t} {u = u} e f) =
     let m = texts_move k s at t next e in
-    let more : suc (length s - next) * room_of_lem k ≤ (length s - at) * room_of_lem k = mul-le-mul_right (room_of_lem k) (omega arith) in
-    rw (length-append t u) (omega (arith, texts_fit k s at t next e, followed_most f, suc-mul (length s - next) (room_of_lem k)))
+    let more : suc (length s - next) * room_of k ≤ (length s - at) * room_of k = mul-le-mul_right (room_of k) (omega arith) in
+    rw (length-append t u) (omega (arith, texts_fit k s at t next e, followed_most f, suc-mul (length s - next) (room_of k)))
 
 pub printed_bounded : PrintedBounded
 unfolding printed_as printed_by printed_if
 printed_bounded k s = go (leb (length s) most_bytes) (leb-true (length s) most_bytes) refl
   where
-    go : (m : Bool) → (m ≡ true → length s ≤ most_bytes) → leb (length s) most_bytes ≡ m → length (printed_if (leb (length s) most_bytes) (text_of k) (is_flat k) s) ≤ most_bytes * room_of_lem k
-    go true f e = le_trans (followed_most (steps_make_the_whole k s)) (mul-le-mul_right (room_of_lem k) (omega (arith, f refl)))
+    go : (m : Bool) → (m ≡ true → length s ≤ most_bytes) → leb (length s) most_bytes ≡ m → length (printed_if (leb (length s) most_bytes) (text_of k) (is_flat k) s) ≤ most_bytes * room_of k
+    go true f e = le_trans (followed_most (steps_make_the_whole k s)) (mul-le-mul_right (room_of k) (omega (arith, f refl)))
     go false f e = rw e (omega (arith, number_most k long_sheet (lit< tt)))

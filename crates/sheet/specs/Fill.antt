@@ -5,7 +5,7 @@ use Rattle.ladders.specs.Refusals.{small_ladder_buffer}
 use Rattle.buffers.specs.Over.{over}
 use Rattle.lines.specs.Lines.{has_room}
 use Rattle.sheet.specs.Sheet.{Step, line, end, refuse}
-use Rattle.sheet.specs.Kinds.{room_of_lem, text_at}
+use Rattle.sheet.specs.Kinds.{room_of, text_at}
 use Rattle.sheet.specs.declared.text.Kind.{Kind}
 use Rattle.sheet.specs.declared.text.Kind.TheVariants as Kind
 use Rattle.sheet.specs.declared.fill.FillAnswer.{FillAnswer}
@@ -25,11 +25,11 @@ fill_by zero m x k s at room = up_to [] at
 fill_by (suc j) false x k s at room = up_to [] at
 fill_by (suc j) true end k s at room = up_to [] at
 fill_by (suc j) true (refuse n) k s at room = up_to [] at
-fill_by (suc j) true (line t next) k s at room = let rest = room - length t in after t (fill_by j (leb (room_of_lem k) rest) (text_at k s next) k s next rest)
+fill_by (suc j) true (line t next) k s at room = let rest = room - length t in after t (fill_by j (leb (room_of k) rest) (text_at k s next) k s next rest)
 
 -- each text takes the place a byte on at least, so as many turns as bytes are enough
 unfoldable pub fill : Kind → List ℕ → ℕ → ℕ → Fill
-fill k s at room = fill_by (length s) (leb (room_of_lem k) room) (text_at k s at) k s at room
+fill k s at room = fill_by (length s) (leb (room_of k) room) (text_at k s at) k s at room
 
 -- ---- what `fill_texts` answers, and what it leaves in the buffer: has that the room for a line, and for any text of the kind
 unfoldable pub filled_if : Bool → Bool → Fill → FillAnswer
@@ -43,10 +43,10 @@ left_if true false f b = b
 left_if true true (up_to t next) b = over t b
 
 abbrev pub filled_as : Kind → List ℕ → ℕ → List ℕ → FillAnswer
-filled_as k s at b = filled_if (has_room b) (leb (room_of_lem k) (length b)) (fill k s at (length b))
+filled_as k s at b = filled_if (has_room b) (leb (room_of k) (length b)) (fill k s at (length b))
 
 abbrev pub left_as : Kind → List ℕ → ℕ → List ℕ → List ℕ
-left_as k s at b = left_if (has_room b) (leb (room_of_lem k) (length b)) (fill k s at (length b)) b
+left_as k s at b = left_if (has_room b) (leb (room_of k) (length b)) (fill k s at (length b)) b
 
 -- the lines: `fill_lines`
 abbrev pub filled : List ℕ → ℕ → List ℕ → FillAnswer

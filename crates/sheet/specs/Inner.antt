@@ -20,10 +20,10 @@ record_text Kind.Line room r = line_text r
 record_text Kind.Ladder room r = record_ladder room r
 record_text Kind.Plan room r = plan_text r
 
-abbrev pub text_in_lem : Kind → ℕ → List ℕ → ℕ → Step
-text_in_lem k room s at = step_at (record_text k room) s at (read_as (is_flat k) s at)
+abbrev pub text_in : Kind → ℕ → List ℕ → ℕ → Step
+text_in k room s at = step_at (record_text k room) s at (read_as (is_flat k) s at)
 
 -- a step's answer, by that of a writer
-unfoldable pub stepped_by_lem : LineWritten → ℕ → LineAnswer
-stepped_by_lem (LineWritten.Written n) next = LineAnswer.Written n next
-stepped_by_lem (LineWritten.Refused k) next = LineAnswer.Refused k
+unfoldable pub stepped_by : LineWritten → ℕ → LineAnswer
+stepped_by (LineWritten.Written n) next = LineAnswer.Written n next
+stepped_by (LineWritten.Refused k) next = LineAnswer.Refused k

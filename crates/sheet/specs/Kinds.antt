@@ -17,10 +17,10 @@ is_flat Kind.Ladder = true
 is_flat Kind.Plan = false
 
 -- the room for any text of a kind
-abbrev pub room_of_lem : Kind → ℕ
-room_of_lem Kind.Line = least_room
-room_of_lem Kind.Ladder = most_ladder
-room_of_lem Kind.Plan = least_room
+abbrev pub room_of : Kind → ℕ
+room_of Kind.Line = least_room
+room_of Kind.Ladder = most_ladder
+room_of Kind.Plan = least_room
 
 -- a record's text, where there is that room
 unfoldable pub text_of : Kind → Record → List ℕ

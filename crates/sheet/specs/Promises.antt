@@ -5,7 +5,7 @@ use Rattle.ladders.specs.Ladder.{most_ladder}
 use Rattle.sheet.specs.Sheet.{most_bytes, line, end, refuse, line_at, printed}
 use Rattle.sheet.specs.Ladders.{ladder_at}
 use Rattle.sheet.specs.Horizon.{plan_at}
-use Rattle.sheet.specs.Kinds.{room_of_lem, text_at, printed_as}
+use Rattle.sheet.specs.Kinds.{room_of, text_at, printed_as}
 use Rattle.sheet.specs.Fill.{filled_as, left_as}
 use Rattle.sheet.specs.declared.text.Kind.{Kind}
 use Rattle.sheet.specs.declared.text.Kind.TheVariants as Kind
@@ -39,7 +39,7 @@ pub record TextsStand : Type 0 where
 
 -- each fits the room of its kind, reading goes on, and stays within the sheet; before the end there is one
 abbrev pub TextsFit : Type 0
-TextsFit = (k : Kind) (s : List ℕ) (at : ℕ) (t : List ℕ) (next : ℕ) → text_at k s at ≡ line t next → length t ≤ room_of_lem k
+TextsFit = (k : Kind) (s : List ℕ) (at : ℕ) (t : List ℕ) (next : ℕ) → text_at k s at ≡ line t next → length t ≤ room_of k
 
 abbrev pub TextsMove : Type 0
 TextsMove = (k : Kind) (s : List ℕ) (at : ℕ) (t : List ℕ) (next : ℕ) → text_at k s at ≡ line t next → (at < next) × (next ≤ length s)
@@ -57,7 +57,7 @@ StepsMakeTheWhole = (k : Kind) (s : List ℕ) → Followed k s 0 (printed_as k s
 
 -- what is printed for any sheet is no longer than the room for a text, for each byte of the longest sheet
 abbrev pub PrintedBounded : Type 0
-PrintedBounded = (k : Kind) (s : List ℕ) → length (printed_as k s) ≤ most_bytes * room_of_lem k
+PrintedBounded = (k : Kind) (s : List ℕ) → length (printed_as k s) ≤ most_bytes * room_of k
 
 -- ---- whole texts: a fill stays within its buffer; before the end it goes on, and stays within the sheet; from the end on it fills nothing and stays
 abbrev pub FillsFit : Type 0
@@ -80,4 +80,4 @@ FillsMakeTheWhole = (k : Kind) (s t : List ℕ) → Fills k s 0 t → t ≡ prin
 
 -- and there are such fills, to the end, wherever a buffer has the room
 abbrev pub FillsFinish : Type 0
-FillsFinish = (k : Kind) (s b : List ℕ) → room_of_lem k ≤ length b → Fills k s 0 (printed_as k s)
+FillsFinish = (k : Kind) (s b : List ℕ) → room_of k ≤ length b → Fills k s 0 (printed_as k s)

@@ -13,7 +13,7 @@ use Rattle.sheet.specs.Refusals.{long_sheet}
 use Rattle.lines.specs.Lines.{refusal_line, least_room, has_room}
 use Rattle.sheet.specs.Sheet.{most_bytes, line, line_at, answered, left}
 use Rattle.sheet.specs.Ladders.{ladder_at}
-use Rattle.sheet.specs.Kinds.{room_of_lem}
+use Rattle.sheet.specs.Kinds.{room_of}
 use Rattle.sheet.specs.Fill.{filled_as, left_as, filled}
 use Rattle.sheet.specs.declared.text.Kind.{Kind}
 use Rattle.sheet.specs.declared.line.LineAnswer.TheVariants as LineAnswer
@@ -32,7 +32,7 @@ BufferRefusals = (s : List ℕ) (at : ℕ) (b : List ℕ) (k : ℕ)
 -- of whole texts: 8 likewise; then 21, where the buffer has less than the room for any text of the kind; and a refusal leaves the buffer as it was
 abbrev pub FillRefusals : Type 0
 FillRefusals = (k : Kind) (s : List ℕ) (at : ℕ) (b : List ℕ) (n : ℕ)
-    → ((filled_as k s at b ≡ FillAnswer.Refused n) ↔ (((n ≡ small_buffer) × (length b < least_room)) ⊎ ((n ≡ small_ladder_buffer) × (least_room ≤ length b) × (length b < room_of_lem k))))
+    → ((filled_as k s at b ≡ FillAnswer.Refused n) ↔ (((n ≡ small_buffer) × (length b < least_room)) ⊎ ((n ≡ small_ladder_buffer) × (least_room ≤ length b) × (length b < room_of k))))
     × (filled_as k s at b ≡ FillAnswer.Refused n → left_as k s at b ≡ b)
 
 -- ==== of ladders: 8 likewise; then 21, where a record is read whose ladder, which 2, 1 and 3 do not refuse, wants more room; and a refusal leaves the buffer as it was

@@ -1,6 +1,6 @@
 // Puts whole texts into a lent buffer.
 ghost use Rattle.std.specs.Prelude.{◌≡◌};
-ghost use Rattle.sheet.specs.Kinds.{room_of_lem};
+ghost use Rattle.sheet.specs.Kinds.{room_of};
 ghost use Rattle.sheet.specs.Fill.{filled_as, left_as, filled, left_in};
 
 use crate::line::LineAnswer;
@@ -19,7 +19,7 @@ pub enum FillAnswer {
 
 // The room for any text of a kind.
 fn room_of_lem(kind: Kind) -> usize
-    ensures { result ≡ room_of_lem kind }
+    ensures { result ≡ room_of kind }
 {
     match kind {
         Kind::Line => LEAST_ROOM,

@@ -3,7 +3,7 @@ ghost use Rattle.std.specs.Prelude.{◌≡◌, ◌≤◌, length};
 ghost use Rattle.lines.specs.Lines.{least_room, has_room, wrote, text_left};
 ghost use Rattle.sheet.specs.Sheet.{answered, left};
 ghost use Rattle.sheet.specs.Kinds.{is_flat};
-ghost use Rattle.sheet.specs.Inner.{record_text, text_in_lem, stepped_by_lem};
+ghost use Rattle.sheet.specs.Inner.{record_text, text_in, stepped_by};
 
 use crate::horizon::write_record_plan;
 use crate::ladder::write_record_ladder;
@@ -47,7 +47,7 @@ fn write_text(out: &mut [u8], r: Record, kind: Kind) -> LineWritten
 
 // A step's answer, by that of a writer.
 fn stepped(written: LineWritten, next: usize) -> LineAnswer
-    ensures { result ≡ stepped_by_lem written next }
+    ensures { result ≡ stepped_by written next }
 {
     match written {
         LineWritten::Written(n) => LineAnswer::Written(n, next),
@@ -58,8 +58,8 @@ fn stepped(written: LineWritten, next: usize) -> LineAnswer
 // Writes what stands for the record at a place of a sheet, a text of some kind: refused by 8 and 21,
 // which leaves the buffer as it is.
 pub(crate) fn next_text(sheet: &[u8], at: usize, out: &mut [u8], kind: Kind) -> LineAnswer
-    ensures value { result ≡ answered (has_room out.old) (text_in_lem kind (length out.old) sheet.now at) }
-    ensures out_after { out.new ≡ left (has_room out.old) (text_in_lem kind (length out.old) sheet.now at) out.old }
+    ensures value { result ≡ answered (has_room out.old) (text_in kind (length out.old) sheet.now at) }
+    ensures out_after { out.new ≡ left (has_room out.old) (text_in kind (length out.old) sheet.now at) out.old }
 {
     if out.len() < LEAST_ROOM {
         return LineAnswer::Refused(SMALL_BUFFER);

@@ -18,7 +18,7 @@ use Rattle.plan.specs.Plan.{failed, cap, fixed_over, begin, room, plan_of, plan_
 use Rattle.vector.specs.Run.{divided, rebalances, run_on, run}
 use Rattle.vector.specs.Values.{padded}
 use Rattle.series.specs.Slices.{Fit}
-use Rattle.operator.specs.Slices.{right_by, factors_fit, left_over_lem, right_over, both_fine}
+use Rattle.operator.specs.Slices.{right_by, factors_fit, left_over, right_over, both_fine}
 use Rattle.operator.proofs.Slices.{sized_both, scaled_over_lem, left_over_lem, right_over_lem}
 use Rattle.vector.specs.Inner.{stopped_of, told, AfterBy, AfterIs, BegunIs, EndIs}
 use Rattle.series.specs.Half.{filled_out, full_size, full_factors, full, Centred}
@@ -76,7 +76,7 @@ module _ (h : Bool) (n b : ℕ) (rest : Float) (o left right d : List Float) (et
 
 -- as the code makes it, in slices of n entries each
 module _ (h : Bool) (n b : ℕ) (rest : Float) (o left₀ right₀ d diag₀ : List Float) (eta : Float) (two : 2 ≤ n) (fits : b ≤ cap) (on : length o ≡ n) (dn : length d ≡ n) (ln : length left₀ ≡ n) (rn : length right₀ ≡ n) (gn : length diag₀ ≡ n)
-    (left right diag : List Float) (q : Planned) (el : left ≡ left_over_lem o left₀ right₀) (er : right ≡ right_over h o left₀ right₀) (ed : diag ≡ diagonal_for q d diag₀)
+    (left right diag : List Float) (q : Planned) (el : left ≡ left_over o left₀ right₀) (er : right ≡ right_over h o left₀ right₀) (ed : diag ≡ diagonal_for q d diag₀)
     (ep : q ≡ plan_from (factors_fit o left₀ right₀ && both_fine (length o) left right) rest d eta left right b) where
   lefts : left ≡ tab n (left_at o)
   lefts = rw on at (left_over_lem o left₀ right₀ (ln ∙ sym on) (rn ∙ sym on) left el)

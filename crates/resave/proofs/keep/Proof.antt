@@ -1,6 +1,6 @@
 -- `resave::keep` meets its contract. The loop's invariant: what is kept of the records passed is written. The measure is what is left of the sheet. Assumes nothing.
 use mathlib.Core.Path.{◌≡◌, sym}
-use Prim.Native.Nat.{◌+◌, ◌-◌, ◌≤◌, zero_le}
+use Prim.Native.Nat.{◌+◌, ◌-◌, ◌≤◌, zero-le}
 use native.Mathlib.Omega.{arith}
 use lib.ListN.{length}
 use borrow.Author.Rules.{rules}
@@ -19,7 +19,7 @@ abbrev decreases-loop : tie.decreases-loop
 decreases-loop s out₀ n₀ at₀ out n at = length s - at
 
 returns : tie.Need-returns invariant-loop decreases-loop
-returns c = (sym (kept_long _ c.if1.true), zero_le)
+returns c = (sym (kept_long _ c.if1.true), zero-le)
 
 loop-holds : tie.Need-loop-init invariant-loop decreases-loop
 loop-holds c = keeping_none _ _

@@ -1,4 +1,4 @@
-use Rattle.std.proofs.Common.{T, pos, sym, ap, ◌∙◌, subst, zero_le, rules}
+use Rattle.std.proofs.Common.{T, pos, sym, ap, ◌∙◌, subst, zero-le, rules}
 use Rattle.amounts.specs.Inner.{count_of}
 use Rattle.amounts.proofs.Billionths.{above, neither, is_count}
 use Rattle.amounts.proofs.rounding.count_of.Statement.{statement}
@@ -28,7 +28,7 @@ returns-3 : tie.Need-returns-3
 returns-3 c =
     let a = c.before in
     let b = a.before in
-    sym (is_count (pos 0) zero_le)
+    sym (is_count (pos 0) zero-le)
     ∙ ap count_of (sym (neither b.before.before.args.d (sym b.before.is-positive-finite.ensures ∙ b.if1.false) (sym a.is-positive-finite2.ensures ∙ c.if2.false)))
 
 pub count-of-spec : {M : Type 1} → statement M

@@ -1,4 +1,4 @@
-use Rattle.std.proofs.Common.{T, pos, sym, subst, zero_le, lt_of_le_of_lt, lit<, lit≤, w64, rules}
+use Rattle.std.proofs.Common.{T, pos, sym, subst, zero-le, lt_of_le_of_lt, lit<, lit≤, w64, rules}
 use lib.Ieee.{binary64, fits}
 use mir.ValLaws.{to_z_pos}
 use Rattle.amounts.specs.Inner.{size_by}
@@ -13,7 +13,7 @@ held c = subst T (sym c.well-formed.0.1) tt
 returns : tie.Need-returns
 returns c =
     let s = c.before.before in
-    rw (c.if2.true, least_cut s.args.x (held s) s.requires c.before.if1.true) (sym (is_count (pos 0) zero_le))
+    rw (c.if2.true, least_cut s.args.x (held s) s.requires c.before.if1.true) (sym (is_count (pos 0) zero-le))
 
 returns-2 : tie.Need-returns-2
 returns-2 c =

@@ -10,7 +10,7 @@ use lib.Ieee.{Float}
 use Rattle.elementary.specs.Float.{finite}
 use Rattle.operator.specs.Vectors.{tab, at, every}
 use Rattle.operator.specs.Operator.{left_at}
-use Rattle.operator.specs.Slices.{right_by, left_over_lem, right_over}
+use Rattle.operator.specs.Slices.{right_by, left_over, right_over}
 use Rattle.operator.proofs.Loops.{filled, filled_zero, stored, filled_all, at_stored, every_zero, every_suc, every_at}
 use Rattle.operator.proofs.Lists.{every_ext}
 use Rattle.operator.proofs.Slices.{both_sized_lem, sized_both}
@@ -33,7 +33,7 @@ both-sized-requires : tie.Need-both-sized-requires invariant-loop decreases-loop
 both-sized-requires c κs = tt
 
 returns : tie.Need-returns invariant-loop decreases-loop
-unfolding left_over_lem right_over
+unfolding left_over right_over
 returns c = rw (sym c.before.both_sized_lem.ensures ∙ not-true _ c.if1.true) (refl, (refl, refl))
 
 loop-holds : tie.Need-loop-init invariant-loop decreases-loop
@@ -100,7 +100,7 @@ same-length-2 : tie.Need-same-length-2 invariant-loop decreases-loop
 same-length-2 c = omega arith
 
 returns-2 : tie.Need-returns-2 invariant-loop decreases-loop
-unfolding left_over_lem right_over
+unfolding left_over right_over
 returns-2 c =
     let k = c.before.loop.i in
     let i = c.before.loop.invariant in

@@ -1,11 +1,11 @@
 -- `record::save::none_below_lem` meets its contract: the machine holds each amount as it is. Assumes nothing.
 use Rattle.amounts.proofs.Limits.{kept}
-use Rattle.record.specs.Save.{none_below_lem}
+use Rattle.record.specs.Save.{none_below}
 use Rattle.record.proofs.save.none_below_lem.Statement.{statement}
 use Rattle.record.proofs.save.none_below_lem.Tie as tie
 
 returns : tie.Need-returns
-unfolding none_below_lem
+unfolding none_below
 returns c =
     let g = c.struct-told7.given in
     let r = c.before.before.before.before.before.before.before.before.before.before.before.before.before.before.args.r in

@@ -6,7 +6,7 @@ use lib.ListN.{length}
 use borrow.Author.Rules.{rules}
 use borrow.Rule.Slice.PartMut.{put_mid, same_len_mid}
 use Rattle.lines.specs.Lines.{least_room}
-use Rattle.sheet.specs.Kinds.{room_of_lem}
+use Rattle.sheet.specs.Kinds.{room_of}
 use Rattle.sheet.proofs.Filling.{Filling, filling_none, filling_length, text_added, filling_end, filling_full, no_fill, short_fill}
 use Rattle.sheet.proofs.fill.fill_texts.Statement.{statement}
 use Rattle.sheet.proofs.fill.fill_texts.Tie as tie
@@ -39,10 +39,10 @@ sub-loop c = omega (arith, filling_length _ _ _ _ _ _ _ c.loop.invariant, c.loop
 within : (l : tie.In-loop invariant-loop decreases-loop) → l.before.loop.n ≤ length l.before.loop.out
 within l = omega (arith, filling_length _ _ _ _ _ _ _ l.before.loop.invariant, l.before.loop.invariant.room)
 
-room : (l : tie.In-loop invariant-loop decreases-loop) → room_of_lem l.before.before.before.before.before.before.before.args.kind ≤ length l.before.loop.out - l.before.loop.n
+room : (l : tie.In-loop invariant-loop decreases-loop) → room_of l.before.before.before.before.before.before.before.args.kind ≤ length l.before.loop.out - l.before.loop.n
 room l = omega (arith, l.loop-test, l.before.before.before.room_of_lem.ensures)
 
-rooms : (l : tie.At-loop invariant-loop decreases-loop) → let a = l.before.before.before.before.before.before.args in (least_room ≤ length a.out.now) × (room_of_lem a.kind ≤ length a.out.now)
+rooms : (l : tie.At-loop invariant-loop decreases-loop) → let a = l.before.before.before.before.before.before.args in (least_room ≤ length a.out.now) × (room_of a.kind ≤ length a.out.now)
 rooms l = (l.before.before.before.if1.false, omega (arith, l.before.if2.false, l.before.before.room_of_lem.ensures))
 
 sub-next-text : tie.Need-overflow-sub-next-text invariant-loop decreases-loop

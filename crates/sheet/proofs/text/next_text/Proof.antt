@@ -4,7 +4,7 @@ use lib.ListN.{length}
 use Rattle.lines.specs.Lines.{refusal_line}
 use Rattle.sheet.specs.Refusals.{long_sheet}
 use Rattle.sheet.specs.Sheet.{step_of}
-use Rattle.sheet.specs.Inner.{record_text, text_in_lem}
+use Rattle.sheet.specs.Inner.{record_text, text_in}
 use Rattle.sheet.proofs.Steps.{step_end, step_long, step_read, no_room, no_line, one_text, one_line}
 use borrow.Author.Rules.{rules}
 use Rattle.sheet.proofs.text.next_text.Statement.{statement}
@@ -12,7 +12,7 @@ use Rattle.sheet.proofs.text.next_text.Tie as tie
 
 -- the step there, by the record that is read
 step-there : (c : tie.After-read-as) → let a = c.before.before.before.before.before.before.before.args in
-    text_in_lem a.kind (length a.out.now) a.sheet.now a.at ≡ step_of (record_text a.kind (length a.out.now)) (length a.sheet.now) c.read_as.result
+    text_in a.kind (length a.out.now) a.sheet.now a.at ≡ step_of (record_text a.kind (length a.out.now)) (length a.sheet.now) c.read_as.result
 step-there c =
     let f = c.before in
     let e = f.before in
@@ -38,7 +38,7 @@ returns-3 c =
     let w = c.before.before.before in
     let e = w.before.before in
     let a = e.before.before.before.before.before.args in
-    let z = one_line (text_in_lem a.kind (length a.out.now) a.sheet.now a.at) (refusal_line long_sheet) _ a.out.now _ _ e.before.before.if1.false (step_long _ _ _ _ e.before.if2.false e.if3.true) w.write-refusal.ensures.0 w.write-refusal.ensures.1 in
+    let z = one_line (text_in a.kind (length a.out.now) a.sheet.now a.at) (refusal_line long_sheet) _ a.out.now _ _ e.before.before.if1.false (step_long _ _ _ _ e.before.if2.false e.if3.true) w.write-refusal.ensures.0 w.write-refusal.ensures.1 in
     (c.stepped.ensures ∙ z.0, z.1)
 
 is-flat-requires : tie.Need-is-flat-requires
