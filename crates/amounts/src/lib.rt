@@ -1,5 +1,7 @@
 // Amounts, which are signed counts of billionths, and times, which are counts of milliseconds: their
 // limits, both as floats, and a float as an amount.
+#![tactic(auto)]
+
 pub mod refusals;
 mod rounding;
 

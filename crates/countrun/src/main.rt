@@ -3,6 +3,8 @@
 // a line for each, what `step_count` answers: `N` and the steps of the first plan; `C`, the steps
 // needed and the budget left; or `R` and a refusal's number. A float is 16 upper-case hex digits. A
 // record that ends inside itself is the last: `R 6`.
+#![tactic(auto)]
+
 use distances::step_count;
 use harness::{
     ENTRY, MANY, entry_at, first, make_room, put, put_cap, put_cut, put_number, put_refusal,

@@ -1,6 +1,8 @@
 // What several test programs share of a desk: the line of an exact call, and the record of thirteen
 // words of eight bytes: mid, holding, volatility, risk aversion, k, A, bound, lot size, terminal,
 // current, min spread, one more, and the drift. An amount is a count of billionths in two's complement.
+#![tactic(auto)]
+
 mod line;
 
 ghost use Rattle.std.specs.Prelude.{◌≡◌, ◌+◌};

@@ -7,6 +7,8 @@
 // digits, the budget left and the steps spent; `P` for a configuration that passes; `M`, a model's
 // eight floats, beta the last, its bound and the holding in lots; or `R` and a refusal's number. A
 // bound that 32 bits do not hold is refused by 2, and a record that ends inside itself, the last, by 6.
+#![tactic(auto)]
+
 use desk::{amount_at, config_at, put_exact, put_float, put_quotes};
 use harness::{
     LARGEST_BOUND, first, make_room, put, put_cut, put_number, put_refusal, put_signed, read_block,

@@ -1,5 +1,7 @@
 // The exact distances at a holding, from a value vector; the float entry over both; and the count of
 // its first plan.
+#![tactic(auto)]
+
 mod entry;
 mod from_bits;
 mod from_vector;

@@ -1,5 +1,7 @@
 // Elementary functions on f64, after document 01, module 1, and change request 2: a fixed order of operations, and
 // one rounding for each.
+#![tactic(auto)]
+
 mod ceiling;
 mod exponential;
 mod ln2;

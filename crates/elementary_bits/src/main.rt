@@ -1,6 +1,8 @@
 // Reads float patterns from standard input, eight bytes each, lowest first, and writes a line for
 // each: the pattern, and the five elementary functions of the float. A value is 16 upper-case hex
 // digits, and a refusal is `R5`. The first line is that of a NaN.
+#![tactic(auto)]
+
 use elementary::Real;
 
 // The bytes of a pattern.

@@ -1,5 +1,7 @@
 // Quotes one desk at three holdings: flat, at its bound, and one lot beyond. Amounts are counts of
 // billionths, times are milliseconds.
+#![tactic(auto)]
+
 use quote::{ExactQuotes, GLFTConfig, GLFTStrategy, Price};
 
 // The amount 1.

@@ -1,4 +1,6 @@
 // What the operators' programs share: a sheet read from standard input, and the part of a buffer that is written.
+#![tactic(auto)]
+
 ghost use Rattle.std.specs.Prelude.{◌≡◌, length, take};
 ghost use Rattle.feed.specs.Feed.{Fed};
 

@@ -3,6 +3,8 @@
 // a line for each, the float entry's answer: `V`, the steps, bid and ask (`-` if absent), n, the n
 // weights and the n offsets; `C`, the steps needed and the budget left; or `R` and a refusal's number.
 // A float is 16 upper-case hex digits. A record that ends inside itself is the last: `R 6`.
+#![tactic(auto)]
+
 use distances::{Answer, Distance, FloatAnswer, float_entry};
 use harness::{
     ENTRY, MANY, entry_at, first, make_room, put, put_cap, put_cut, put_float, put_number,

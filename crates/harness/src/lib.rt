@@ -1,5 +1,7 @@
 // What the test programs share: words read from bytes, texts placed into a buffer, standard input
 // and output.
+#![tactic(auto)]
+
 mod entry;
 mod standard;
 mod text;

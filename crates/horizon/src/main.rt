@@ -1,5 +1,7 @@
 // Reads a sheet from standard input and prints for each record the line of its first plan, or of what refuses it. Input
 // that cannot be read, or output that cannot be written, is told on standard error.
+#![tactic(auto)]
+
 use printing::Printed;
 use sheet::Kind;
 

@@ -7,6 +7,8 @@
 // still hex A5, or else `X`; after a refusal, every byte of it. A bound that 32 bits do not hold is
 // refused by 2, and a record that ends inside itself, the last, by 6, both without a call and followed
 // by `U`.
+#![tactic(auto)]
+
 ghost use Rattle.std.specs.Prelude.{◌≤◌};
 
 use desk::{amount_at, config_at};

@@ -1,4 +1,6 @@
 // The ladder of a desk: a line for each of its lots.
+#![tactic(auto)]
+
 mod ladder;
 pub mod refusals;
 

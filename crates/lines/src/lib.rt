@@ -1,4 +1,6 @@
 // The text of an answer: a line.
+#![tactic(auto)]
+
 mod horizon;
 mod line;
 pub mod refusals;

@@ -1,5 +1,7 @@
 // One value vector for every holding: the reckoning of a configuration and a market, and the quotes of
 // so many lots from it.
+#![tactic(auto)]
+
 ghost use Rattle.std.specs.Prelude.{◌≡◌, ◌*ℤ◌, T};
 ghost use Rattle.amounts.specs.Amounts.{amount_ok, above0};
 ghost use Rattle.model.specs.Model.{model_ok, input_of};

@@ -1,5 +1,7 @@
 // The configuration of a desk with its checks, and the model that it gives: floats per second and per
 // lot, and the holding in lots. An amount is a count of billionths.
+#![tactic(auto)]
+
 mod checks;
 mod config;
 mod parameters;

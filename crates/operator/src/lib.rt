@@ -1,4 +1,6 @@
 // The tridiagonal operator of the value vector's equation: its diagonal, and its factors by the offsets.
+#![tactic(auto)]
+
 mod diagonal;
 mod factors;
 mod reals;

@@ -1,4 +1,6 @@
 // The plan of steps for a run: the norm, the plan, and a run's first plan before anything runs.
+#![tactic(auto)]
+
 mod count;
 mod plan;
 mod reals;

@@ -1,5 +1,7 @@
 // From distances to bid and ask, in three parts: distances to whole billionths, the widening, and the
 // judgement of any two prices.
+#![tactic(auto)]
+
 mod judging;
 pub mod refusals;
 mod rounding;

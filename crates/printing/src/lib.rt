@@ -1,4 +1,6 @@
 // Prints a text for each record of a sheet: the one loop of the operators' programs that do so.
+#![tactic(auto)]
+
 mod output;
 
 ghost use Rattle.std.specs.Prelude.{◌≡◌, ◌+◌, ◌<◌, ◌≤◌, length};

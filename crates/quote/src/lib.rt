@@ -1,4 +1,6 @@
 // The quote layer: the exact quotes, their wrapper, the closed form, and the count of the first plan.
+#![tactic(auto)]
+
 mod closed_form;
 mod horizon;
 mod quotes;

@@ -1,4 +1,6 @@
 // The record: eleven numbers in groups of seven bits, read and saved.
+#![tactic(auto)]
+
 mod record;
 pub mod refusals;
 mod save;

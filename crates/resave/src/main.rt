@@ -1,6 +1,8 @@
 // Reads a sheet from standard input and writes each record that the reader takes, anew from its numbers, one after the
 // other: the good part of a damaged sheet. Input that cannot be read, or output that cannot be written, is told on
 // standard error.
+#![tactic(auto)]
+
 ghost use Rattle.std.specs.Prelude.{◌≡◌, ◌+◌, ◌<◌, ◌≤◌, length, take};
 ghost use Rattle.feed.specs.Feed.{Fed};
 ghost use Rattle.record.specs.Record.{read_record};

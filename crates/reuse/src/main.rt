@@ -15,6 +15,8 @@
 // - z makes the same calls without the table.
 // - c sets a number of the table to 1 and clears the table. The answer is the number, 0.
 // - n, or any other letter, makes no call. The answer is the holding without its sign.
+#![tactic(auto)]
+
 use amounts::{BILLION, size_of};
 use harness::signed_of;
 use quote::{ExactQuotes, GLFTConfig, GLFTStrategy, Price};

@@ -2,6 +2,8 @@
 // each, what `to_billionths` answers to the float: a count of billionths in decimal, with a minus sign
 // where it is negative, or `R` and a refusal's number. A pattern that ends inside itself is the last:
 // `R 6`.
+#![tactic(auto)]
+
 use harness::{
     MANY, first, float_of, make_room, put, put_cut, put_refusal, put_signed, read_block, word_at,
 };

@@ -5,6 +5,8 @@
 // the count of bytes that the record takes, and all bytes of the buffer in upper-case hex; or `R`, a
 // refusal's number and the buffer likewise. An empty buffer adds nothing. A bound that 32 bits do not
 // hold is refused by 2, and a record that ends inside itself, the last, by 6, both without a call.
+#![tactic(auto)]
+
 ghost use Rattle.std.specs.Prelude.{◌≤◌};
 
 use desk::amount_at;

@@ -1,4 +1,6 @@
 // The sheet: records in, lines out.
+#![tactic(auto)]
+
 mod fill;
 mod horizon;
 mod ladder;

@@ -1,6 +1,8 @@
 // Reads sheets from standard input, each after its length in three bytes, lowest first. Writes the
 // lines of each, and after them a line `.`. A length above 65,537 ends the run; what is missing of the
 // last sheet is zeros.
+#![tactic(auto)]
+
 ghost use Rattle.std.specs.Prelude.{◌≡◌, length};
 
 use harness::{first, read_block};

@@ -1,5 +1,7 @@
 // A table of value vectors that two desks share, so that each is made once. A table is lent by its
 // callers, and only the two entries of this crate write it.
+#![tactic(auto)]
+
 pub mod places;
 pub mod refusals;
 mod rows;

@@ -19,6 +19,8 @@
 //   they hold. Writes `P`, and so does any other kind, which does nothing.
 //
 // A record that ends inside itself, the last, is refused by 6.
+#![tactic(auto)]
+
 mod numbers;
 mod setting;
 

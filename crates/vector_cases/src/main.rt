@@ -1,5 +1,7 @@
 // Document 01's cases of the value vector that are not proved as a table: each is run, and a line
 // says what came out.
+#![tactic(auto)]
+
 use harness::{bits_of, first, put, put_number};
 use vector::{Outcome, RunInput};
 

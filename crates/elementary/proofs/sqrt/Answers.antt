@@ -1,4 +1,4 @@
-use Rattle.std.proofs.Common.{◌≡◌, ℕ, zero, suc, ◌*◌, ◌<◌, Bool, true, false, ◌&&◌, ◌||◌, T, eqb, ltb, sym, refl, ap, ◌∙◌, subst, true≢false, zero-lt-suc, mul-pos, arith, rules, le-ltb, lt-ltb, eq-eqb, eqb-true}
+use Rattle.std.proofs.Common.{◌≡◌, ℕ, zero, suc, ◌*◌, ◌<◌, Bool, true, false, ◌&&◌, ◌||◌, T, eqb, ltb, sym, refl, ap, ◌∙◌, subst, true≢false, zero-lt-suc, mul-pos, arith, le-ltb, lt-ltb, eq-eqb, eqb-true}
 use mathlib.Core.Bool.{beq, false≢true}
 use lib.Ieee.{Float, nan, inf, fin, binary64, up, down, level, lt, eq, of_bits}
 use lib.Ieee.Fits.{up_pos}
@@ -7,8 +7,7 @@ use Rattle.elementary.specs.declared.Real.TheVariants.{Value, Refused}
 use Rattle.elementary.specs.Float.{finite, positive, count, hex}
 use Rattle.elementary.specs.Reply.{value}
 use Rattle.elementary.specs.Elementary.{told, SQRT, sqrt_of}
-use Rattle.elementary.proofs.sqrt.Statement.{statement}
-use Rattle.elementary.proofs.sqrt.Tie as tie
+use Rattle.elementary.proofs.sqrt.Goals as goal
 
 -- a zero compared with a zero
 zero-below : (u d : ℕ) → ltb (0 * 1 * d) (0 * u * 1) ≡ false
@@ -54,26 +53,18 @@ no-root (fin s zero e) z p = absurd (true≢false (sym (zero-level s (up e) (dow
 no-root (fin true (suc m) e) z p = refl
 no-root (fin false (suc m) e) z p = absurd (true≢false (sym (lt-ltb (0 * 1 * down e) (suc m * up e * 1) (omega (arith, mul-pos (zero-lt-suc m) (up_pos e)))) ∙ p))
 
-returns : tie.Need-returns
-returns c = zero-root c.before.args.x c.if1.true
+pub returns-then-x : goal.returns-then-x
+returns-then-x c = zero-root c.args.x c.if-x.true
 
-is-positive-finite-requires : tie.Need-is-positive-finite-requires
-is-positive-finite-requires c κs = search rules
+pub sqrt_positive-requires : goal.sqrt_positive-requires
+sqrt_positive-requires c = subst T (sym c.if-is_positive_finite.true ∙ c.is_positive_finite.ensures) tt
 
-sqrt-positive-requires : tie.Need-sqrt-positive-requires
-sqrt-positive-requires c κs = subst T (sym c.if2.true ∙ c.before.is-positive-finite.ensures) tt
-
-returns-2 : tie.Need-returns-2
+pub returns-then-is_positive_finite : goal.returns-then-is_positive_finite
 unfolding told
-returns-2 c =
-    let x = c.before.before.before.before.args.x in
-    ap value c.sqrt-positive.ensures ∙ sym (positive-root x (subst T (sym c.before.if2.true ∙ c.before.before.is-positive-finite.ensures) tt))
+returns-then-is_positive_finite c =
+    let x = c.args.x in
+    ap value c.sqrt_positive.ensures ∙ sym (positive-root x (subst T (sym c.if-is_positive_finite.true ∙ c.is_positive_finite.ensures) tt))
 
-returns-3 : tie.Need-returns-3
-returns-3 c =
-    no-root c.before.before.before.args.x c.before.before.if1.false (sym c.before.is-positive-finite.ensures ∙ c.if2.false)
-
-pub sqrt-spec : {M : Type 1} → statement M
-sqrt-spec =
-    tie.close
-    (tie.spec returns is-positive-finite-requires sqrt-positive-requires returns-2 returns-3)
+pub returns : goal.returns
+returns c =
+    no-root c.args.x c.if-x.false (sym c.is_positive_finite.ensures ∙ c.if-is_positive_finite.false)

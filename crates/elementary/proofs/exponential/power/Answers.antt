@@ -1,12 +1,11 @@
-use Rattle.std.proofs.Common.{◌≡◌, ℕ, suc, ◌+◌, ◌-◌, ◌*◌, ◌^◌, ◌<◌, ◌≤◌, Bool, true, false, cond, not, T, leb, ℤ, pos, negsuc, sym, ap, ◌∙◌, subst, le_of_eq, lt_of_le_of_lt, arith, lit≤, leb→le, pow-add, rules}
+use Rattle.std.proofs.Common.{◌≡◌, ℕ, suc, ◌+◌, ◌-◌, ◌*◌, ◌^◌, ◌<◌, ◌≤◌, Bool, true, false, cond, not, T, leb, ℤ, pos, negsuc, sym, ap, ◌∙◌, subst, le_of_eq, lt_of_le_of_lt, arith, lit≤, leb→le, pow-add}
 use lib.Dec.{nleb→lt}
 use lib.Count.{count_trailing_zeros}
 use lib.Pow.{pow-lt}
 use lib.Ieee.{binary64, fin, minus, odd, units, of_bits, nan_bits}
 use Rattle.elementary.specs.Elementary.{power2}
 use Rattle.elementary.proofs.Bits.{bits_of, bits_no_nan, units_odd}
-use Rattle.elementary.proofs.exponential.power.Statement.{statement}
-use Rattle.elementary.proofs.exponential.power.Tie as tie
+use Rattle.elementary.proofs.exponential.power.Goals as goal
 
 -- the exponent's field alone: a leading digit with no digits after it
 field : (n : ℕ) → 1 ≤ n → n * 4503599627370496 ≡ (n - 1) * 2 ^ 52 + 2 ^ 52
@@ -48,18 +47,12 @@ is-power : (n : ℕ) → 1 ≤ n → n ≤ 2046 → units binary64 false (2 ^ 52
 unfolding odd count_trailing_zeros
 is-power n h k = units_odd binary64 false (2 ^ 52) (n - 1) (small n k) ∙ ap (λ (e : ℤ). fin false 1 e) (shift n h)
 
-mul-result : tie.Need-overflow-mul-result
-mul-result c = search rules
-
-float-from-bits-result : tie.Need-float-from-bits-result
-float-from-bits-result c =
+pub float_from_bits-result : goal.float_from_bits-result
+float_from_bits-result c =
     let n = c.args.n in
     subst (λ (b : ℕ). T (not (nan_bits binary64 b))) (sym (field n c.requires.0)) (bits_no_nan binary64 (2 ^ 52) (n - 1) (lit≤ tt) (lit≤ tt) (small n c.requires.1))
 
-returns : tie.Need-returns
+pub returns : goal.returns
 returns c =
     let n = c.args.n in
     ap (λ (b : ℕ). of_bits binary64 b) (field n c.requires.0) ∙ bits_of binary64 (2 ^ 52) (n - 1) (lit≤ tt) (lit≤ tt) (small n c.requires.1) ∙ is-power n c.requires.0 c.requires.1
-
-pub power-spec : {M : Type 1} → statement M
-power-spec = tie.close (tie.spec mul-result float-from-bits-result returns)

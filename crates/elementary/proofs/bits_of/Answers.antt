@@ -1,8 +1,7 @@
 -- `elementary::bits_of` meets its contract: the NaN alone does not equal itself. Assumes nothing.
-use Rattle.std.proofs.Common.{◌≡◌, ℕ, ◌*◌, Bool, true, false, not, T, ℤ, sym, refl, ap, ◌∙◌, subst, rules, eq-eqb}
+use Rattle.std.proofs.Common.{◌≡◌, ℕ, ◌*◌, Bool, true, false, not, T, ℤ, sym, refl, ap, ◌∙◌, subst, eq-eqb}
 use lib.Ieee.{Float, nan, inf, fin, up, down, eq, is_nan, binary64, to_bits}
-use Rattle.elementary.proofs.bits_of.Statement.{statement}
-use Rattle.elementary.proofs.bits_of.Tie as tie
+use Rattle.elementary.proofs.bits_of.Goals as goal
 
 equal_no_nan : (x : Float) → eq x x ≡ true → T (not (is_nan x))
 unfolding eq is_nan
@@ -22,15 +21,9 @@ unequal-nan (inf true) h = absurd (subst T h tt)
 unequal-nan (inf false) h = absurd (subst T h tt)
 unequal-nan (fin s m e) h = absurd (subst T (sym (self s m e) ∙ h) tt)
 
-float-to-bits-result : tie.Need-float-to-bits-result
-float-to-bits-result c = equal_no_nan _ c.if1.true
+pub float_to_bits-result : goal.float_to_bits-result
+float_to_bits-result c = equal_no_nan _ c.if-x.true
 
-returns : tie.Need-returns
-returns c = search rules
-
-returns-2 : tie.Need-returns-2
+pub returns : goal.returns
 unfolding to_bits
-returns-2 c = sym (ap (to_bits binary64) (unequal-nan _ c.if1.false))
-
-pub bits-of-spec : {M : Type 1} → statement M
-bits-of-spec = tie.close (tie.spec float-to-bits-result returns returns-2)
+returns c = sym (ap (to_bits binary64) (unequal-nan _ c.if-x.false))
