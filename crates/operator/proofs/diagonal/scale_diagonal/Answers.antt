@@ -1,0 +1,25 @@
+-- The entries so far are scaled. Assumes nothing.
+use mathlib.Core.Path.{refl}
+use Prim.Native.Nat.{◌-◌}
+use native.Mathlib.Omega.{arith}
+use borrow.Author.Tests.{eq-eqb, ne_eqb}
+use lib.ListN.{length-set}
+use Rattle.operator.specs.Slices.{scaled_over}
+use Rattle.operator.proofs.Loops.{filled_zero, stored, filled_all}
+use Rattle.operator.proofs.diagonal.scale_diagonal.Goals as goal
+
+pub returns-then-diag-diag_s : goal.returns-then-diag-diag_s
+unfolding scaled_over
+returns-then-diag-diag_s c = rw (ne_eqb _ _ c.if-diag-diag_s.true) refl
+
+pub loop-i-init : goal.loop-i-init
+loop-i-init c = (c.if-diag-diag_s.false, omega arith, c.if-diag-diag_s.false, filled_zero _ _)
+
+pub loop-i-preserved : goal.loop-i-preserved
+loop-i-preserved c =
+    let at-loop = c in
+    (at-loop.loop-i.invariant.0, omega arith, simp length-set at-loop.loop-i.invariant.2, stored _ _ _ _ _ (omega arith) at-loop.loop-i.invariant.3 refl)
+
+pub returns : goal.returns
+unfolding scaled_over
+returns c = let i = c.loop-i.invariant in rw (eq-eqb _ _ i.0) (filled_all _ _ _ c.loop-i.i _ (omega arith) (omega arith) i.3)
