@@ -23,14 +23,14 @@ const LEAST: f64 = 9.313225746154785e-10;
 const MOST: f64 = 1073741824.0;
 
 // A count of billionths within the amount limit, or a refusal's number.
-#[derive(Drop)]
+#[derive(Clone, Copy)]
 pub enum Billionths {
     Count(i64),
     Refused(u8),
 }
 
 // A number of two words, high * 2^23 + low.
-#[derive(Drop)]
+#[derive(Clone, Copy)]
 struct Wide {
     high: u64,
     low: u64,

@@ -19,14 +19,14 @@ pub use from_vector::{answer_from, answer_in};
 use vector::{FirstPlan, RunInput, ValueVector};
 
 // A side's distance from the mid; at the bound one side is withheld.
-#[derive(Drop)]
+#[derive(Clone, Copy)]
 pub enum Distance {
     At(f64),
     Absent,
 }
 
 // The distances of bid and ask, or a refusal's number.
-#[derive(Drop)]
+#[derive(Clone, Copy)]
 pub enum Sides {
     Distances(Distance, Distance),
     Refused(u8),
@@ -34,7 +34,7 @@ pub enum Sides {
 
 // The distances of bid and ask with the steps spent; or the steps needed, the budget left and the
 // steps spent; or a refusal's number.
-#[derive(Drop)]
+#[derive(Clone, Copy)]
 pub enum Answer {
     Distances(Distance, Distance, u32),
     OverCap(f64, u32, u32),
@@ -42,7 +42,7 @@ pub enum Answer {
 }
 
 // An answer, with the value vector beside it: the blank one, unless there are distances.
-#[derive(Drop)]
+#[derive(Clone, Copy)]
 pub struct FloatAnswer {
     pub answer: Answer,
     pub vector: ValueVector,

@@ -27,14 +27,14 @@ const INFINITY_BITS: u64 = 0x7FF0000000000000;
 pub const OUTSIDE: u8 = 5;
 
 // Whether the numbers of a call pass its checks, or the number that refuses them.
-#[derive(Drop)]
+#[derive(Clone, Copy)]
 pub enum Check {
     Passes,
     Refused(u8),
 }
 
 // The answer of an elementary function. `Refused` is refusal 5: the argument is outside its domain.
-#[derive(Drop)]
+#[derive(Clone, Copy)]
 pub enum Real {
     Value(f64),
     Refused,

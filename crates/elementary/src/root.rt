@@ -6,7 +6,7 @@ ghost use Rattle.elementary.specs.Elementary.{sqrt_of};
 ghost use Rattle.elementary.specs.Inner.{RootOf};
 
 // The root's digits so far, and what their square leaves of the number's.
-#[derive(Drop)]
+#[derive(Clone, Copy)]
 struct Digits {
     root: u64,
     rest: u64,

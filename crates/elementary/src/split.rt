@@ -9,7 +9,7 @@ ghost use Rattle.elementary.specs.Inner.{SplitOf};
 pub(crate) const HIDDEN: u64 = 4503599627370496;
 
 // The 53 leading digits of n, and the count of its digits.
-#[derive(Drop)]
+#[derive(Clone, Copy)]
 pub(crate) struct Parts {
     pub(crate) digits: u64,
     pub(crate) size: u64,

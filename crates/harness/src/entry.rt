@@ -10,7 +10,7 @@ use elementary::float_of;
 // The bytes of a record.
 pub const ENTRY: usize = 64;
 
-#[derive(Drop)]
+#[derive(Clone, Copy)]
 pub struct Entry {
     pub k: f64,
     pub alpha: f64,

@@ -15,7 +15,7 @@ use vector::MAX_DIM;
 pub const MOST_LADDER: usize = LEAST_ROOM * MAX_DIM;
 
 // The bytes that a ladder takes, or a refusal's number.
-#[derive(Drop)]
+#[derive(Clone, Copy)]
 pub enum LadderAnswer {
     Written(usize),
     Refused(u8),

@@ -13,7 +13,7 @@ use quote::{BILLION, ExactQuotes, GlftQuotes, Price};
 pub const LEAST_ROOM: usize = 64;
 
 // The bytes that a line takes, or a refusal by 8.
-#[derive(Drop)]
+#[derive(Clone, Copy)]
 pub enum LineWritten {
     Written(usize),
     Refused(u8),

@@ -14,7 +14,7 @@ use quote::{ExactQuotes, quotes_by};
 use vector::{MAX_DIM, Outcome, VectorAnswer};
 
 // What the quotes of every holding are made from: the model's k and base, and its value vector.
-#[derive(Drop)]
+#[derive(Clone, Copy)]
 pub struct Reckoning {
     pub k: f64,
     pub base: f64,

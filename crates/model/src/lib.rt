@@ -17,7 +17,7 @@ pub use parameters::{floats_fit, limits_fit, model_of, run_input};
 
 // The configuration. The drift is an amount of price a year. Its fields are public, so every call
 // checks them again.
-#[derive(Drop)]
+#[derive(Clone, Copy)]
 pub struct GLFTConfig {
     pub risk_aversion: i64,
     pub order_intensity_k: i64,
@@ -29,14 +29,14 @@ pub struct GLFTConfig {
     pub drift: i64,
 }
 
-#[derive(Drop)]
+#[derive(Clone, Copy)]
 pub enum ConfigAnswer {
     Config(GLFTConfig),
     Refused(u8),
 }
 
 // The model in floats, per second and per lot, beside the bound.
-#[derive(Drop)]
+#[derive(Clone, Copy)]
 pub struct Model {
     pub k: f64,
     pub gamma: f64,
@@ -50,7 +50,7 @@ pub struct Model {
 }
 
 // A model with the holding in lots.
-#[derive(Drop)]
+#[derive(Clone, Copy)]
 pub enum ModelAnswer {
     Model(Model, i64),
     Refused(u8),

@@ -31,7 +31,7 @@ pub const MAX_EXPM_STEPS: u32 = 11000;
 
 // What a run, and so a value vector, is made from: alpha, what the drift makes a second, eta, the bound,
 // and the seconds to the end.
-#[derive(Drop)]
+#[derive(Clone, Copy)]
 pub struct RunInput {
     pub alpha: f64,
     pub beta: f64,
@@ -42,7 +42,7 @@ pub struct RunInput {
 
 // The first plan of a run: its steps; or the steps needed, above the budget left; or a refusal's
 // number.
-#[derive(Drop)]
+#[derive(Clone, Copy)]
 pub enum FirstPlan {
     Steps(u32),
     OverCap(f64, u32),

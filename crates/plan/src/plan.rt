@@ -6,7 +6,7 @@ const STEP_NORM: f64 = 2.0;
 
 // The steps and the time of each; or the steps needed, above the budget; or none: in a run, whose slices
 // agree, refusal 11.
-#[derive(Drop)]
+#[derive(Clone, Copy)]
 pub enum Planned {
     Steps(u32, f64),
     OverCap(f64),
@@ -14,7 +14,7 @@ pub enum Planned {
 }
 
 // The factors by reference.
-#[derive(Drop)]
+#[derive(Clone, Copy)]
 pub(crate) struct Factors<'a> {
     pub(crate) left: &'a [f64],
     pub(crate) right: &'a [f64],

@@ -17,27 +17,27 @@ pub use widening::{price_sides, widen};
 
 // A price; at the bound one side is withheld. Before it is a price it is a side's distance in
 // billionths.
-#[derive(Drop)]
+#[derive(Clone, Copy)]
 pub enum Price {
     At(i64),
     Absent,
 }
 
-#[derive(Drop)]
+#[derive(Clone, Copy)]
 pub struct GlftQuotes {
     pub bid: Price,
     pub ask: Price,
 }
 
 // The two sides in whole billionths, or a refusal by 11 or 13.
-#[derive(Drop)]
+#[derive(Clone, Copy)]
 pub enum Rounded {
     Sides(Price, Price),
     Refused(u8),
 }
 
 // Two prices, or a refusal's number.
-#[derive(Drop)]
+#[derive(Clone, Copy)]
 pub enum QuotesAnswer {
     Quotes(GlftQuotes),
     Refused(u8),

@@ -11,7 +11,7 @@ use amounts::refusals::BEYOND;
 use distances::{Distance, is_fine};
 
 // A side's distance in billionths: absent, or beyond the amount limit.
-#[derive(Drop)]
+#[derive(Clone, Copy)]
 pub(crate) enum Side {
     At(i64),
     Absent,

@@ -19,7 +19,7 @@ use sheet::{FillAnswer, Kind};
 const ROOM: usize = sheet::MOST_BYTES + 1;
 
 // All was written, so many bytes; standard input could not be read; or standard output did not take all.
-#[derive(Drop)]
+#[derive(Clone, Copy)]
 pub enum Printed {
     All(usize),
     NotRead,
@@ -27,7 +27,7 @@ pub enum Printed {
 }
 
 // What a fill put into the buffer, and the place after it.
-#[derive(Drop)]
+#[derive(Clone, Copy)]
 struct Texts {
     count: usize,
     next: usize,

@@ -18,7 +18,7 @@ pub use quotes::quotes_by;
 
 // The exact quotes with the steps spent; or the steps needed, the budget left and the steps spent; or
 // a refusal's number.
-#[derive(Drop)]
+#[derive(Clone, Copy)]
 pub enum ExactQuotes {
     Quotes(GlftQuotes, u32),
     OverStepCap(f64, u32, u32),
@@ -26,19 +26,19 @@ pub enum ExactQuotes {
 }
 
 // The wrapper's: over the cap is refusal 12.
-#[derive(Drop)]
+#[derive(Clone, Copy)]
 pub enum OptimalQuotes {
     Quotes(GlftQuotes, u32),
     Refused(u8),
 }
 
-#[derive(Drop)]
+#[derive(Clone, Copy)]
 pub enum ClosedFormQuotes {
     Quotes(GlftQuotes),
     Refused(u8),
 }
 
-#[derive(Drop)]
+#[derive(Clone, Copy)]
 pub struct GLFTStrategy;
 
 impl GLFTStrategy {

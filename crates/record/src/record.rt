@@ -22,7 +22,7 @@ const MOST: u64 = GLFTConfig::MAX_AMOUNT as u64;
 const MOST_BOUND: u64 = 4294967295;
 
 // The eleven numbers of a record, in the sheet's order.
-#[derive(Drop)]
+#[derive(Clone, Copy)]
 pub struct Record {
     pub mid_price: i64,
     pub inventory: i64,
@@ -39,7 +39,7 @@ pub struct Record {
 
 // A record and the place of the next; a refusal by 2, with the place where reading goes on; or a
 // refusal by 6 or 7, after which nothing more is read.
-#[derive(Drop)]
+#[derive(Clone, Copy)]
 pub enum RecordAnswer {
     Record(Record, usize),
     Skipped(u8, usize),
@@ -47,14 +47,14 @@ pub enum RecordAnswer {
 }
 
 // A number and the place after it, or a refusal.
-#[derive(Drop)]
+#[derive(Clone, Copy)]
 enum Number {
     Value(u64, usize),
     Refused(u8),
 }
 
 // The place after some numbers, or a refusal by 6 or 7.
-#[derive(Drop)]
+#[derive(Clone, Copy)]
 pub enum NumbersAnswer {
     Taken(usize),
     Refused(u8),

@@ -14,7 +14,7 @@ use model::GLFTConfig;
 pub const RECORD_ROOM: usize = FIELDS * MOST_GROUPS;
 
 // The bytes that the record takes, or a refusal by 20 or 2.
-#[derive(Drop)]
+#[derive(Clone, Copy)]
 pub enum SaveAnswer {
     Saved(usize),
     Refused(u8),

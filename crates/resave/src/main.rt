@@ -21,7 +21,7 @@ const ROOM: usize = MOST_BYTES + RECORD_ROOM;
 const INPUT: usize = MOST_BYTES + 1;
 
 // The bytes that were put into the buffer, and the place where reading goes on.
-#[derive(Drop)]
+#[derive(Clone, Copy)]
 struct Kept {
     count: usize,
     next: usize,

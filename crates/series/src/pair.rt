@@ -10,14 +10,14 @@ ghost use Rattle.series.specs.Pairs.{pair_of, operator_of, partial_of};
 use crate::taylor::MAX_TAYLOR_ORDER;
 
 // The entries of the end row and of the centre.
-#[derive(Drop)]
+#[derive(Clone, Copy)]
 struct Pair {
     end: f64,
     centre: f64,
 }
 
 // The operator over two rows, with a step's diagonal. The centre's left factor stands for both of its.
-#[derive(Drop)]
+#[derive(Clone, Copy)]
 struct TwoRows {
     eta_dt: f64,
     diag: Pair,
@@ -26,7 +26,7 @@ struct TwoRows {
 }
 
 // A series so far: its last term, the sum with it, and whether it has converged.
-#[derive(Drop)]
+#[derive(Clone, Copy)]
 struct Partial {
     term: Pair,
     sum: Pair,

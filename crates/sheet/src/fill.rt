@@ -11,7 +11,7 @@ use lines::LEAST_ROOM;
 use lines::refusals::SMALL_BUFFER;
 
 // The bytes that the texts take and the place of the next record, or a refusal by 8 or 21.
-#[derive(Drop)]
+#[derive(Clone, Copy)]
 pub enum FillAnswer {
     Filled(usize, usize),
     Refused(u8),

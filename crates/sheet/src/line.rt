@@ -12,7 +12,7 @@ use record::{Record, config_of};
 pub const MOST_BYTES: usize = 65536;
 
 // The length of a text and the place of the next record; the end of the sheet; or a refusal by 8 or 21.
-#[derive(Drop)]
+#[derive(Clone, Copy)]
 pub enum LineAnswer {
     Written(usize, usize),
     End,

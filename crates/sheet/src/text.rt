@@ -14,7 +14,7 @@ use lines::{LEAST_ROOM, LineWritten, write_refusal};
 use record::{Record, RecordAnswer, read_as};
 
 // The kinds of text.
-#[derive(Drop)]
+#[derive(Clone, Copy)]
 pub enum Kind {
     Line,
     Ladder,

@@ -16,7 +16,7 @@ use elementary::{Check, bits_of};
 use vector::{MAX_EXPM_STEPS, MAX_INVENTORY_LOTS, RunInput};
 
 // The first row that agrees, if one does.
-#[derive(Drop)]
+#[derive(Clone, Copy)]
 pub(crate) enum Found {
     Row(usize),
     Nothing,

@@ -170,7 +170,7 @@ fn lent_after(s: &[u8], at: usize, lent: usize) -> usize {
 }
 
 // How many bytes are left to write, and how many numbers the next call gets.
-#[derive(Drop)]
+#[derive(Clone, Copy)]
 struct Progress {
     used: usize,
     lent: usize,
@@ -196,7 +196,7 @@ fn put_lines(
 }
 
 // What may follow a block: more, with as many numbers for the next call, or nothing.
-#[derive(Drop)]
+#[derive(Clone, Copy)]
 enum Ahead {
     More(usize),
     Nothing,

@@ -9,7 +9,7 @@ use table::places::{
 use vector::MAX_DIM;
 
 // Where a number stands in a table.
-#[derive(Drop)]
+#[derive(Clone, Copy)]
 enum Place {
     At(usize),
     Nowhere,

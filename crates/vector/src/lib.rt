@@ -19,7 +19,7 @@ pub use run::refused_vector;
 const REBALANCE_FLOOR: f64 = 1e-200;
 
 // v_i is proportional to w_i exp(log_offset_i), over the first n entries; the rest is 0.0.
-#[derive(Drop)]
+#[derive(Clone, Copy)]
 pub struct ValueVector {
     pub w: [f64; MAX_DIM],
     pub log_offset: [f64; MAX_DIM],
@@ -28,7 +28,7 @@ pub struct ValueVector {
 
 // The end of a run: the steps spent; or the steps needed, the budget left and the steps spent; or a
 // refusal's number.
-#[derive(Drop)]
+#[derive(Clone, Copy)]
 pub enum Outcome {
     Done(u32),
     OverCap(f64, u32, u32),
@@ -36,7 +36,7 @@ pub enum Outcome {
 }
 
 // A run's end, with the value vector beside it: the blank one, unless the run is done.
-#[derive(Drop)]
+#[derive(Clone, Copy)]
 pub struct VectorAnswer {
     pub outcome: Outcome,
     pub vector: ValueVector,

@@ -22,7 +22,7 @@ use plan::Planned;
 
 // Where a run stands: the steps planned, the budget left, the time left and the time of a step;
 // whether it asks for a plan; and how it ends where no steps are planned.
-#[derive(Drop)]
+#[derive(Clone, Copy)]
 pub(crate) struct Pace {
     pub(crate) steps: u32,
     pub(crate) budget: u32,
@@ -114,7 +114,7 @@ fn end_of(pace: Pace) -> Outcome
 }
 
 // The largest weight, from 0.0, and whether every weight is finite and positive.
-#[derive(Drop)]
+#[derive(Clone, Copy)]
 struct Top {
     weight: f64,
     positive: bool,

@@ -1,0 +1,63 @@
+-- The rows so far are those of the vector as it was, and so is the entry before the next.  Assumes nothing.
+use mathlib.Core.Path.{◌≡◌, refl, ap, ◌∙◌}
+use Prim.Native.Nat.{◌+◌, ◌-◌}
+use native.Mathlib.Nat.{le_refl}
+use native.Mathlib.Omega.{arith}
+use mathlib.Core.Bool.{false}
+use mathlib.Core.List.{List}
+use lib.Dec.{ltb}
+use lib.ListN.{length, length-set}
+use lib.Ieee.{Float}
+use Rattle.operator.specs.Vectors.{at}
+use Rattle.operator.proofs.Loops.{filled_zero, stored, stored_last, at_filled, before_first, before_later}
+use Rattle.series.proofs.Slices.{never_plain, row_through, row_last, converged_at, first_made}
+use Rattle.series.proofs.taylor.first_term.Invariants.{row}
+use Rattle.series.proofs.taylor.first_term.Goals as goal
+
+pub loop-i-init : goal.loop-i-init
+loop-i-init c = (omega arith, omega arith, omega arith, before_first _ 0 refl, filled_zero _ _, filled_zero _ _)
+
+pub loop-i-preserved : goal.loop-i-preserved
+loop-i-preserved c =
+    let l = c in
+    let s = l in
+    let a = s.args in
+    let v = a.v.now in
+    let k = l.loop-i.i in
+    let i = l.loop-i.invariant in
+    let here : at l.loop-i.v k ≡ at v k = ap (λ (m : List Float). at m k) i.5 ∙ at_filled _ v k k (le_refl k) in
+    let above : at l.loop-i.v (k + 1) ≡ at v (k + 1) = ap (λ (m : List Float). at m (k + 1)) i.5 ∙ at_filled _ v k (k + 1) (omega arith) in
+    let t : c.row_at-t.result ≡ row a.half v a.diag.now a.eta_dt a.left.now a.right.now k =
+    row_through a.half false _ a.eta_dt v k _ _ _ (omega arith) i.3 refl (never_plain (ltb 0 k)) (rw (here, above) at c.row_at-t.ensures) in
+    let up : k ≡ k + 1 - 1 = omega arith in (
+      omega arith,
+      simp length-set i.1,
+      simp length-set i.2,
+      here ∙ ap (at v) up ∙ before_later v (k + 1) (omega arith),
+      stored _ _ _ k _ (omega arith) i.4 t,
+      stored _ _ _ k _ (omega arith) i.5 (rw (here, t)),
+    )
+
+pub has_converged-requires : goal.has_converged-requires
+has_converged-requires c = simp length-set (omega arith)
+
+pub shape_of-v : goal.shape_of-v
+shape_of-v c = simp length-set (omega arith)
+
+pub shape_of-out : goal.shape_of-out
+shape_of-out c = simp length-set (omega arith)
+
+pub returns : goal.returns
+returns c =
+    let q = c in
+    let l = q in
+    let s = l in
+    let a = s.args in
+    let v = a.v.now in
+    let k = l.loop-i.i in
+    let i = l.loop-i.invariant in
+    let here : at l.loop-i.v k ≡ at v k = ap (λ (m : List Float). at m k) i.5 ∙ at_filled _ v k k (le_refl k) in
+    let t : q.last_row-t.result ≡ row a.half v a.diag.now a.eta_dt a.left.now a.right.now k =
+    row_last a.half false _ a.eta_dt v k _ _ (omega arith) i.3 (rw here at q.last_row-t.ensures) in
+    first_made a.half false _ a.eta_dt v _ _ _ (stored_last _ _ _ k k (length v) _ (omega arith) refl (omega arith) i.4 t) (stored_last _ v _ k k (length v) _ (omega arith) refl refl i.5 (rw (here, t)))
+    (c.has_converged.ensures ∙ converged_at _ _ _ _ (simp length-set i.1))
