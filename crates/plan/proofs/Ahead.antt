@@ -123,6 +123,7 @@ first_plans x r = (to (first_failing (input_checks x)) refl, from r)
     checked : (n : ℕ) → Refuses (input_checks x) n → FirstPlanIs x (FirstPlan.Refused n)
     checked n (here f) = by_5 f
     checked n (Checks.later f (here b)) = by_1 f b
+    checked n (Checks.later f (Checks.later _ x)) = elim x [ ]
 
     to : (v : Verdict) → first_failing (input_checks x) ≡ v → plan_if v (plan_ahead x) ≡ r → FirstPlanIs x r
     to passes t e = let (f, b) = input_passes x t in passed f b ((first_when x r).0 e)

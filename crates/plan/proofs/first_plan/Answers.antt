@@ -1,0 +1,22 @@
+-- By the verdict of the checks; past them alpha and eta are above zero. Assumes nothing.
+use Rattle.std.proofs.Common.{◌≡◌, sym, ◌∙◌}
+use Rattle.elementary.specs.Checks.{passes, first_failing}
+use Rattle.elementary.proofs.Checks.{check_passes, check_refused}
+use Rattle.plan.specs.Input.{input_checks}
+use Rattle.plan.specs.Count.{first_plan, plan_over, plan_if}
+use Rattle.plan.proofs.Bounds.{input_passed}
+use Rattle.plan.proofs.first_plan.Goals as goal
+
+passes-is : (c : goal.In-Passes) → first_failing (input_checks c.args.input) ≡ passes
+passes-is c = check_passes _ (sym c.in-Passes.is ∙ c.check_input.ensures)
+
+pub plan_within-requires : goal.plan_within-requires
+plan_within-requires c = input_passed _ (passes-is c)
+
+pub returns-in-Passes : goal.returns-in-Passes
+unfolding first_plan plan_over plan_if
+returns-in-Passes c = rw (passes-is c.before) c.plan_within.ensures
+
+pub returns-in-Refused : goal.returns-in-Refused
+unfolding first_plan plan_over plan_if
+returns-in-Refused c = let n = c in rw (check_refused _ _ (sym n.in-Refused.is ∙ n.check_input.ensures))

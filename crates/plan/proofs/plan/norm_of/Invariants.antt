@@ -1,0 +1,15 @@
+use Rattle.std.proofs.Common.{◌≡◌, ℕ, ◌-◌, ◌≤◌, List, length}
+use lib.Ieee.{Float}
+use Rattle.elementary.specs.Float.{◌⊕◌, ◌⊗◌, 0ᶠ}
+use Rattle.operator.specs.Vectors.{tab, at, fold, larger, abs}
+use Rattle.plan.specs.Plan.{norm}
+use Rattle.plan.proofs.plan.norm_of.Given as goal
+
+abbrev pub row_sum : List Float → Float → List Float → List Float → ℕ → Float
+row_sum d eta left right i = abs (at d i) ⊕ eta ⊗ (at left i ⊕ at right i)
+
+abbrev pub invariant-loop-i : goal.invariant-loop-i
+invariant-loop-i l = (l.i ≤ length l.diag_s) × (l.norm ≡ fold larger 0ᶠ (tab l.i (row_sum l.diag_s l.eta l.left l.right)))
+
+abbrev pub decreases-loop-i : goal.decreases-loop-i
+decreases-loop-i l = length l.diag_s - l.i
