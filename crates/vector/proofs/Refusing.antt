@@ -28,6 +28,7 @@ vector_refusals x n = (to (first_failing (input_checks x)) refl, from n)
     checked : (m : ℕ) → Refuses (input_checks x) m → VectorRefused x m
     checked m (here f) = by_5 f
     checked m (later f (here b)) = by_1 f b
+    checked m (later f (later _ x)) = elim x [ ]
 
     to : (v : Verdict) → first_failing (input_checks x) ≡ v → (vector_if v (vector_by (rows x.bound) (run x))).outcome ≡ Outcome.Refused n → VectorRefused x n
     to passes t i =

@@ -1,0 +1,37 @@
+-- The loop's invariant: the first i weights are divided, and `calm` says that none of them calls for rebalancing. Assumes nothing.
+use mathlib.Core.Path.{◌≡◌, refl, sym, ap, ◌∙◌}
+use Prim.Native.Nat.{◌-◌}
+use native.Mathlib.Nat.{le_refl}
+use native.Mathlib.Omega.{arith}
+use mathlib.Core.Bool.{false, not}
+use mathlib.Core.List.{List}
+use lib.ListN.{length, length-set}
+use lib.Ieee.{Float, inf}
+use Rattle.elementary.specs.Float.{◌⊘◌}
+use Rattle.operator.specs.Vectors.{at, fold, smaller}
+use Rattle.vector.specs.Run.{rebalances}
+use Rattle.operator.proofs.Loops.{filled_zero, stored, filled_all, at_filled, every_zero, every_suc, every_at}
+use Rattle.vector.proofs.RunLaws.{calm_is}
+use Rattle.vector.proofs.run.divide.Invariants.{quotient}
+use Rattle.vector.proofs.run.divide.Goals as goal
+
+pub loop-i-init : goal.loop-i-init
+loop-i-init c = (omega arith, refl, filled_zero _ _, every_zero _)
+
+pub loop-i-preserved : goal.loop-i-preserved
+loop-i-preserved c =
+    let at-loop = c in
+    let i = at-loop.loop-i.i in
+    let inv = at-loop.loop-i.invariant in
+    let x = at-loop.args in
+    let f = quotient x.w.now x.max in
+    let old : at at-loop.loop-i.w i ⊘ x.max ≡ f i = rw inv.2 (ap (λ (y : Float). y ⊘ x.max) (at_filled f x.w.now i i (le_refl i))) in
+    (omega arith, simp length-set inv.1, stored f x.w.now _ i _ (omega arith) inv.2 old, rw (inv.3, c.must_rebalance.ensures, old) (every_suc i _))
+
+pub returns : goal.returns
+returns c =
+    let i = c.loop-i.i in
+    let x = c.args in
+    let e : i ≡ length x.w.now = omega arith in
+    let all = filled_all _ _ _ i _ e e c.loop-i.invariant.2 in
+    record { w_after = all; value = c.loop-i.invariant.3 ∙ every_at _ _ _ e ∙ calm_is _ (quotient x.w.now x.max) x.steps ∙ ap (λ (l : List Float). not (rebalances (fold smaller (inf false) l) x.steps)) (sym all) }

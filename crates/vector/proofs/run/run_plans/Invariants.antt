@@ -1,0 +1,18 @@
+use mathlib.Core.Path.{◌≡◌}
+use lib.ListN.{length}
+use Rattle.elementary.specs.Float.{1ᶠ}
+use Rattle.operator.specs.Vectors.{fill}
+use Rattle.plan.specs.Plan.{cap, begin}
+use Rattle.vector.specs.Run.{run_on}
+use Rattle.vector.specs.Inner.{Between, weight}
+use Rattle.series.specs.Half.{full_size, full}
+use Rattle.vector.specs.Half.{full_fixed}
+use Rattle.vector.proofs.run.run_plans.Given as goal
+
+abbrev pub invariant-loop-pace : goal.invariant-loop-pace
+invariant-loop-pace l =
+    let p = full_fixed l.half l.n l.diag_s l.eta in
+    (length l.w ≡ length l.initial.w) × (length l.o ≡ length l.initial.o) × Between p (run_on cap p (begin p cap (fill (full_size l.half l.n) 1ᶠ) (full l.half l.n l.initial.o) l.tau)) (full l.half l.n l.w) (full l.half l.n l.o) l.pace
+
+abbrev pub decreases-loop-pace : goal.decreases-loop-pace
+decreases-loop-pace l = weight l.pace
