@@ -3,5 +3,5 @@ pub mod Differences
 pub mod Sizes
 pub mod Limits
 pub mod Words
-pub mod Billionths
+pub mod Counting
 pub mod Least

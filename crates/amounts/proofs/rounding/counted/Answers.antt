@@ -1,0 +1,34 @@
+use Rattle.std.proofs.Common.{T, sym, subst, lt_trans, lit<}
+use lib.Ieee.{binary64, fits}
+use Rattle.elementary.proofs.Parts.{positive_no_nan}
+use Rattle.amounts.proofs.Counting.{field_most, shift_lt, unit_some, unit_small, by_words}
+use Rattle.amounts.proofs.rounding.counted.Goals as goal
+
+-- the format holds x
+held : (c : goal.Start) → T (fits binary64 c.args.x)
+held c = subst T (sym c.well_formed.0.1) tt
+
+pub float_to_bits-bits : goal.float_to_bits-bits
+float_to_bits-bits c = positive_no_nan c.args.x c.requires.t
+
+pub overflow_sub-field : goal.overflow_sub-field
+overflow_sub-field c =
+    let s = c in
+    field_most s.args.x (held s.before) s.requires.t s.requires.hex_value
+
+pub overflow_shl-field : goal.overflow_shl-field
+overflow_shl-field c =
+    let s = c in
+    lt_trans (shift_lt s.args.x (held s.before) s.requires.t s.requires.hex_value) (lit< tt)
+
+pub divided-requires : goal.divided-requires
+divided-requires c =
+    let s = c in
+    let e = c.times_billion.ensures in
+    record { high_bound = (e.1, e.2); unit_nonzero = (unit_some s.args.x (held s.before) s.requires.t s.requires.hex_value, unit_small s.args.x (held s.before) s.requires.t s.requires.hex_value) }
+
+pub returns : goal.returns
+returns c =
+    let s = c in
+    let p = c.times_billion in
+    by_words s.args.x (held s.before.before) s.requires.t s.requires.hex_value s.args.cut c.divided.result p.result.high p.result.low p.ensures.0 c.divided.ensures
