@@ -33,6 +33,7 @@ module _ (k base : Float) (x : RunInput) (q : ℤ) where
   checked n (here f) = Count.at_5 f
   checked n (later f (here b)) = Count.at_1 f b
   checked n (later f (later b (here h))) = Count.at_4 f b h
+  checked n (later f (later b (later _ x))) = elim x [ ]
 
 pub step_counts : StepCounts
 unfolding step_count count_over plan_if

@@ -84,6 +84,7 @@ distances_refusals v k base q n = (to (first_failing (distance_checks v k base q
     failed_by m (here f) = by_5 f
     failed_by m (later f (here b)) = by_1 f b
     failed_by m (later f (later b (here h))) = by_4 f b h
+    failed_by m (later f (later b (later _ x))) = elim x [ ]
 
     to : (t : Verdict) → first_failing (distance_checks v k base q) ≡ t → distances_if t read ≡ Sides.Refused n → DistancesRefused v k base q n
     to passes t e = all ((none_failing (distance_checks v k base q)).0 t)
@@ -124,6 +125,7 @@ module _ (k base : Float) (x : RunInput) (q : ℤ) where
   checked n (here f) = at_5 f
   checked n (later f (here b)) = at_1 f b
   checked n (later f (later b (here h))) = at_4 f b h
+  checked n (later f (later b (later _ x))) = elim x [ ]
 
   pub by_check : {n : ℕ} → Refuses (entry_checks k base x q) n → first_failing (entry_checks k base x q) ≡ refused n
   by_check {n} r = (first_failing_lem (entry_checks k base x q) n).1 r

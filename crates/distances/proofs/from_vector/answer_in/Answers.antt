@@ -1,0 +1,19 @@
+use mir.Facts.{to_z-of_z}
+use Rattle.distances.specs.Reading.{read_by}
+use Rattle.distances.proofs.from_vector.answer_in.Goals as goal
+
+pub returns-in-Done : goal.returns-in-Done
+unfolding read_by
+returns-in-Done c =
+    let d = c in
+    let o = d in
+    let s = o in
+    rw (o.in-Done.is, c.with_steps.ensures, d.distances_in.ensures, to_z-of_z s.ranges.q)
+
+pub returns-in-OverCap : goal.returns-in-OverCap
+unfolding read_by
+returns-in-OverCap c = rw c.in-OverCap.is
+
+pub returns-in-Refused : goal.returns-in-Refused
+unfolding read_by
+returns-in-Refused c = rw c.in-Refused.is

@@ -1,0 +1,25 @@
+-- By the verdict of the checks; past them the numbers of the run pass below. Assumes nothing.
+use mathlib.Core.Path.{◌≡◌, sym, ◌∙◌}
+use mir.Facts.{to_z-of_z}
+use Rattle.elementary.specs.Checks.{passes, first_failing}
+use Rattle.elementary.proofs.Checks.{check_passes, check_refused}
+use Rattle.plan.specs.Count.{plan_if, plan_over, first_plan}
+use Rattle.distances.specs.FloatEntry.{entry_checks}
+use Rattle.distances.specs.Count.{count_over, step_count}
+use Rattle.distances.proofs.Checked.{passed, input_passes}
+use Rattle.distances.proofs.step_count.Goals as goal
+
+pub returns-in-Passes : goal.returns-in-Passes
+unfolding step_count count_over first_plan plan_over plan_if
+returns-in-Passes c =
+    let passes-is : let a = c.args in first_failing (entry_checks a.k a.base a.input a.q) ≡ passes = check_passes _ (rw (to_z-of_z c.ranges.q) at (sym c.in-Passes.is ∙ c.check_entry.ensures)) in
+    let e = passes-is in
+    let p = passed _ _ _ c.args.q e in
+    rw e (rw (input_passes _ _ _ p.floats p.bound_is_ok) at c.first_plan.ensures)
+
+pub returns-in-Refused : goal.returns-in-Refused
+unfolding step_count count_over plan_if
+returns-in-Refused c =
+    let n = c in
+    let e = n in
+    rw (check_refused _ _ (rw (to_z-of_z e.ranges.q) at (sym n.in-Refused.is ∙ e.check_entry.ensures)))
