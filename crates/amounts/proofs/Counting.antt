@@ -197,6 +197,11 @@ count_within z n h = subst Within (sym h) (go (amount_ok z) (leb→le (nat_abs z
     go true l = l tt
     go false l = lit≤ tt
 
+-- a number within the limit fits 64 bits, and so does its opposite
+pub held : (z : ℤ) → nat_abs z ≤ amount_limit → SFits w64 z
+held (pos n) h = record { sfits = omega arith }
+held (negsuc n) h = record { sfits = omega arith }
+
 pub minus_held : (z : ℤ) → nat_abs z ≤ amount_limit → SFits w64 (pos 0 -ℤ z)
 minus_held z h = rw (+ℤ_idl (neg_ℤ z)) (go z h)
   where

@@ -8,7 +8,7 @@ use Rattle.amounts.specs.Amounts.{above0}
 -- ---- bits
 -- a field's bits are read back as its number
 pub kept : (z : ℤ) → mag z < 2 ^ 63 → to_z w64 (of_z w64 z) ≡ z
-kept z h = to_z-of_z (record { sfits = h })
+kept z h = to_z-of_z {w = w64} (record { sfits = h })
 
 -- the bits of a number above zero
 some_bits : (z : ℤ) → T (above0 z) → 0 < of_z w64 z

@@ -4,15 +4,12 @@ use lib.Ieee.{Float, neg}
 use Rattle.amounts.specs.Amounts.{amount_limit}
 use Rattle.amounts.specs.Inner.{size_by, count_of}
 use Rattle.amounts.specs.declared.rounding.Billionths.TheVariants.{Count}
-use Rattle.amounts.proofs.Counting.{below, opposite, is_opposite, count_within, minus_held}
+use Rattle.amounts.proofs.Counting.{below, opposite, is_opposite, count_within, held, minus_held}
 use Rattle.amounts.proofs.rounding.below_zero.Goals as goal
 
 -- the opposite's count
 abbrev n : goal.In-Count → ℤ
 n c = c.in-Count.n
-
-fits : (c : goal.In-Count) → SFits w64 (n c)
-fits c = record { sfits = c.known_told-1.given.0.1 }
 
 -- the size of x, cut
 abbrev size : Float → ℤ
@@ -23,6 +20,9 @@ counted c = sym c.in-Count.is ∙ c.sized.ensures
 
 within : (c : goal.In-Count) → nat_abs (n c) ≤ amount_limit
 within c = count_within (size c.args.x) (n c) (counted c)
+
+fits : (c : goal.In-Count) → SFits w64 (n c)
+fits c = held (n c) (within c)
 
 pub overflow_sub-result : goal.overflow_sub-result
 overflow_sub-result c = rw (to_z-of_z (fits c)) (minus_held (n c) (within c))
