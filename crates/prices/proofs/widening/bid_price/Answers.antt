@@ -1,0 +1,61 @@
+use mathlib.Core.Path.{◌≡◌}
+use Prim.Native.Nat.{◌*◌, ◌≤◌}
+use native.Mathlib.Omega.{arith}
+use lib.IntN.{ℤ, nat_abs, ◌+ℤ◌, ◌-ℤ◌}
+use lib.Dec.{T}
+use mir.Syntax.{w64}
+use mir.Val.{SFits, to_z, of_z}
+use mir.Facts.{to_z-of_z}
+use borrow.Author.Rules.{rules}
+use Rattle.amounts.specs.Amounts.{amount_limit, amount_ok}
+use Rattle.amounts.proofs.Sizes.{size_add, size_sub, size_fits, amount_size}
+use Rattle.prices.specs.Prices.{each, bid_price}
+use Rattle.prices.proofs.widening.bid_price.Goals as goal
+
+pub overflow_add-result : goal.overflow_add-result
+unfolding each
+overflow_add-result c =
+    let distance : ℤ = c.in-At.d in
+    let distance_is : to_z w64 (of_z w64 distance) ≡ distance = search rules in
+    let outward : ℤ = distance +ℤ c.args.w in
+    let distance-ok : T (amount_ok distance) = rw c.in-At.is at c.requires.2 in
+    let outward-size : nat_abs outward ≤ 4 * amount_limit = let s = c in
+    omega (arith, amount_size distance distance-ok, s.requires.1, size_add distance s.args.w) in
+    let outward-fits : SFits w64 outward = size_fits outward (omega (arith, outward-size)) in
+    rw (distance_is, to_z-of_z c.ranges.w) outward-fits
+
+pub overflow_sub-result : goal.overflow_sub-result
+unfolding each
+overflow_sub-result c =
+    let distance : ℤ = c.in-At.d in
+    let distance_is : to_z w64 (of_z w64 distance) ≡ distance = search rules in
+    let outward : ℤ = distance +ℤ c.args.w in
+    let distance-ok : T (amount_ok distance) = rw c.in-At.is at c.requires.2 in
+    let outward-size : nat_abs outward ≤ 4 * amount_limit = let s = c in
+    omega (arith, amount_size distance distance-ok, s.requires.1, size_add distance s.args.w) in
+    let outward-fits : SFits w64 outward = size_fits outward (omega (arith, outward-size)) in
+    let price : ℤ = c.args.mid -ℤ outward in
+    let price-fits : SFits w64 price = let s = c in
+    size_fits price (omega (arith, amount_size s.args.mid s.requires.0, outward-size, size_sub s.args.mid outward)) in
+    let f = c.ranges in
+    rw (distance_is, to_z-of_z f.w, to_z-of_z outward-fits, to_z-of_z f.mid) price-fits
+
+pub returns-in-At : goal.returns-in-At
+unfolding bid_price each
+returns-in-At c =
+    let distance : ℤ = c.in-At.d in
+    let distance_is : to_z w64 (of_z w64 distance) ≡ distance = search rules in
+    let outward : ℤ = distance +ℤ c.args.w in
+    let distance-ok : T (amount_ok distance) = rw c.in-At.is at c.requires.2 in
+    let outward-size : nat_abs outward ≤ 4 * amount_limit = let s = c in
+    omega (arith, amount_size distance distance-ok, s.requires.1, size_add distance s.args.w) in
+    let outward-fits : SFits w64 outward = size_fits outward (omega (arith, outward-size)) in
+    let price : ℤ = c.args.mid -ℤ outward in
+    let price-fits : SFits w64 price = let s = c in
+    size_fits price (omega (arith, amount_size s.args.mid s.requires.0, outward-size, size_sub s.args.mid outward)) in
+    let f = c.ranges in
+    rw (c.in-At.is, distance_is, to_z-of_z f.w, to_z-of_z outward-fits, to_z-of_z f.mid, to_z-of_z price-fits)
+
+pub returns-in-Absent : goal.returns-in-Absent
+unfolding bid_price
+returns-in-Absent c = rw c.in-Absent.is

@@ -1,0 +1,40 @@
+use mathlib.Core.Path.{◌≡◌, ◌∙◌}
+use native.Mathlib.Omega.{arith}
+use lib.IntN.{ℤ}
+use lib.Dec.{T}
+use mir.Syntax.{w64}
+use mir.Val.{SFits, to_z, of_z}
+use mir.Facts.{to_z-of_z}
+use borrow.Author.Rules.{rules}
+use Rattle.amounts.specs.Amounts.{amount_ok}
+use Rattle.amounts.proofs.Sizes.{size_fits}
+use Rattle.prices.specs.Prices.{each, widening}
+use Rattle.prices.specs.declared.Price.{Price}
+use Rattle.prices.specs.declared.Price.TheVariants.{At}
+use Rattle.prices.proofs.Building.{size_widening}
+use Rattle.prices.proofs.widening.moved.Goals as goal
+
+same : (l l' b b' : ℤ) (p a : Price) → l' ≡ l → b' ≡ b → p ≡ At b → widening l' (At b') a ≡ widening l p a
+same l l' b b' p a d e f = rw (d, e, f)
+
+pub moved_with-requires : goal.moved_with-requires
+unfolding each
+moved_with-requires c =
+    let bid_is : to_z w64 (of_z w64 c.in-At.b) ≡ c.in-At.b = search rules in
+    let bid-ok : T (amount_ok c.in-At.b) = rw c.in-At.is at c.requires.1 in
+    let s = c in
+    rw (to_z-of_z s.ranges.least, bid_is) (s.requires.0, bid-ok, s.requires.2)
+
+pub returns-in-At : goal.returns-in-At
+returns-in-At c =
+    let moved-fits : let s = c.args in SFits w64 (widening s.least s.bid s.ask) = let s = c in
+    size_fits (widening s.args.least s.args.bid s.args.ask) (omega (arith, size_widening s.args.least s.args.bid s.args.ask s.requires.0 s.requires.1 s.requires.2)) in
+    let bid_is : to_z w64 (of_z w64 c.in-At.b) ≡ c.in-At.b = search rules in
+    let moved-is : let s = c.args in c.moved_with.result ≡ widening s.least s.bid s.ask = let k = c in
+    let s = k in
+    c.moved_with.ensures ∙ same s.args.least _ k.in-At.b _ s.args.bid s.args.ask (to_z-of_z s.ranges.least) bid_is k.in-At.is in
+    rw moved-is (to_z-of_z moved-fits)
+
+pub returns-in-Absent : goal.returns-in-Absent
+unfolding widening
+returns-in-Absent c = rw c.in-Absent.is
