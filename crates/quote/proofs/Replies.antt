@@ -96,6 +96,7 @@ checked_small mid h c vol t (later _ (here e)) = omega arith
 checked_small mid h c vol t (later _ (later _ (here e))) = omega arith
 checked_small mid h c vol t (later _ (later _ (later _ (here e)))) = omega arith
 checked_small mid h c vol t (later _ (later _ (later _ (later _ (here e))))) = omega arith
+checked_small mid h c vol t {n = n} (later _ (later _ (later _ (later _ (later _ x))))) = elim x [ ]
 
 priced_small : {mid least : ℤ} {b a : Distance} {n : ℕ} → Priced mid least b a n → n ≤ crossed
 priced_small (by_13 h) = omega arith

@@ -1,0 +1,18 @@
+use Rattle.std.proofs.Common.{to_z-of_z}
+use Rattle.quote.specs.Quotes.{exact_by}
+use Rattle.quote.proofs.quotes.from_answer.Goals as goal
+
+pub returns-in-Distances : goal.returns-in-Distances
+unfolding exact_by
+returns-in-Distances c =
+    let b = c in
+    let s = b in
+    rw (b.in-Distances.is, c.with_steps.ensures, b.build_quotes.ensures, to_z-of_z s.ranges.mid, to_z-of_z s.ranges.least)
+
+pub returns-in-OverCap : goal.returns-in-OverCap
+unfolding exact_by
+returns-in-OverCap c = rw c.in-OverCap.is
+
+pub returns-in-Refused : goal.returns-in-Refused
+unfolding exact_by
+returns-in-Refused c = rw c.in-Refused.is
