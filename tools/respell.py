@@ -36,7 +36,7 @@ def antt(text, names, plain):
 
 
 def rust(text, names, plain):
-    """Names with a dash stand in imports alone; no name of the code is in camel case. Strings stay."""
+    """Other names stand in imports alone; no name of the code is in camel case. Strings stay."""
     out = []
     for line in text.split("\n"):
         if line.lstrip().startswith("ghost use"):
@@ -53,7 +53,8 @@ def edit(text, names):
 
 def document(text, names, plain):
     spans = re.split(r"(`[^`]*`)", text)
-    return "".join(respell(s, names) if s.startswith("`") else respell(s, plain) for s in spans)
+    inside = {a: b for a, b in names.items() if a in plain or "-" in a}
+    return "".join(respell(s, inside if s.startswith("`") else plain) for s in spans)
 
 
 def turn(path, names, plain):
@@ -74,7 +75,8 @@ def turn(path, names, plain):
 
 def main(root):
     names = table()
-    plain = {a: b for a, b in names.items() if "-" not in a}
+    # what no function of src/ is called: a name in camel case
+    plain = {a: b for a, b in names.items() if "-" not in a and a.lower() != a}
     for folder, dirs, files in os.walk(root):
         dirs[:] = sorted(d for d in dirs if d not in ("out", ".git", "target", "tools"))
         for f in sorted(files):

@@ -17,19 +17,19 @@ length_over t l h = simp (length-append, length-drop) (omega arith)
 -- ---- a buffer that came as l and has the text t at its start, up to a place
 pub record Wrote (l t out : List ℕ) (at : ℕ) : Type 0 where
   pub is : out ≡ over t l
-  pub up_to_lem : at ≡ length t
+  pub up_to : at ≡ length t
 
 pub wrote_length : (l t out : List ℕ) (at : ℕ) → Wrote l t out at → at ≤ length l → length out ≡ length l
-wrote_length l t out at w h = ap length w.is ∙ length_over t l (rw w.up_to_lem at h)
+wrote_length l t out at w h = ap length w.is ∙ length_over t l (rw w.up_to at h)
 
 pub wrote_none : (l : List ℕ) → Wrote l [] l 0
 unfolding over
-wrote_none l = record { is = refl; up_to_lem = refl }
+wrote_none l = record { is = refl; up_to = refl }
 
 -- a byte after the text
 pub wrote_byte : (l t out : List ℕ) (at x : ℕ) → Wrote l t out at → at < length l → Wrote l (t ++ (x ∷ [])) (set out at x) (at + 1)
 unfolding over
-wrote_byte l t out at x w h = record { is = rw (w.is, w.up_to_lem) (byte t (rw w.up_to_lem at h)); up_to_lem = rw w.up_to_lem (sym (more t)) }
+wrote_byte l t out at x w h = record { is = rw (w.is, w.up_to) (byte t (rw w.up_to at h)); up_to = rw w.up_to (sym (more t)) }
   where
     more : (t : List ℕ) → length (t ++ (x ∷ [])) ≡ length t + 1
     more t = length-append t (x ∷ [])
@@ -52,10 +52,10 @@ unfolding over
 wrote_part l t u out part at n w e k =
     record {
       is =
-          rw (e, part_all out at, drop_of_length-le (drop at out) (le_of_eq (length-drop at out)), append-nil, w.is, w.up_to_lem)
+          rw (e, part_all out at, drop_of_length-le (drop at out) (le_of_eq (length-drop at out)), append-nil, w.is, w.up_to)
           (rw (take_at t (drop (length t) l) (length t) refl, drop_at t (drop (length t) l) (length t) refl, length-append t u, drop-drop (length u) (length t) l)
           (sym (append_assoc t u (drop (length t + length u) l))));
-      up_to_lem = rw (w.up_to_lem, k) (sym (length-append t u));
+      up_to = rw (w.up_to, k) (sym (length-append t u));
     }
 
 pub lent_length : (l t u out part : List ℕ) (at n : ℕ) → Wrote l t out at → part ≡ over u (mid_of at (length out - at) out) → n ≡ length u → at + n ≤ length l
@@ -63,4 +63,4 @@ pub lent_length : (l t u out part : List ℕ) (at n : ℕ) → Wrote l t out at 
 lent_length l t u out part at n w e k h = wrote_length l (t ++ u) _ (at + n) (wrote_part l t u out part at n w e k) h
 
 pub wrote_as : (l t u out : List ℕ) (at : ℕ) → Wrote l t out at → t ≡ u → (out ≡ over u l) × (at ≡ length u)
-wrote_as l t u out at w e = (w.is ∙ ap (λ (v : List ℕ). over v l) e, w.up_to_lem ∙ ap length e)
+wrote_as l t u out at w e = (w.is ∙ ap (λ (v : List ℕ). over v l) e, w.up_to ∙ ap length e)

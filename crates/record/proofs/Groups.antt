@@ -140,7 +140,7 @@ grouping_none n l = record { so_far = []; wrote = wrote_none l; whole = refl }
 
 module _ (n : ℕ) (l out : List ℕ) (at rest : ℕ) (fits : length (in_groups n) ≤ length l) (g : Grouping n l out at rest) where
   lengths : at + length (in_groups rest) ≡ length (in_groups n)
-  lengths = ap (λ (m : ℕ). m + length (in_groups rest)) g.wrote.up_to_lem ∙ sym (length-append g.so_far (in_groups rest)) ∙ ap length g.whole
+  lengths = ap (λ (m : ℕ). m + length (in_groups rest)) g.wrote.up_to ∙ sym (length-append g.so_far (in_groups rest)) ∙ ap length g.whole
 
   pub grouping_room : (at < length l) × (length out ≡ length l)
   grouping_room =

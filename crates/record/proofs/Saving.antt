@@ -55,7 +55,7 @@ module _ (v l out : List ℕ) (at i : ℕ) (fits : length (all_in_groups v) ≤ 
   pub saving_length : length out ≡ length l
   saving_length =
       let e = ap length (ap all_in_groups (sym (take-append-drop i v)) ∙ all_append (take i v) (drop i v)) in
-      wrote_length l (all_in_groups (take i v)) out at g.wrote (omega (arith, simp length-append at e, g.wrote.up_to_lem))
+      wrote_length l (all_in_groups (take i v)) out at g.wrote (omega (arith, simp length-append at e, g.wrote.up_to))
 
   module _ (more : i < length v) where
     next : all_in_groups (take (suc i) v) ≡ all_in_groups (take i v) ++ in_groups (get_or v i 0)
@@ -64,7 +64,7 @@ module _ (v l out : List ℕ) (at i : ℕ) (fits : length (all_in_groups v) ≤ 
     pub saving_room : at + length (in_groups (get_or v i 0)) ≤ length l
     saving_room =
         let e = ap length (ap all_in_groups (sym (take-append-drop (suc i) v)) ∙ all_append (take (suc i) v) (drop (suc i) v) ∙ ap (λ (m : List ℕ). m ++ all_in_groups (drop (suc i) v)) next) in
-        omega (arith, simp length-append at e, g.wrote.up_to_lem)
+        omega (arith, simp length-append at e, g.wrote.up_to)
 
     pub saving_more : (part : List ℕ) (n : ℕ) → part ≡ over (in_groups (get_or v i 0)) (mid_of at (length out - at) out) → n ≡ length (in_groups (get_or v i 0))
         → Saving v l (put_mid at (length out - at) out part) (at + n) (i + 1)

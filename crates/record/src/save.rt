@@ -86,7 +86,7 @@ fn numbers_of(r: Record) -> [u64; FIELDS]
 }
 
 // Whether no amount but the holding is below zero.
-fn none_below_lem(r: Record) -> bool
+fn none_below(r: Record) -> bool
     ensures { result ≡ none_below r }
 {
     (0 <= r.mid_price)
@@ -104,7 +104,7 @@ fn can_save(r: Record) -> bool
 {
     model::limits_fit(r.mid_price, r.inventory, config_of(r), r.volatility)
         & (r.current_time <= GLFTConfig::MAX_TIME)
-        & none_below_lem(r)
+        & none_below(r)
 }
 
 // Writes a record at the start of a buffer, as `read_record` reads it: refused by 20, then 2, which

@@ -110,7 +110,7 @@ module _ (s l out : List ℕ) (n at : ℕ) (most : length s ≤ most_bytes) (roo
   pub keeping_all : length s ≤ at → (take n out ≡ kept s) × (n ≤ most_bytes)
   unfolding kept kept_if over
   keeping_all h = (
-    rw (le-leb (length s) most_bytes most, g.wrote.is, take_at g.so_far (drop (length g.so_far) l) n (sym g.wrote.up_to_lem))
+    rw (le-leb (length s) most_bytes most, g.wrote.is, take_at g.so_far (drop (length g.so_far) l) n (sym g.wrote.up_to))
         (sym (append-nil g.so_far) ∙ ap (λ (m : List ℕ). g.so_far ++ m) (sym (kept_none g.turns s at h)) ∙ g.whole),
     omega (arith, g.within, g.short),
   )

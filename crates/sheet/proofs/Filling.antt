@@ -147,7 +147,7 @@ module _ (k : Kind) (s : List ℕ) (at : ℕ) (l out : List ℕ) (n next : ℕ) 
   filling_done : least_room ≤ length l → room_of k ≤ length l → fill k s next (length l - n) ≡ up_to [] next → (FillAnswer.Filled n next ≡ filled_as k s at l) × (out ≡ left_as k s at l)
   unfolding filled_if left_if after
   filling_done h g e =
-      rw (le-leb least_room (length l) h, le-leb (room_of k) (length l) g, f.so_far, e, append-nil f.text) (ap (λ (j : ℕ). FillAnswer.Filled j next) f.wrote.up_to_lem, f.wrote.is)
+      rw (le-leb least_room (length l) h, le-leb (room_of k) (length l) g, f.so_far, e, append-nil f.text) (ap (λ (j : ℕ). FillAnswer.Filled j next) f.wrote.up_to, f.wrote.is)
 
   pub filling_full : least_room ≤ length l → room_of k ≤ length l → length out - n < room_of k → (FillAnswer.Filled n next ≡ filled_as k s at l) × (out ≡ left_as k s at l)
   filling_full h g m = filling_done h g (fill_full k s next (length l - n) (omega (arith, filling_length)))

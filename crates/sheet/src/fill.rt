@@ -18,7 +18,7 @@ pub enum FillAnswer {
 }
 
 // The room for any text of a kind.
-fn room_of_lem(kind: Kind) -> usize
+fn room_of(kind: Kind) -> usize
     ensures { result ≡ room_of kind }
 {
     match kind {
@@ -38,7 +38,7 @@ pub fn fill_texts(sheet: &[u8], at: usize, out: &mut [u8], kind: Kind) -> FillAn
     if out.len() < LEAST_ROOM {
         return FillAnswer::Refused(SMALL_BUFFER);
     }
-    let room = room_of_lem(kind);
+    let room = room_of(kind);
     if out.len() < room {
         return FillAnswer::Refused(SMALL_LADDER_BUFFER);
     }

@@ -1,8 +1,8 @@
--- `record::save::none_below_lem` meets its contract: the machine holds each amount as it is. Assumes nothing.
+-- `record::save::none_below` meets its contract: the machine holds each amount as it is. Assumes nothing.
 use Rattle.amounts.proofs.Limits.{kept}
 use Rattle.record.specs.Save.{none_below}
-use Rattle.record.proofs.save.none_below_lem.Statement.{statement}
-use Rattle.record.proofs.save.none_below_lem.Tie as tie
+use Rattle.record.proofs.save.none_below.Statement.{statement}
+use Rattle.record.proofs.save.none_below.Tie as tie
 
 returns : tie.Need-returns
 unfolding none_below

@@ -27,7 +27,7 @@ returns-2 : tie.Need-returns-2 invariant-loop decreases-loop
 returns-2 c =
     let e = c.before.before in
     let a = e.before.before.before.args in
-    short_fill a.kind a.sheet.now a.at a.out.now e.if1.false (omega (arith, c.if2.true, c.before.room_of_lem.ensures))
+    short_fill a.kind a.sheet.now a.at a.out.now e.if1.false (omega (arith, c.if2.true, c.before.room_of.ensures))
 
 loop-holds : tie.Need-loop-init invariant-loop decreases-loop
 loop-holds c = filling_none _ _ _ _
@@ -40,10 +40,10 @@ within : (l : tie.In-loop invariant-loop decreases-loop) → l.before.loop.n ≤
 within l = omega (arith, filling_length _ _ _ _ _ _ _ l.before.loop.invariant, l.before.loop.invariant.room)
 
 room : (l : tie.In-loop invariant-loop decreases-loop) → room_of l.before.before.before.before.before.before.before.args.kind ≤ length l.before.loop.out - l.before.loop.n
-room l = omega (arith, l.loop-test, l.before.before.before.room_of_lem.ensures)
+room l = omega (arith, l.loop-test, l.before.before.before.room_of.ensures)
 
 rooms : (l : tie.At-loop invariant-loop decreases-loop) → let a = l.before.before.before.before.before.before.args in (least_room ≤ length a.out.now) × (room_of a.kind ≤ length a.out.now)
-rooms l = (l.before.before.before.if1.false, omega (arith, l.before.if2.false, l.before.before.room_of_lem.ensures))
+rooms l = (l.before.before.before.if1.false, omega (arith, l.before.if2.false, l.before.before.room_of.ensures))
 
 sub-next-text : tie.Need-overflow-sub-next-text invariant-loop decreases-loop
 sub-next-text c = within c
@@ -98,7 +98,7 @@ returns-4 : tie.Need-returns-4 invariant-loop decreases-loop
 returns-4 c =
     let l = c.before in
     let h = rooms l in
-    filling_full _ _ _ _ _ _ _ l.loop.invariant h.0 h.1 (omega (arith, c.loop-test, l.before.before.room_of_lem.ensures))
+    filling_full _ _ _ _ _ _ _ l.loop.invariant h.0 h.1 (omega (arith, c.loop-test, l.before.before.room_of.ensures))
 
 pub fill-texts-spec : {M : Type 1} → statement M
 fill-texts-spec =

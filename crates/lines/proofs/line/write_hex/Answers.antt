@@ -1,0 +1,10 @@
+-- `lines::line::write_hex` meets its contract: its digits are those of the float's bits. Assumes nothing.
+use mathlib.Core.Path.{refl}
+use Rattle.lines.specs.Lines.{hex}
+use Rattle.lines.proofs.line.write_hex.Goals as goal
+
+pub returns : goal.returns
+unfolding hex
+returns c =
+    let w = c in
+    record { out_after = rw (← w.bits_of.ensures) w.write_digits.ensures; value = refl }

@@ -1,0 +1,28 @@
+-- `lines::line::write_side` meets its contract, for a price and for none. Assumes nothing.
+use mathlib.Core.Path.{◌≡◌, refl, ap}
+use native.Mathlib.Omega.{arith}
+use mathlib.Core.List.{[], ◌∷◌}
+use lib.Dec.{lit≤}
+use mir.Val.{SFits}
+use mir.Syntax.{w64}
+use mir.Facts.{to_z-of_z}
+use Rattle.lines.specs.Lines.{side, signed}
+use Rattle.buffers.proofs.Texts.{wrote_none, wrote_byte}
+use Rattle.lines.proofs.line.write_side.Goals as goal
+
+pub returns-in-At : goal.returns-in-At
+unfolding side
+returns-in-At c =
+    let p = let side-is : side c.args.p ≡ signed c.in-At.z = ap side c.in-At.is in
+    let w = c in
+    let p = w in
+    let f : SFits w64 p.in-At.z = record { sfits = w.in-At.known_told-1-own.given.0.1 } in
+    rw side-is (rw (to_z-of_z f) at (w.write_signed.ensures.out_after, w.write_signed.ensures.value)) in
+    record { out_after = p.0; value = p.1 }
+
+pub returns-in-Absent : goal.returns-in-Absent
+unfolding side
+returns-in-Absent c =
+    let none_is : side c.args.p ≡ 45 ∷ [] = ap side c.in-Absent.is in
+    let k = c in
+    rw none_is (record { out_after = (wrote_byte _ [] _ 0 45 (wrote_none k.args.out.now) (omega (arith, k.requires))).is; value = (refl, lit≤ tt) })

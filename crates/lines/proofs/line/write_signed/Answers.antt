@@ -1,0 +1,103 @@
+-- `lines::line::write_signed` meets its contract: the sign, where there is one, and the price after it. Assumes nothing.
+use mathlib.Core.Path.{◌≡◌, refl, sym, subst, ◌∙◌}
+use Prim.Native.Nat.{◌+◌, ◌-◌, ◌^◌, ◌≤◌}
+use native.Mathlib.Omega.{arith}
+use mathlib.Core.Bool.{true, false}
+use mathlib.Core.List.{[], ◌∷◌}
+use borrow.Author.Tests.{le-ltb}
+use borrow.Rule.Slice.PartMut.{put_mid}
+use lib.IntN.{ℤ, pos, negsuc, nat_abs}
+use lib.ListN.{length, set, length-set}
+use lib.Signed.{lt_z}
+use lib.Dec.{T}
+use mir.Syntax.{w64}
+use mir.Val.{SFits}
+use mir.Facts.{to_z-of_z}
+use Rattle.lines.specs.Lines.{price, signed}
+use Rattle.lines.specs.Inner.{most_side}
+use Rattle.buffers.proofs.Texts.{Wrote, wrote_none, wrote_byte, wrote_part, wrote_length, part_room, wrote_as}
+use Rattle.lines.proofs.Widths.{price_most}
+use Rattle.lines.proofs.line.write_signed.Goals as goal
+
+-- a price by its sign
+below : (z : ℤ) → lt_z z (pos 0) ≡ true → signed z ≡ 45 ∷ price (nat_abs z)
+unfolding signed
+below (pos n) t = absurd (subst T (sym t ∙ le-ltb n 0 (omega arith)) tt)
+below (negsuc n) t = refl
+
+above : (z : ℤ) → lt_z z (pos 0) ≡ false → signed z ≡ price (nat_abs z)
+unfolding signed
+above (pos n) t = refl
+above (negsuc n) t = absurd (subst T t tt)
+
+held : (z : ℤ) → SFits w64 z → nat_abs z ≤ 2 ^ 63
+held (pos n) h = omega (arith, h.sfits)
+held (negsuc n) h = omega (arith, h.sfits)
+
+pub slice_bounds-write_price-count : goal.slice_bounds-write_price-count
+slice_bounds-write_price-count c = simp length-set (omega (arith, c.requires))
+
+pub slice_bounds-write_price-start : goal.slice_bounds-write_price-start
+slice_bounds-write_price-start c = simp length-set (omega (arith, c.requires))
+
+pub write_price-requires : goal.write_price-requires
+write_price-requires c =
+    let short : length (price (nat_abs c.args.z)) ≤ 20 = price_most _ (held _ c.ranges.z) in
+    let minus : Wrote c.args.out.now (45 ∷ []) (set c.args.out.now 0 45) 1 = wrote_byte _ [] _ 0 45 (wrote_none _) (omega (arith, c.requires)) in
+    let size_is : c.type_size.result ≡ nat_abs c.args.z = rw (to_z-of_z c.ranges.z) at c.type_size.ensures in
+    let s = c in
+    rw size_is (part_room _ _ _ _ _ minus (omega (arith, short, s.requires)))
+
+pub overflow_add-result : goal.overflow_add-result
+overflow_add-result c =
+    let short : length (price (nat_abs c.args.z)) ≤ 20 = price_most _ (held _ c.ranges.z) in
+    let minus : Wrote c.args.out.now (45 ∷ []) (set c.args.out.now 0 45) 1 = wrote_byte _ [] _ 0 45 (wrote_none _) (omega (arith, c.requires)) in
+    let size_is : c.type_size.result ≡ nat_abs c.args.z = rw (to_z-of_z c.ranges.z) at c.type_size.ensures in
+    let whole : let s = c in let l = set s.args.out.now 0 45 in Wrote s.args.out.now (45 ∷ price (nat_abs s.args.z)) (put_mid 1 (length l - 1) l c.write_price.new.out) (1 + c.write_price.result) = let e = rw size_is at (c.write_price.ensures.out_after, c.write_price.ensures.value) in
+    wrote_part _ _ _ _ _ 1 _ minus e.0 e.1 in
+    let few : c.write_price.result + 1 ≤ most_side = omega (arith, short, whole.up_to) in
+    omega (arith, few)
+
+pub shape_of-out-then-z-lt0 : goal.shape_of-out-then-z-lt0
+shape_of-out-then-z-lt0 c =
+    let minus : Wrote c.args.out.now (45 ∷ []) (set c.args.out.now 0 45) 1 = wrote_byte _ [] _ 0 45 (wrote_none _) (omega (arith, c.requires)) in
+    let size_is : c.type_size.result ≡ nat_abs c.args.z = rw (to_z-of_z c.ranges.z) at c.type_size.ensures in
+    let whole : let s = c in let l = set s.args.out.now 0 45 in Wrote s.args.out.now (45 ∷ price (nat_abs s.args.z)) (put_mid 1 (length l - 1) l c.write_price.new.out) (1 + c.write_price.result) = let e = rw size_is at (c.write_price.ensures.out_after, c.write_price.ensures.value) in
+    wrote_part _ _ _ _ _ 1 _ minus e.0 e.1 in
+    let short : length (price (nat_abs c.args.z)) ≤ 20 = price_most _ (held _ c.ranges.z) in
+    let few : c.write_price.result + 1 ≤ most_side = omega (arith, short, whole.up_to) in
+    let w = c in
+    wrote_length _ _ _ _ whole (omega (arith, few, w.requires))
+
+pub returns-then-z-lt0 : goal.returns-then-z-lt0
+returns-then-z-lt0 c =
+    let minus : Wrote c.args.out.now (45 ∷ []) (set c.args.out.now 0 45) 1 = wrote_byte _ [] _ 0 45 (wrote_none _) (omega (arith, c.requires)) in
+    let size_is : c.type_size.result ≡ nat_abs c.args.z = rw (to_z-of_z c.ranges.z) at c.type_size.ensures in
+    let whole : let s = c in let l = set s.args.out.now 0 45 in Wrote s.args.out.now (45 ∷ price (nat_abs s.args.z)) (put_mid 1 (length l - 1) l c.write_price.new.out) (1 + c.write_price.result) = let e = rw size_is at (c.write_price.ensures.out_after, c.write_price.ensures.value) in
+    wrote_part _ _ _ _ _ 1 _ minus e.0 e.1 in
+    let short : length (price (nat_abs c.args.z)) ≤ 20 = price_most _ (held _ c.ranges.z) in
+    let few : c.write_price.result + 1 ≤ most_side = omega (arith, short, whole.up_to) in
+    let w = c in
+    let s = w in
+    let t = below s.args.z (rw (to_z-of_z s.ranges.z) at w.if-z-lt0.true) in
+    let k = wrote_as _ _ _ _ _ whole (sym t) in
+    record { out_after = k.0; value = (omega (arith, k.1), few) }
+
+pub write_price-requires-2 : goal.write_price-requires-2
+write_price-requires-2 c =
+    let short : length (price (nat_abs c.args.z)) ≤ 20 = price_most _ (held _ c.ranges.z) in
+    let size-is-2 : c.size_of-2.result ≡ nat_abs c.args.z = rw (to_z-of_z c.ranges.z) at c.size_of-2.ensures in
+    let s = c in
+    let h : length (price (nat_abs s.args.z)) ≤ length s.args.out.now = omega (arith, short, s.requires) in
+    rw size-is-2 h
+
+pub returns : goal.returns
+returns c =
+    let short : length (price (nat_abs c.args.z)) ≤ 20 = price_most _ (held _ c.ranges.z) in
+    let size-is-2 : c.size_of-2.result ≡ nat_abs c.args.z = rw (to_z-of_z c.ranges.z) at c.size_of-2.ensures in
+    let w = c in
+    let q = w in
+    let s = q in
+    let t = above s.args.z (rw (to_z-of_z s.ranges.z) at q.if-z-lt0.false) in
+    let e = rw (size-is-2, ← t) at (w.write_price-2.ensures.out_after, w.write_price-2.ensures.value) in
+    record { out_after = e.0; value = (e.1, omega (arith, e.1, rw (← t) at short)) }

@@ -1,0 +1,28 @@
+-- `record::record::place_after` meets its contract. The loop's invariant: i numbers are passed. The measure is what is left of n. Assumes nothing.
+use Prim.Native.Nat.{◌-◌}
+use Rattle.record.specs.Inner.{NumberIs}
+use Rattle.record.proofs.Reading.{passed_none, passed_more, answer_refused, answer_taken}
+use Rattle.record.proofs.record.place_after.Goals as goal
+
+pub loop-i-init : goal.loop-i-init
+loop-i-init c = (_, passed_none _ _ _ c.requires)
+
+pub read_number-requires : goal.read_number-requires
+read_number-requires c = c.loop-i.invariant.1.within
+
+pub returns-in-Refused : goal.returns-in-Refused
+unfolding NumberIs
+returns-in-Refused c =
+    let k = c in
+    let r = rw c.in-Refused.is at k.read_number.ensures in
+    answer_refused _ _ _ _ _ _ k.loop-i.invariant.1 _ k.loop-i-test.true r.0
+
+pub loop-i-preserved : goal.loop-i-preserved
+unfolding NumberIs
+loop-i-preserved c =
+    let k = c in
+    let r = rw c.in-Value.is at k.read_number.ensures in
+    (_, passed_more _ _ _ _ _ _ _ _ k.loop-i.invariant.1 k.loop-i-test.true r.0 r.1)
+
+pub returns : goal.returns
+returns c = answer_taken _ _ _ _ _ _ c.loop-i.invariant.1 c.loop-i-test.false
