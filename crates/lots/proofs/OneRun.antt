@@ -125,6 +125,7 @@ market_early : {l v m : Bool} {n : ℕ} → Refuses ((l, limits) ∷ (v, configu
 market_early (here e) = inl refl
 market_early (later _ (here e)) = inr (inl refl)
 market_early (later _ (later _ (here e))) = inr (inr refl)
+market_early {l = l} {v = v} {m = m} {n = n} (later _ (later _ (later _ x))) = elim x [ ]
 
 -- 4 and later numbers are not early
 not_early : {A : Type 0} (n : ℕ) → 4 ≤ n → Early n → A
@@ -138,6 +139,7 @@ early_market y (later l (here e)) = later l (here e)
 early_market y (later l (later v (here e))) = later l (later v (here e))
 early_market y (later l (later v (later m (here e)))) = not_early 4 (omega arith) y
 early_market y (later l (later v (later m (later h (here e))))) = not_early 5 (omega arith) y
+early_market {f = f} {n = n} y (later l (later v (later m (later h (later _ x))))) = elim x [ ]
 
 priced_late : {mid least : ℤ} {b a : Distance} {n : ℕ} → Priced mid least b a n → 4 ≤ n
 priced_late (by_13 h) = omega arith

@@ -116,6 +116,7 @@ module _ (t : List ℕ) (mid h : ℤ) (c : GLFTConfig) (vol : ℤ) (now : ℕ) w
   checks_few (later a (later b (here e))) = omega arith
   checks_few (later a (later b (later d (here e)))) = omega arith
   checks_few (later a (later b (later d (later f (here e))))) = omega arith
+  checks_few {n = n} (later a (later b (later d (later f (later _ x))))) = elim x [ ]
 
   exact_few : (n : ℕ) → exact_quotes mid h c vol now ≡ ExactQuotes.Refused n → n ≤ 14
   unfolding ReplyKept
@@ -141,6 +142,7 @@ module _ (t : List ℕ) (mid h : ℤ) (c : GLFTConfig) (vol : ℤ) (now : ℕ) w
   small_only (checks_refused {n} p k) e = let z : n ≡ 23 = cc in absurd (omega (arith, checks_few k))
   small_only (taken r p k d) e = absurd (omega (arith, row_few r 23 e))
   small_only (made p k d) e = absurd (omega (arith, exact_few 23 e))
+  small_only (table_refused {n = n} (later d (later _ x))) e = elim x [ ]
 
   small_refused : length t < table_room → (table_used t mid h c vol now).reply ≡ ExactQuotes.Refused small_table
   unfolding table_used used_if first_failing first_of verdict
@@ -153,6 +155,7 @@ module _ (t : List ℕ) (mid h : ℤ) (c : GLFTConfig) (vol : ℤ) (now : ℕ) w
   bad_only (checks_refused {n} p k) e = let z : n ≡ 24 = cc in absurd (omega (arith, checks_few k))
   bad_only (taken r p k d) e = absurd (omega (arith, row_few r 24 e))
   bad_only (made p k d) e = absurd (omega (arith, exact_few 24 e))
+  bad_only (table_refused {n = n} (later d (later _ x))) e = elim x [ ]
 
   bad_refused : table_room ≤ length t → Fails t → (table_used t mid h c vol now).reply ≡ ExactQuotes.Refused bad_table
   unfolding table_used used_if first_failing first_of verdict

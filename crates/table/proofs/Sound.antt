@@ -74,6 +74,7 @@ pub record Sound (t : List ℕ) : Type 0 where
 pub not_refused : (t : List ℕ) → table_room ≤ length t → table_ok t ≡ true → {n : ℕ} → Refuses (table_checks t) n → ⊥
 not_refused t l o (here e) = let z : true ≡ false = sym (le-leb table_room (length t) l) ∙ e in absurd (subst T z tt)
 not_refused t l o (later e (here f)) = let z : true ≡ false = sym o ∙ f in absurd (subst T z tt)
+not_refused t l o {n = n} (later e (later _ x)) = elim x [ ]
 
 pub checks_passed : (t : List ℕ) → Passes (table_checks t) → table_ok t ≡ true
 checks_passed t (each a (each b none)) = b

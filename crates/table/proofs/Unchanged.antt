@@ -37,6 +37,7 @@ use Rattle.table.proofs.Sound.{not_refused, cleared_is, cleared_zeros, cleared_l
 pub both_ways : {l : List (Bool × ℕ)} {n : ℕ} → Passes l → Refuses l n → ⊥
 both_ways (each a p) (here e) = absurd (subst T (sym a ∙ e) tt)
 both_ways (each a p) (later e k) = both_ways p k
+both_ways {n = n} none x = elim x [ ]
 
 -- ---- the row that is found is the first that agrees
 module _ (t : List ℕ) (x : RunInput) where

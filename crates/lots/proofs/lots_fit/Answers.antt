@@ -21,7 +21,6 @@ pub nonzero_div-most : goal.nonzero_div-most
 nonzero_div-most c = divides (pos amount_limit) c.args.lot_size most-fits c.ranges.lot_size.sfits c.requires
 
 pub overflow_sub-result : goal.overflow_sub-result
-unfolding most
 overflow_sub-result c =
     let most : ℕ = amount_limit / nat_abs c.args.lot_size in
     let most-is : to_z w64 (of_z w64 (quot_z (pos amount_limit) (to_z w64 (of_z w64 c.args.lot_size)))) ≡ pos most = rw (to_z-of_z c.ranges.lot_size)
@@ -30,7 +29,7 @@ overflow_sub-result c =
     rw most-is minus-fits
 
 pub returns : goal.returns
-unfolding amount_ok most
+unfolding amount_ok
 returns c =
     let most : ℕ = amount_limit / nat_abs c.args.lot_size in
     let most-is : to_z w64 (of_z w64 (quot_z (pos amount_limit) (to_z w64 (of_z w64 c.args.lot_size)))) ≡ pos most = rw (to_z-of_z c.ranges.lot_size)

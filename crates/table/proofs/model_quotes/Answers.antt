@@ -6,11 +6,9 @@ use Rattle.table.proofs.Checked.{table_passed}
 use Rattle.table.proofs.Answering.{row_ready, used_row, used_made}
 use Rattle.table.proofs.model_quotes.Goals as goal
 
--- src/lib.rt:92:11
 pub find-requires : goal.find-requires
 find-requires c = let s = c in (s.requires.0, (table_passed s.args.table.now s.requires.1).few)
 
--- src/lib.rt:93:48
 pub answer_of_row-requires : goal.answer_of_row-requires
 answer_of_row-requires c =
     let s = c in
@@ -18,7 +16,6 @@ answer_of_row-requires c =
     let (few, passes) = row_ready s.args.table.now _ _ s.requires.1 e in
     (s.requires.0, few, passes)
 
--- src/lib.rt:86:1
 pub returns-in-Row : goal.returns-in-Row
 returns-in-Row c =
     let s = c in
@@ -28,13 +25,11 @@ returns-in-Row c =
     let u = used_row s.args.m s.args.q s.args.mid s.args.least s.args.tau t _ e in
     record { value = rw (u, c.quotes_by.ensures, to_z-of_z s.ranges.mid, to_z-of_z s.ranges.least, c.answer_of_row.ensures, to_z-of_z s.ranges.q); table_after = rw u }
 
--- src/lib.rt:86:1
 pub returns-in-Nothing : goal.returns-in-Nothing
 returns-in-Nothing c =
-    let p = let s = c in
+    let s = c in
     let i = c in
     let e = sym c.find.ensures ∙ c.in-Nothing.is in
     let m = c.made_quotes.ensures in
-    used_made s.args.m s.args.q s.args.mid s.args.least s.args.tau s.args.table.now _ i.run_input-input.ensures _ _ _ (to_z-of_z s.ranges.mid) (to_z-of_z s.ranges.least)
-    (to_z-of_z s.ranges.q) e _ _ m.value m.table_after in
-    record { value = p.0; table_after = p.1 }
+    let p = used_made s.args.m s.args.q s.args.mid s.args.least s.args.tau s.args.table.now _ i.run_input-input.ensures _ _ _ (to_z-of_z s.ranges.mid) (to_z-of_z s.ranges.least)
+    (to_z-of_z s.ranges.q) e _ _ m.value m.table_after in record { value = p.0; table_after = p.1 }

@@ -7,9 +7,7 @@ use Rattle.lines.proofs.Written.{line_refused, line_written}
 use Rattle.lines.proofs.horizon.write_plan.Goals as goal
 
 pub returns-then-line-lt-LEAST_ROOM : goal.returns-then-line-lt-LEAST_ROOM
-returns-then-line-lt-LEAST_ROOM c =
-    let p = line_refused _ _ c.if-line-lt-LEAST_ROOM.true in
-    record { value = p.0; line_after = p.1 }
+returns-then-line-lt-LEAST_ROOM c = let p = line_refused _ _ c.if-line-lt-LEAST_ROOM.true in record { value = p.0; line_after = p.1 }
 
 pub write_counted-requires : goal.write_counted-requires
 write_counted-requires c = le_trans (counted_most _ _ (omega arith)) c.if-line-lt-LEAST_ROOM.false
@@ -23,23 +21,20 @@ write_counted-requires-in-Refused c = le_trans (counted_most _ _ (omega arith)) 
 pub returns-in-Steps : goal.returns-in-Steps
 unfolding plan_line
 returns-in-Steps c =
-    let p = let w = c in
+    let w = c in
     let k = w in
-    rw k.in-Steps.is (line_written _ _ _ _ k.if-line-lt-LEAST_ROOM.false w.write_counted.ensures.line_after w.write_counted.ensures.value) in
-    record { value = p.0; line_after = p.1 }
+    rw k.in-Steps.is (let p = line_written _ _ _ _ k.if-line-lt-LEAST_ROOM.false w.write_counted.ensures.line_after w.write_counted.ensures.value in record { value = p.0; line_after = p.1 })
 
 pub returns-in-OverCap : goal.returns-in-OverCap
 unfolding plan_line
 returns-in-OverCap c =
-    let p = let w = c in
+    let w = c in
     let k = w in
-    rw k.in-OverCap.is (line_written _ _ _ _ k.if-line-lt-LEAST_ROOM.false w.write_cap.ensures.line_after w.write_cap.ensures.value) in
-    record { value = p.0; line_after = p.1 }
+    rw k.in-OverCap.is (let p = line_written _ _ _ _ k.if-line-lt-LEAST_ROOM.false w.write_cap.ensures.line_after w.write_cap.ensures.value in record { value = p.0; line_after = p.1 })
 
 pub returns-in-Refused : goal.returns-in-Refused
 unfolding plan_line refusal_line
 returns-in-Refused c =
-    let p = let w = c in
+    let w = c in
     let k = w in
-    rw k.in-Refused.is (line_written _ _ _ _ k.if-line-lt-LEAST_ROOM.false w.write_counted-in-Refused.ensures.line_after w.write_counted-in-Refused.ensures.value) in
-    record { value = p.0; line_after = p.1 }
+    rw k.in-Refused.is (let p = line_written _ _ _ _ k.if-line-lt-LEAST_ROOM.false w.write_counted-in-Refused.ensures.line_after w.write_counted-in-Refused.ensures.value in record { value = p.0; line_after = p.1 })

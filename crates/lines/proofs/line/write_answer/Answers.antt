@@ -7,9 +7,7 @@ use Rattle.lines.proofs.Written.{line_refused, line_written}
 use Rattle.lines.proofs.line.write_answer.Goals as goal
 
 pub returns-then-line-lt-LEAST_ROOM : goal.returns-then-line-lt-LEAST_ROOM
-returns-then-line-lt-LEAST_ROOM c =
-    let p = line_refused _ _ c.if-line-lt-LEAST_ROOM.true in
-    record { value = p.0; line_after = p.1 }
+returns-then-line-lt-LEAST_ROOM c = let p = line_refused _ _ c.if-line-lt-LEAST_ROOM.true in record { value = p.0; line_after = p.1 }
 
 pub write_cap-requires : goal.write_cap-requires
 write_cap-requires c = le_trans (cap_most _ _ (omega arith)) c.if-line-lt-LEAST_ROOM.false
@@ -20,23 +18,20 @@ write_counted-requires c = le_trans (counted_most _ _ (omega arith)) c.if-line-l
 pub returns-in-Quotes : goal.returns-in-Quotes
 unfolding answer_line
 returns-in-Quotes c =
-    let p = let w = c in
+    let w = c in
     let k = w in
-    rw k.in-Quotes.is (line_written _ _ _ _ k.if-line-lt-LEAST_ROOM.false w.write_quotes.ensures.line_after w.write_quotes.ensures.value) in
-    record { value = p.0; line_after = p.1 }
+    rw k.in-Quotes.is (let p = line_written _ _ _ _ k.if-line-lt-LEAST_ROOM.false w.write_quotes.ensures.line_after w.write_quotes.ensures.value in record { value = p.0; line_after = p.1 })
 
 pub returns-in-OverStepCap : goal.returns-in-OverStepCap
 unfolding answer_line
 returns-in-OverStepCap c =
-    let p = let w = c in
+    let w = c in
     let k = w in
-    rw k.in-OverStepCap.is (line_written _ _ _ _ k.if-line-lt-LEAST_ROOM.false w.write_cap.ensures.line_after w.write_cap.ensures.value) in
-    record { value = p.0; line_after = p.1 }
+    rw k.in-OverStepCap.is (let p = line_written _ _ _ _ k.if-line-lt-LEAST_ROOM.false w.write_cap.ensures.line_after w.write_cap.ensures.value in record { value = p.0; line_after = p.1 })
 
 pub returns-in-Refused : goal.returns-in-Refused
 unfolding answer_line refusal_line
 returns-in-Refused c =
-    let p = let w = c in
+    let w = c in
     let k = w in
-    rw k.in-Refused.is (line_written _ _ _ _ k.if-line-lt-LEAST_ROOM.false w.write_counted.ensures.line_after w.write_counted.ensures.value) in
-    record { value = p.0; line_after = p.1 }
+    rw k.in-Refused.is (let p = line_written _ _ _ _ k.if-line-lt-LEAST_ROOM.false w.write_counted.ensures.line_after w.write_counted.ensures.value in record { value = p.0; line_after = p.1 })

@@ -110,12 +110,11 @@ shape_of-line c =
 pub returns : goal.returns
 unfolding cap_line
 returns c =
-    let p = let room : length (count c.args.budget) + 20 ≤ length c.args.line.now = rw (length_cap c.args.need c.args.budget) at c.requires in
+    let room : length (count c.args.budget) + 20 ≤ length c.args.line.now = rw (length_cap c.args.need c.args.budget) at c.requires in
     let letter : Wrote c.args.line.now (67 ∷ 32 ∷ []) (lettered c.args.line.now 67) 2 = wrote_letter _ 67 (omega (arith, room)) in
     let spaced : 2 + c.write_hex-at.result + 1 ≤ length c.args.line.now = omega (arith, room, c.write_hex-at.ensures.value) in
     let needed : let a = c.args in let l = a.line.now in Wrote l (67 ∷ 32 ∷ [] ++ hex a.need ++ (32 ∷ [])) (fielded (lettered l 67) 2 c.write_hex-at.new.out c.write_hex-at.result 32) (2 + c.write_hex-at.result + 1) = let k = c in
     wrote_field _ _ _ _ _ _ _ 32 letter c.write_hex-at.ensures.out_after (c.write_hex-at.ensures.value ∙ sym (length_hex k.args.need)) (omega (arith, spaced)) in
     let short : let h = c in 2 + h.write_hex-at.result + 1 + c.write_count-at.result + 1 ≤ length h.args.line.now = let h = c in omega (arith, room, h.write_hex-at.ensures.value, c.write_count-at.ensures.value) in
     let whole : let h = c in let a = h.args in let l = a.line.now in Wrote l (67 ∷ 32 ∷ [] ++ hex a.need ++ (32 ∷ []) ++ count a.budget ++ (10 ∷ [])) (fielded (fielded (lettered l 67) 2 h.write_hex-at.new.out h.write_hex-at.result 32) (2 + h.write_hex-at.result + 1) c.write_count-at.new.out c.write_count-at.result 10) (2 + h.write_hex-at.result + 1 + c.write_count-at.result + 1) = wrote_field _ _ _ _ _ _ _ 10 needed c.write_count-at.ensures.out_after c.write_count-at.ensures.value (omega (arith, short)) in
-    wrote_as _ _ _ _ _ whole (two_fields 67 _ _) in
-    record { line_after = p.0; value = p.1 }
+    let p = wrote_as _ _ _ _ _ whole (two_fields 67 _ _) in record { line_after = p.0; value = p.1 }

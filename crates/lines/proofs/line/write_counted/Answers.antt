@@ -71,4 +71,5 @@ returns c =
     let letter : Wrote c.args.line.now (c.args.letter ∷ 32 ∷ []) (lettered c.args.line.now c.args.letter) 2 = wrote_letter _ c.args.letter (omega (arith, room)) in
     let short : 2 + c.write_count-at.result + 1 ≤ length c.args.line.now = omega (arith, room, c.write_count-at.ensures.value) in
     let whole : let a = c.args in let l = a.line.now in Wrote l (a.letter ∷ 32 ∷ [] ++ count a.n ++ (10 ∷ [])) (fielded (lettered l a.letter) 2 c.write_count-at.new.out c.write_count-at.result 10) (2 + c.write_count-at.result + 1) = wrote_field _ _ _ _ _ _ _ 10 letter c.write_count-at.ensures.out_after c.write_count-at.ensures.value (omega (arith, short)) in
-    let w = whole in record { line_after = w.is; value = w.up_to }
+    let w = whole in
+    record { line_after = w.is; value = w.up_to }

@@ -54,7 +54,8 @@ write_digits-requires c =
     let room : let a = c.args in c.write_count-k.result + 10 ≤ length a.out.now = let s = c in
     omega (arith, rw (length_price s.args.n) at s.requires, whole.up_to) in
     let pointed : let a = c.args in Wrote a.out.now (count (a.n / 1_000_000_000) ++ (46 ∷ [])) (set c.write_count-k.new.out c.write_count-k.result 46) (c.write_count-k.result + 1) = wrote_byte _ _ _ _ 46 whole (omega (arith, room)) in
-    let k = c in record { lt_base = (lit< tt, lit≤ tt); k_in_bounds = part_room _ _ _ _ 9 pointed (omega (arith, room)) }
+    let k = c in
+    record { lt_base = (lit< tt, lit≤ tt); k_in_bounds = part_room _ _ _ _ 9 pointed (omega (arith, room)) }
 
 pub overflow_add-result : goal.overflow_add-result
 overflow_add-result c =

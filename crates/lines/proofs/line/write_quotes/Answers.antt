@@ -191,7 +191,7 @@ shape_of-line c =
 pub returns : goal.returns
 unfolding quotes_line
 returns c =
-    let p = let room : least_room ≤ length c.args.line.now = c.requires in
+    let room : least_room ≤ length c.args.line.now = c.requires in
     let letter : Wrote c.args.line.now (81 ∷ 32 ∷ []) (lettered c.args.line.now 81) 2 = wrote_letter _ 81 (omega (arith, room)) in
     let spaced : let a = c.args in 2 + c.write_side-at.result + 1 + 34 ≤ length a.line.now = omega (arith, room, c.write_side-at.ensures.value.1) in
     let bid : let a = c.args in let l = a.line.now in Wrote l (81 ∷ 32 ∷ [] ++ side a.q.bid ++ (32 ∷ [])) (fielded (lettered l 81) 2 c.write_side-at.new.out c.write_side-at.result 32) (2 + c.write_side-at.result + 1) = wrote_field _ _ _ _ _ _ _ 32 letter c.write_side-at.ensures.out_after c.write_side-at.ensures.value.0 (omega (arith, spaced)) in
@@ -202,5 +202,4 @@ returns c =
     let b = d in
     omega (arith, spaced2, c.write_count-at.ensures.value, few) in
     let whole : let d = c in let b = d in let a = b.args in let l = a.line.now in Wrote l (81 ∷ 32 ∷ [] ++ side a.q.bid ++ (32 ∷ []) ++ side a.q.ask ++ (32 ∷ []) ++ count a.steps ++ (10 ∷ [])) (fielded (fielded (fielded (lettered l 81) 2 b.write_side-at.new.out b.write_side-at.result 32) (2 + b.write_side-at.result + 1) d.write_side-at-2.new.out d.write_side-at-2.result 32) (2 + b.write_side-at.result + 1 + d.write_side-at-2.result + 1) c.write_count-at.new.out c.write_count-at.result 10) (2 + b.write_side-at.result + 1 + d.write_side-at-2.result + 1 + c.write_count-at.result + 1) = wrote_field _ _ _ _ _ _ _ 10 ask c.write_count-at.ensures.out_after c.write_count-at.ensures.value (omega (arith, short)) in
-    wrote_as _ _ _ _ _ whole (three_fields 81 _ _ _) in
-    record { line_after = p.0; value = p.1 }
+    let p = wrote_as _ _ _ _ _ whole (three_fields 81 _ _ _) in record { line_after = p.0; value = p.1 }

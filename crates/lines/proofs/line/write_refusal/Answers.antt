@@ -7,9 +7,7 @@ use Rattle.lines.proofs.Written.{line_refused, line_written}
 use Rattle.lines.proofs.line.write_refusal.Goals as goal
 
 pub returns-then-line-lt-LEAST_ROOM : goal.returns-then-line-lt-LEAST_ROOM
-returns-then-line-lt-LEAST_ROOM c =
-    let p = line_refused _ _ c.if-line-lt-LEAST_ROOM.true in
-    record { value = p.0; line_after = p.1 }
+returns-then-line-lt-LEAST_ROOM c = let p = line_refused _ _ c.if-line-lt-LEAST_ROOM.true in record { value = p.0; line_after = p.1 }
 
 pub write_counted-requires : goal.write_counted-requires
 write_counted-requires c = le_trans (counted_most 82 _ (omega (arith, c.ranges.number))) c.if-line-lt-LEAST_ROOM.false
@@ -17,6 +15,5 @@ write_counted-requires c = le_trans (counted_most 82 _ (omega (arith, c.ranges.n
 pub returns : goal.returns
 unfolding refusal_line
 returns c =
-    let p = let w = c in
-    line_written _ _ _ _ w.if-line-lt-LEAST_ROOM.false w.write_counted.ensures.line_after w.write_counted.ensures.value in
-    record { value = p.0; line_after = p.1 }
+    let w = c in
+    let p = line_written _ _ _ _ w.if-line-lt-LEAST_ROOM.false w.write_counted.ensures.line_after w.write_counted.ensures.value in record { value = p.0; line_after = p.1 }

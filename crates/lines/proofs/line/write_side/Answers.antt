@@ -13,12 +13,11 @@ use Rattle.lines.proofs.line.write_side.Goals as goal
 pub returns-in-At : goal.returns-in-At
 unfolding side
 returns-in-At c =
-    let p = let side-is : side c.args.p ≡ signed c.in-At.z = ap side c.in-At.is in
+    let side-is : side c.args.p ≡ signed c.in-At.z = ap side c.in-At.is in
     let w = c in
     let p = w in
     let f : SFits w64 p.in-At.z = record { sfits = w.in-At.known_told-1-own.given.0.1 } in
-    rw side-is (rw (to_z-of_z f) at (w.write_signed.ensures.out_after, w.write_signed.ensures.value)) in
-    record { out_after = p.0; value = p.1 }
+    rw side-is (let p = rw (to_z-of_z f) at w.write_signed.ensures in record { out_after = p.out_after; value = p.value })
 
 pub returns-in-Absent : goal.returns-in-Absent
 unfolding side

@@ -44,7 +44,7 @@ pub write_price-requires : goal.write_price-requires
 write_price-requires c =
     let short : length (price (nat_abs c.args.z)) ≤ 20 = price_most _ (held _ c.ranges.z) in
     let minus : Wrote c.args.out.now (45 ∷ []) (set c.args.out.now 0 45) 1 = wrote_byte _ [] _ 0 45 (wrote_none _) (omega (arith, c.requires)) in
-    let size_is : c.type_size.result ≡ nat_abs c.args.z = rw (to_z-of_z c.ranges.z) at c.type_size.ensures in
+    let size_is : c.size_of.result ≡ nat_abs c.args.z = rw (to_z-of_z c.ranges.z) at c.size_of.ensures in
     let s = c in
     rw size_is (part_room _ _ _ _ _ minus (omega (arith, short, s.requires)))
 
@@ -52,18 +52,18 @@ pub overflow_add-result : goal.overflow_add-result
 overflow_add-result c =
     let short : length (price (nat_abs c.args.z)) ≤ 20 = price_most _ (held _ c.ranges.z) in
     let minus : Wrote c.args.out.now (45 ∷ []) (set c.args.out.now 0 45) 1 = wrote_byte _ [] _ 0 45 (wrote_none _) (omega (arith, c.requires)) in
-    let size_is : c.type_size.result ≡ nat_abs c.args.z = rw (to_z-of_z c.ranges.z) at c.type_size.ensures in
-    let whole : let s = c in let l = set s.args.out.now 0 45 in Wrote s.args.out.now (45 ∷ price (nat_abs s.args.z)) (put_mid 1 (length l - 1) l c.write_price.new.out) (1 + c.write_price.result) = let e = rw size_is at (c.write_price.ensures.out_after, c.write_price.ensures.value) in
-    wrote_part _ _ _ _ _ 1 _ minus e.0 e.1 in
+    let size_is : c.size_of.result ≡ nat_abs c.args.z = rw (to_z-of_z c.ranges.z) at c.size_of.ensures in
+    let whole : let s = c in let l = set s.args.out.now 0 45 in Wrote s.args.out.now (45 ∷ price (nat_abs s.args.z)) (put_mid 1 (length l - 1) l c.write_price.new.out) (1 + c.write_price.result) = let e = rw size_is at c.write_price.ensures in
+    wrote_part _ _ _ _ _ 1 _ minus e.out_after e.value in
     let few : c.write_price.result + 1 ≤ most_side = omega (arith, short, whole.up_to) in
     omega (arith, few)
 
 pub shape_of-out-then-z-lt0 : goal.shape_of-out-then-z-lt0
 shape_of-out-then-z-lt0 c =
     let minus : Wrote c.args.out.now (45 ∷ []) (set c.args.out.now 0 45) 1 = wrote_byte _ [] _ 0 45 (wrote_none _) (omega (arith, c.requires)) in
-    let size_is : c.type_size.result ≡ nat_abs c.args.z = rw (to_z-of_z c.ranges.z) at c.type_size.ensures in
-    let whole : let s = c in let l = set s.args.out.now 0 45 in Wrote s.args.out.now (45 ∷ price (nat_abs s.args.z)) (put_mid 1 (length l - 1) l c.write_price.new.out) (1 + c.write_price.result) = let e = rw size_is at (c.write_price.ensures.out_after, c.write_price.ensures.value) in
-    wrote_part _ _ _ _ _ 1 _ minus e.0 e.1 in
+    let size_is : c.size_of.result ≡ nat_abs c.args.z = rw (to_z-of_z c.ranges.z) at c.size_of.ensures in
+    let whole : let s = c in let l = set s.args.out.now 0 45 in Wrote s.args.out.now (45 ∷ price (nat_abs s.args.z)) (put_mid 1 (length l - 1) l c.write_price.new.out) (1 + c.write_price.result) = let e = rw size_is at c.write_price.ensures in
+    wrote_part _ _ _ _ _ 1 _ minus e.out_after e.value in
     let short : length (price (nat_abs c.args.z)) ≤ 20 = price_most _ (held _ c.ranges.z) in
     let few : c.write_price.result + 1 ≤ most_side = omega (arith, short, whole.up_to) in
     let w = c in
@@ -72,9 +72,9 @@ shape_of-out-then-z-lt0 c =
 pub returns-then-z-lt0 : goal.returns-then-z-lt0
 returns-then-z-lt0 c =
     let minus : Wrote c.args.out.now (45 ∷ []) (set c.args.out.now 0 45) 1 = wrote_byte _ [] _ 0 45 (wrote_none _) (omega (arith, c.requires)) in
-    let size_is : c.type_size.result ≡ nat_abs c.args.z = rw (to_z-of_z c.ranges.z) at c.type_size.ensures in
-    let whole : let s = c in let l = set s.args.out.now 0 45 in Wrote s.args.out.now (45 ∷ price (nat_abs s.args.z)) (put_mid 1 (length l - 1) l c.write_price.new.out) (1 + c.write_price.result) = let e = rw size_is at (c.write_price.ensures.out_after, c.write_price.ensures.value) in
-    wrote_part _ _ _ _ _ 1 _ minus e.0 e.1 in
+    let size_is : c.size_of.result ≡ nat_abs c.args.z = rw (to_z-of_z c.ranges.z) at c.size_of.ensures in
+    let whole : let s = c in let l = set s.args.out.now 0 45 in Wrote s.args.out.now (45 ∷ price (nat_abs s.args.z)) (put_mid 1 (length l - 1) l c.write_price.new.out) (1 + c.write_price.result) = let e = rw size_is at c.write_price.ensures in
+    wrote_part _ _ _ _ _ 1 _ minus e.out_after e.value in
     let short : length (price (nat_abs c.args.z)) ≤ 20 = price_most _ (held _ c.ranges.z) in
     let few : c.write_price.result + 1 ≤ most_side = omega (arith, short, whole.up_to) in
     let w = c in
@@ -99,5 +99,5 @@ returns c =
     let q = w in
     let s = q in
     let t = above s.args.z (rw (to_z-of_z s.ranges.z) at q.if-z-lt0.false) in
-    let e = rw (size-is-2, ← t) at (w.write_price-2.ensures.out_after, w.write_price-2.ensures.value) in
-    record { out_after = e.0; value = (e.1, omega (arith, e.1, rw (← t) at short)) }
+    let e = rw (size-is-2, ← t) at w.write_price-2.ensures in
+    record { out_after = e.out_after; value = (e.value, omega (arith, e.value, rw (← t) at short)) }

@@ -4,7 +4,6 @@ use Prim.Native.Nat.{ℕ, ◌-◌}
 use mathlib.Core.Bool.{Bool}
 use mathlib.Core.List.{List}
 use lib.ListN.{length, drop}
-use borrow.Author.Rules.{rules}
 use Rattle.record.specs.Record.{taken, numbers, fields, record_by, record_from, held_as, as_held, read_as}
 use Rattle.record.proofs.Reading.{taken_parts, refused_parts}
 use Rattle.record.proofs.record.read_as.Goals as goal
@@ -13,15 +12,12 @@ read_taken : (flat : Bool) (s : List ℕ) (at : ℕ) (v r : List ℕ) (next : �
 unfolding read_as record_from held_as
 read_taken flat s at v r next e k = rw (e, k)
 
-record-of-numbers-requires : tie.Need-record-of-numbers-requires
-record-of-numbers-requires c κs = search rules
-
 pub returns-in-Taken : goal.returns-in-Taken
 returns-in-Taken c =
     let parts : let a = c.args in let v = c.take_numbers.new.out in (r : List ℕ) × (numbers fields (drop a.at a.sheet.now) ≡ taken v r) × (c.in-Taken.next ≡ length a.sheet.now - length r) = let w = c in
-    let d = w.IsPlace-in.ensures.1 in
-    let e = rw d at (w.take_numbers.ensures.value, w.take_numbers.ensures.stored) in
-    taken_parts _ _ _ _ (sym c.in-Taken.is ∙ e.0) e.1 in
+    let d = w.place_in-start.ensures.1 in
+    let e = rw d at w.take_numbers.ensures in
+    taken_parts _ _ _ _ (sym c.in-Taken.is ∙ e.value) e.stored in
     let n = c in
     let p = parts in
     rw (read_taken _ _ _ _ _ _ p.1 p.2, ← n.numbers_of.ensures, c.record_of_numbers.ensures)
@@ -30,5 +26,5 @@ pub returns-in-Refused : goal.returns-in-Refused
 unfolding read_as record_from held_as
 returns-in-Refused c =
     let w = c in
-    let d = w.IsPlace-in.ensures.1 in
+    let d = w.place_in-start.ensures.1 in
     rw (refused_parts _ _ _ (sym c.in-Refused.is ∙ rw d at w.take_numbers.ensures.value))

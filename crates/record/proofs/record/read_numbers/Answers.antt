@@ -22,13 +22,13 @@ returns-in-Taken c =
     let w = c in
     let t = w in
     let p = t in
-    let d = p.IsPlace-in.ensures.1 in
-    let e = rw d at (w.take_numbers.ensures.value, w.take_numbers.ensures.stored) in
-    record { value = e.0; out_after = left-taken _ _ _ _ _ (sym t.in-Taken.is ∙ rw d at p.place_after.ensures) e.1 }
+    let d = p.place_in-start.ensures.1 in
+    let e = rw d at w.take_numbers.ensures in
+    record { value = e.value; out_after = left-taken _ _ _ _ _ (sym t.in-Taken.is ∙ rw d at p.place_after.ensures) e.stored }
 
 pub returns-in-Refused : goal.returns-in-Refused
 returns-in-Refused c =
     let p = c in
-    let d = p.IsPlace-in.ensures.1 in
+    let d = p.place_in-start.ensures.1 in
     let e = sym c.in-Refused.is ∙ rw d at p.place_after.ensures in
     record { value = e; out_after = left_refused _ _ _ _ e }

@@ -19,50 +19,48 @@ read_back n h = to_z_pos w64 (omega arith)
 
 pub overflow_cast-result : goal.overflow_cast-result
 overflow_cast-result c =
-    let kept : Bounds c.args.t1 = bounds c.args.t1 c.requires in
+    let kept : Bounds c.args.v = bounds c.args.v c.requires in
     amount-fits _ kept.mid
 
 pub overflow_cast-result-2 : goal.overflow_cast-result-2
 overflow_cast-result-2 c =
-    let kept : Bounds c.args.t1 = bounds c.args.t1 c.requires in
+    let kept : Bounds c.args.v = bounds c.args.v c.requires in
     amount-fits _ kept.volatility
 
 pub overflow_cast-result-3 : goal.overflow_cast-result-3
 overflow_cast-result-3 c =
-    let kept : Bounds c.args.t1 = bounds c.args.t1 c.requires in
+    let kept : Bounds c.args.v = bounds c.args.v c.requires in
     amount-fits _ kept.risk
 
 pub overflow_cast-result-4 : goal.overflow_cast-result-4
 overflow_cast-result-4 c =
-    let kept : Bounds c.args.t1 = bounds c.args.t1 c.requires in
+    let kept : Bounds c.args.v = bounds c.args.v c.requires in
     amount-fits _ kept.k
 
 pub overflow_cast-result-5 : goal.overflow_cast-result-5
 overflow_cast-result-5 c =
-    let kept : Bounds c.args.t1 = bounds c.args.t1 c.requires in
+    let kept : Bounds c.args.v = bounds c.args.v c.requires in
     amount-fits _ kept.scale
 
 pub overflow_cast-result-6 : goal.overflow_cast-result-6
 overflow_cast-result-6 c =
-    let kept : Bounds c.args.t1 = bounds c.args.t1 c.requires in
+    let kept : Bounds c.args.v = bounds c.args.v c.requires in
     omega (arith, kept.bound)
 
 pub overflow_cast-result-7 : goal.overflow_cast-result-7
 overflow_cast-result-7 c =
-    let kept : Bounds c.args.t1 = bounds c.args.t1 c.requires in
+    let kept : Bounds c.args.v = bounds c.args.v c.requires in
     amount-fits _ kept.lot
 
 pub overflow_cast-result-8 : goal.overflow_cast-result-8
 overflow_cast-result-8 c =
-    let kept : Bounds c.args.t1 = bounds c.args.t1 c.requires in
+    let kept : Bounds c.args.v = bounds c.args.v c.requires in
     amount-fits _ kept.spread
 
 pub returns : goal.returns
 unfolding record_of
 returns c =
-    let kept : Bounds c.args.t1 = bounds c.args.t1 c.requires in
+    let kept : Bounds c.args.v = bounds c.args.v c.requires in
     let b = kept in
     let h : SFits w64 c.holding_of.result = record { sfits = c.holding_of.type_inv } in
     rw (read_back _ b.mid, read_back _ b.volatility, read_back _ b.risk, read_back _ b.k, read_back _ b.scale, read_back _ b.lot, read_back _ b.spread, to_z-of_z h, c.holding_of.ensures)
-
-pub record-of-spec : {M : Type 1} → statement M

@@ -4,8 +4,8 @@ use lib.Dec.{T}
 use Rattle.record.specs.Record.{record_if}
 use Rattle.record.proofs.record.record_of_numbers.Goals as goal
 
-record-of-requires : tie.Need-record-of-requires
-record-of-requires c κs = subst T (sym c.if-within_limits.true ∙ c.within_limits.ensures) tt
+pub record_of-requires : goal.record_of-requires
+record_of-requires c = subst T (sym c.if-within_limits.true ∙ c.within_limits.ensures) tt
 
 pub returns-then-within_limits : goal.returns-then-within_limits
 unfolding record_if
@@ -14,5 +14,3 @@ returns-then-within_limits c = rw (← c.within_limits.ensures, c.if-within_limi
 pub returns : goal.returns
 unfolding record_if
 returns c = rw (← c.within_limits.ensures, c.if-within_limits.false)
-
-pub record-of-numbers-spec : {M : Type 1} → statement M

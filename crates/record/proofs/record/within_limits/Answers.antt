@@ -10,4 +10,4 @@ use Rattle.record.proofs.record.within_limits.Goals as goal
 
 pub returns : goal.returns
 unfolding record_ok record_of config_of model_limits amount_ok time_ok config_limits
-returns c = rw (holding_limit (get_or c.args.t1 1 0) amount_limit, and-true)
+returns c = rw (holding_limit (get_or c.args.v 1 0) amount_limit, and-true)

@@ -27,6 +27,4 @@ pub shape_of-out : goal.shape_of-out
 shape_of-out c = length-set c.loop-rest.out c.loop-rest.at c.loop-rest.rest ∙ (grouping_room _ _ _ _ _ c.requires c.loop-rest.invariant).1
 
 pub returns : goal.returns
-returns c =
-    let p = grouping_last _ _ _ _ _ c.requires c.loop-rest.invariant c.loop-rest-test.false in
-    record { out_after = p.0; value = p.1 }
+returns c = let p = grouping_last _ _ _ _ _ c.requires c.loop-rest.invariant c.loop-rest-test.false in record { out_after = p.0; value = p.1 }

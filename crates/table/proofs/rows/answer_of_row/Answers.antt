@@ -5,14 +5,12 @@ use Rattle.table.proofs.Checked.{row_passed}
 use Rattle.table.proofs.Answering.{first_is, row_read}
 use Rattle.table.proofs.rows.answer_of_row.Goals as goal
 
--- src/rows.rt:140:9
 pub overflow_cast-table : goal.overflow_cast-table
 overflow_cast-table c =
     let s = c in
     let t = s.args.table.now in
     rw (first_is t s.args.r _ c.row_at-at.ensures s.requires.0 s.requires.1) (omega (arith, (row_passed t s.args.r s.requires.2).steps))
 
--- src/rows.rt:134:1
 pub returns : goal.returns
 returns c =
     let s = c in
