@@ -8,8 +8,6 @@ use mathlib.Core.Bool.{Bool, true, false}
 use mathlib.Core.List.{List, [], ◌∷◌, ◌++◌, append_assoc, append-nil}
 use lib.ListN.{length}
 use lib.Dec.{leb}
-use denote.Enum.Declared.{tag_of}
-use types.Run.{OneOf}
 use borrow.Author.Tests.{le-leb, lt-leb}
 use borrow.Rule.Slice.PartMut.{mid_of, put_mid, mid_len, put_same}
 use Rattle.buffers.specs.Over.{over}
@@ -103,11 +101,11 @@ text_in_lem true end j next part back e o = let z : ◌≡◌ {A = ℕ} 0 1 = cc
 text_in_lem true (refuse n) j next part back e o = let z : ◌≡◌ {A = ℕ} 0 1 = cc in absurd (omega arith)
 
 -- the answer is no text: where no step is refused, the sheet is at its end
-none_left : (x : Step) (r : LineAnswer) → ((n : ℕ) → x ≡ refuse n → ⊥) → OneOf (1 ∷ 2 ∷ []) (tag_of the_type r) → r ≡ answered true x → x ≡ end
+none_left : (x : Step) (r : LineAnswer) → ((n : ℕ) → x ≡ refuse n → ⊥) → ((j m : ℕ) → r ≡ LineAnswer.Written j m → ⊥) → r ≡ answered true x → x ≡ end
 unfolding answered
 none_left end r g o e = refl
 none_left (refuse n) r g o e = absurd (g n refl)
-none_left (line t next) r g o e = ⊎_elim (λ z. absurd (omega arith)) (λ z. absurd (omega arith)) (subst (λ (y : LineAnswer). OneOf (1 ∷ 2 ∷ []) (tag_of the_type y)) e o)
+none_left (line t next) r g o e = absurd (o _ _ e)
 
 module _ (k : Kind) (s : List ℕ) (at : ℕ) (l out : List ℕ) (n next : ℕ) (f : Filling k s at l out n next) where
   -- the part that is lent
@@ -153,7 +151,7 @@ module _ (k : Kind) (s : List ℕ) (at : ℕ) (l out : List ℕ) (n next : ℕ) 
   filling_full h g m = filling_done h g (fill_full k s next (length l - n) (omega (arith, filling_length)))
 
   -- the answer is no text, so the sheet is at its end
-  pub filling_end : (r : LineAnswer) (back : List ℕ) → least_room ≤ length l → room_of k ≤ length l → room_of k ≤ length out - n → OneOf (1 ∷ 2 ∷ []) (tag_of the_type r)
+  pub filling_end : (r : LineAnswer) (back : List ℕ) → least_room ≤ length l → room_of k ≤ length l → room_of k ≤ length out - n → ((j m : ℕ) → r ≡ LineAnswer.Written j m → ⊥)
       → r ≡ answered (has_room part) (text_in k (length part) s next) → back ≡ left (has_room part) (text_in k (length part) s next) part
       → (FillAnswer.Filled n next ≡ filled_as k s at l) × (put_mid n (length out - n) out back ≡ left_as k s at l)
   unfolding left

@@ -57,6 +57,7 @@ checked_apart mid h c vol t e (later _ (here i)) = omega arith
 checked_apart mid h c vol t e (later _ (later _ (here i))) = omega arith
 checked_apart mid h c vol t e (later _ (later _ (later _ (here i)))) = omega arith
 checked_apart mid h c vol t e (later _ (later _ (later _ (later _ (here i))))) = omega arith
+checked_apart mid h c vol t {k = k} e (later _ (later _ (later _ (later _ (later _ x))))) = elim x [ ]
 
 priced_apart : {mid least : ℤ} {b : _} {a : _} {k : ℕ} → Priced mid least b a k → Apart k
 priced_apart (by_13 h) = omega arith

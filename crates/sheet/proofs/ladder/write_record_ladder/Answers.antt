@@ -1,0 +1,51 @@
+use mathlib.Core.Path.{◌≡◌, refl, sym, ◌∙◌}
+use borrow.Author.Tests.{eq-eqb, ne_eqb}
+use lib.Dec.{eqb}
+use Prim.Native.Nat.{ℕ}
+use lib.ListN.{length}
+use Rattle.amounts.proofs.Limits.{kept}
+use Rattle.record.specs.Record.{config_of}
+use Rattle.lines.specs.Lines.{refusal_line, wrote, text_left}
+use Rattle.lines.proofs.Written.{line_is}
+use Rattle.ladders.specs.Refusals.{small_ladder_buffer}
+use Rattle.ladders.specs.Ladder.{laddered, laddered_in}
+use Rattle.sheet.specs.Ladders.{refused_by, record_ladder}
+use Rattle.ladders.specs.declared.ladder.LadderAnswer.TheVariants as LadderAnswer
+use Rattle.sheet.proofs.Ladders.{text_written, left_refused}
+use Rattle.sheet.proofs.ladder.write_record_ladder.Goals as goal
+
+pub returns-then-number-eq-SMALL_LADDER_BUFFER : goal.returns-then-number-eq-SMALL_LADDER_BUFFER
+unfolding refused_by wrote text_left record_ladder
+returns-then-number-eq-SMALL_LADDER_BUFFER c =
+    let answered : let a = c.args in let r = a.r in (c.write_ladder.result ≡ laddered r.mid_price (config_of r) r.volatility r.current_time a.out.now) × (c.write_ladder.new.out ≡ laddered_in r.mid_price (config_of r) r.volatility r.current_time a.out.now) = let r = c.args.r in
+    let g = c.struct_told-2-1.given in
+    (rw (c.config_of.ensures, kept r.mid_price g.0.1, kept r.volatility g.1.1.0.1) at c.write_ladder.ensures.value, rw (c.config_of.ensures, kept r.mid_price g.0.1, kept r.volatility g.1.1.0.1) at c.write_ladder.ensures.out_after) in
+    let unchanged : (n : ℕ) → c.write_ladder.result ≡ LadderAnswer.Refused n → let a = c.args in (c.write_ladder.new.out ≡ a.out.now) × (record_ladder (length a.out.now) a.r ≡ refused_by (eqb n small_ladder_buffer) n) = λ n e. let o = answered in left_refused _ _ _ n (sym e ∙ o.0) o.1 in
+    let k = c in
+    let u = unchanged _ k.in-Refused.is in
+    rw (u.1, eq-eqb _ small_ladder_buffer c.if-number-eq-SMALL_LADDER_BUFFER.true) (record { value = refl; out_after = u.0 })
+
+pub returns-in-Written : goal.returns-in-Written
+unfolding record_ladder
+returns-in-Written c =
+    let answered : let a = c.args in let r = a.r in (c.write_ladder.result ≡ laddered r.mid_price (config_of r) r.volatility r.current_time a.out.now) × (c.write_ladder.new.out ≡ laddered_in r.mid_price (config_of r) r.volatility r.current_time a.out.now) = let r = c.args.r in
+    let g = c.struct_told-2-1.given in
+    (rw (c.config_of.ensures, kept r.mid_price g.0.1, kept r.volatility g.1.1.0.1) at c.write_ladder.ensures.value, rw (c.config_of.ensures, kept r.mid_price g.0.1, kept r.volatility g.1.1.0.1) at c.write_ladder.ensures.out_after) in
+    let w = c in
+    let o = answered in
+    let p = text_written _ _ _ _ (sym c.in-Written.is ∙ o.0) o.1 in record { value = p.0; out_after = p.1 }
+
+pub returns-else-number-eq-SMALL_LADDER_BUFFER : goal.returns-else-number-eq-SMALL_LADDER_BUFFER
+unfolding refused_by record_ladder
+returns-else-number-eq-SMALL_LADDER_BUFFER c =
+    let answered : let a = c.args in let r = a.r in (c.write_ladder.result ≡ laddered r.mid_price (config_of r) r.volatility r.current_time a.out.now) × (c.write_ladder.new.out ≡ laddered_in r.mid_price (config_of r) r.volatility r.current_time a.out.now) = let r = c.args.r in
+    let g = c.struct_told-2-1.given in
+    (rw (c.config_of.ensures, kept r.mid_price g.0.1, kept r.volatility g.1.1.0.1) at c.write_ladder.ensures.value, rw (c.config_of.ensures, kept r.mid_price g.0.1, kept r.volatility g.1.1.0.1) at c.write_ladder.ensures.out_after) in
+    let unchanged : (n : ℕ) → c.write_ladder.result ≡ LadderAnswer.Refused n → let a = c.args in (c.write_ladder.new.out ≡ a.out.now) × (record_ladder (length a.out.now) a.r ≡ refused_by (eqb n small_ladder_buffer) n) = λ n e. let o = answered in left_refused _ _ _ n (sym e ∙ o.0) o.1 in
+    let w = c in
+    let e = w in
+    let k = e in
+    let l = k in
+    let s = l in
+    let u = unchanged _ k.in-Refused.is in
+    rw (u.1, ne_eqb _ small_ladder_buffer e.if-number-eq-SMALL_LADDER_BUFFER.false, ← line_is (refusal_line k.in-Refused.number) s.args.out.now s.requires) (let p = rw u.0 at w.write_refusal.ensures in record { value = p.value; out_after = p.line_after })
