@@ -6,4 +6,4 @@ use Rattle.feed.specs.declared.Feed.TheVariants.{Bytes, Failed}
 -- no more bytes than the buffer has
 unfoldable pub Fed : ℕ → Feed → Type 0
 Fed room (Bytes n) = n ≤ room
-Fed room Failed = Unit {0}
+Fed room (Failed error) = Unit {0}

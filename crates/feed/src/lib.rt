@@ -4,27 +4,28 @@
 ghost use Rattle.std.specs.Prelude.{◌≡◌, length, take};
 ghost use Rattle.feed.specs.Feed.{Fed};
 
-// How many bytes were read, or that a read failed.
-#[derive(Clone, Copy)]
+use std::io::{Error, Read};
+
+// How many bytes were read, or why a read failed.
+#[derive(Drop)]
 pub enum Feed {
     Bytes(usize),
-    Failed,
-}
-
-// Did a read fail? At the end of the input one more answers 0, and after a failure -1 once more.
-fn read_fails() -> bool {
-    let mut one = [0u8; 1];
-    libc::read(libc::STDIN_FILENO, &mut one) < 0
+    Failed(Error),
 }
 
 // Reads until the buffer is full or the input ends. With a buffer of one byte more than the longest
 // sheet, a full one tells a sheet that is longer.
-pub fn read_sheet(input: &mut [u8]) -> Feed
+pub fn read_sheet(rt: &HostRuntime, input: &mut [u8]) -> Feed
     ensures { Fed (length input.old) result }
 {
-    let n = io::read_full(libc::STDIN_FILENO, input);
-    if n < input.len() && read_fails() {
-        return Feed::Failed;
+    let mut from = rt.stdin();
+    let mut n: usize = 0;
+    while n < input.len() {
+        match from.read(&mut input[n..]) {
+            Ok(0) => break,
+            Ok(more) => n += more,
+            Err(error) => return Feed::Failed(error),
+        }
     }
     Feed::Bytes(n)
 }

@@ -34,7 +34,7 @@ next_most k s done t h =
 pub handed_on : (m : ℕ) (d : Done) (r : Handed) → r ≡ On d → HandedOn m r → d.count ≡ m
 unfolding HandedOn
 handed_on m d (On x) e h = let z : x ≡ d = cc in ap (λ (y : Done). y.count) (sym z) ∙ h
-handed_on m d Failed e h = let z : ◌≡◌ {A = ℕ} 0 1 = cc in absurd (omega arith)
+handed_on m d (Failed error) e h = let z : ◌≡◌ {A = ℕ} 0 1 = cc in absurd (omega arith)
 
 -- ---- so many bytes are handed on, and what is left of all follows from a place on
 pub record Handing (k : Kind) (s : List ℕ) (at done : ℕ) : Type 0 where
@@ -73,5 +73,5 @@ read_most n s l e = omega (arith, ap length e ∙ length-take n l, min-le_right 
 pub of_sheet : (k : Kind) (s : List ℕ) (r : Printed) → length s ≤ suc most_bytes → Counted (length (printed_as k s)) r → OfSomeSheet k r
 unfolding Counted OfSomeSheet
 of_sheet k s (All n) h e = (s, h, e)
-of_sheet k s NotRead h e = tt
-of_sheet k s NotWritten h e = tt
+of_sheet k s (NotRead error) h e = tt
+of_sheet k s (NotWritten error) h e = tt

@@ -15,16 +15,16 @@ Next k s done t = (done ≤ length (printed_as k s)) × (t ≡ take (length t) (
 -- so many bytes are done then, or the answer that a write failed
 unfoldable pub HandedOn : ℕ → Handed → Type 0
 HandedOn n (On d) = d.count ≡ n
-HandedOn n Failed = Unit {0}
+HandedOn n (Failed error) = Unit {0}
 
 -- so many bytes, or the answer that a write failed
 unfoldable pub Counted : ℕ → Printed → Type 0
 Counted n (All m) = m ≡ n
-Counted n NotRead = ⊥
-Counted n NotWritten = Unit {0}
+Counted n (NotRead error) = ⊥
+Counted n (NotWritten error) = Unit {0}
 
 -- all that is printed for some sheet, of which one byte more than the longest is read at most
 unfoldable pub OfSomeSheet : Kind → Printed → Type 0
 OfSomeSheet k (All n) = (s : List ℕ) × (length s ≤ suc most_bytes) × (n ≡ length (printed_as k s))
-OfSomeSheet k NotRead = Unit {0}
-OfSomeSheet k NotWritten = Unit {0}
+OfSomeSheet k (NotRead error) = Unit {0}
+OfSomeSheet k (NotWritten error) = Unit {0}

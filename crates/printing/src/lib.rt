@@ -14,16 +14,17 @@ ghost use Rattle.printing.specs.Printing.{Counted, OfSomeSheet};
 use feed::{Feed, first};
 use output::{Handed, count_of, hand_on, none_done};
 use sheet::{FillAnswer, Kind};
+use std::io::Error;
 
 // One byte more than the longest sheet, which tells one that is longer.
 const ROOM: usize = sheet::MOST_BYTES + 1;
 
 // All was written, so many bytes; standard input could not be read; or standard output did not take all.
-#[derive(Clone, Copy)]
+#[derive(Drop)]
 pub enum Printed {
     All(usize),
-    NotRead,
-    NotWritten,
+    NotRead(Error),
+    NotWritten(Error),
 }
 
 // What a fill put into the buffer, and the place after it.
@@ -46,7 +47,7 @@ fn fill(s: &[u8], at: usize, out: &mut [u8], kind: Kind) -> Texts
 }
 
 // Writes what is printed for a sheet, many texts with one call.
-pub fn print_texts(s: &[u8], kind: Kind) -> Printed
+pub fn print_texts(rt: &HostRuntime, s: &[u8], kind: Kind) -> Printed
     ensures { Counted (length (printed_as kind s.now)) result }
 {
     let mut out = io::large_buffer();
@@ -54,10 +55,10 @@ pub fn print_texts(s: &[u8], kind: Kind) -> Printed
     let mut done = none_done();
     while at < s.len() {
         let texts = fill(s, at, &mut out, kind);
-        let Handed::On(more) = hand_on(s, kind, done, first(&out, texts.count)) else {
-            return Printed::NotWritten;
-        };
-        done = more;
+        match hand_on(rt, s, kind, done, first(&out, texts.count)) {
+            Handed::On(more) => done = more,
+            Handed::Failed(error) => return Printed::NotWritten(error),
+        }
         at = texts.next;
     }
     Printed::All(count_of(done))
@@ -70,20 +71,20 @@ fn blank() -> [u8; ROOM]
 }
 
 // Reads a sheet into a buffer that tells one that is too long.
-fn read(input: &mut [u8]) -> Feed
+fn read(rt: &HostRuntime, input: &mut [u8]) -> Feed
     requires { most_bytes < length input.old }
     ensures { Fed (length input.old) result }
 {
-    feed::read_sheet(input)
+    feed::read_sheet(rt, input)
 }
 
 // Reads a sheet from standard input and writes what is printed for it.
-pub fn print_sheet(kind: Kind) -> Printed
+pub fn print_sheet(rt: &HostRuntime, kind: Kind) -> Printed
     ensures { OfSomeSheet kind result }
 {
     let mut input = blank();
-    match read(&mut input) {
-        Feed::Bytes(n) => print_texts(first(&input, n), kind),
-        Feed::Failed => Printed::NotRead,
+    match read(rt, &mut input) {
+        Feed::Bytes(n) => print_texts(rt, first(&input, n), kind),
+        Feed::Failed(error) => Printed::NotRead(error),
     }
 }

@@ -3,6 +3,7 @@ ghost use Rattle.std.specs.Prelude.{◌≡◌, ◌+◌, length};
 ghost use Rattle.printing.specs.Printing.{Next, HandedOn};
 
 use sheet::Kind;
+use std::io::Error;
 
 // How many bytes are handed on. No other file can make one, so whoever has one has handed on so many.
 #[derive(Drop)]
@@ -14,7 +15,7 @@ pub(crate) struct Done {
 #[derive(Drop)]
 pub(crate) enum Handed {
     On(Done),
-    Failed,
+    Failed(Error),
 }
 
 // At the start.
@@ -32,12 +33,12 @@ pub(crate) fn count_of(done: Done) -> usize
 
 // Writes a text, which is what comes next of all that is printed for a sheet, after the bytes that are
 // done.
-pub(crate) fn hand_on(s: &[u8], kind: Kind, done: Done, text: &[u8]) -> Handed
+pub(crate) fn hand_on(rt: &HostRuntime, s: &[u8], kind: Kind, done: Done, text: &[u8]) -> Handed
     requires { Next kind s.now done.count text.now }
     ensures { HandedOn (done.count + length text.now) result }
 {
-    if !io::write_all(libc::STDOUT_FILENO, text) {
-        return Handed::Failed;
+    if let Err(error) = rt.write_all(text) {
+        return Handed::Failed(error);
     }
     Handed::On(Done {
         count: done.count + text.len(),

@@ -1,0 +1,20 @@
+-- `printing::output::hand_on` meets its contract: what is done then is no more than the longest print. Assumes nothing.
+use mathlib.Core.Path.{refl}
+use native.Mathlib.Omega.{arith}
+use Rattle.printing.specs.Printing.{HandedOn}
+use Rattle.printing.proofs.Handing.{next_most}
+use Rattle.printing.proofs.output.hand_on.Goals as goal
+
+pub returns-in-Err : goal.returns-in-Err
+unfolding HandedOn
+returns-in-Err c = tt
+
+pub overflow_add-result : goal.overflow_add-result
+overflow_add-result c =
+    let s = c in
+    let m = next_most s.args.kind s.args.s.now s.args.done.count s.args.text.now s.requires in
+    record { fits = omega arith }
+
+pub returns : goal.returns
+unfolding HandedOn
+returns c = refl
