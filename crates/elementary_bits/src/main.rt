@@ -61,8 +61,8 @@ fn put_lines(out: &mut [u8], s: &[u8], n: usize) -> usize {
 
 fn main() {
     let mut input = io::large_buffer();
-    let n = io::read_full(libc::STDIN_FILENO, &mut input);
+    let n = io::read_full(harness::STDIN, &mut input);
     let mut out = io::large_buffer();
     let used = put_lines(&mut out, &input, n);
-    io::write_all(libc::STDOUT_FILENO, harness::first(&out, used));
+    io::write_all(harness::STDOUT, harness::first(&out, used));
 }

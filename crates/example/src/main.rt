@@ -4,16 +4,19 @@
 
 use quote::{ExactQuotes, GLFTConfig, GLFTStrategy, Price};
 
+// The number of standard output.
+const STDOUT: i32 = 1;
+
 // The amount 1.
 const ONE: i64 = 1000000000;
 
 fn print(text: &[u8]) {
-    io::write_all(libc::STDOUT_FILENO, text);
+    io::write_all(STDOUT, text);
 }
 
 fn print_number(name: &[u8], number: u64) {
     print(name);
-    io::print_decimal(libc::STDOUT_FILENO, number);
+    io::print_decimal(STDOUT, number);
     print(b"\n");
 }
 

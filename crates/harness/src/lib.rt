@@ -11,6 +11,6 @@ pub use amounts::size_of;
 pub use elementary::{bits_of, float_of};
 pub use entry::{ENTRY, Entry, entry_at};
 pub use feed::first;
-pub use standard::{MANY, make_room, put_cut, read_block};
+pub use standard::{MANY, STDIN, STDOUT, make_room, put_cut, read_block};
 pub use text::{put, put_cap, put_count, put_float, put_hex, put_number, put_refusal, put_signed};
 pub use word::{LARGEST_BOUND, bound_of, signed_of, word_at};

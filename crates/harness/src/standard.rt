@@ -6,6 +6,11 @@ ghost use Rattle.harness.specs.Texts.{room, cut_by, after_cut};
 use crate::text::{has_room, put};
 use feed::first;
 
+// The numbers of standard input and of standard output.
+pub const STDIN: i32 = 0;
+
+pub const STDOUT: i32 = 1;
+
 // A proved loop has to end, and nothing says that the input does. So a program counts its blocks down,
 // from a number that no run uses up.
 pub const MANY: u64 = 0xFFFFFFFFFFFFFFFF;
@@ -16,9 +21,9 @@ pub fn read_block(buf: &mut [u8], most: usize) -> usize
     ensures { result ≤ most }
 {
     if most < buf.len() {
-        return io::read_full(libc::STDIN_FILENO, &mut buf[..most]);
+        return io::read_full(STDIN, &mut buf[..most]);
     }
-    io::read_full(libc::STDIN_FILENO, buf)
+    io::read_full(STDIN, buf)
 }
 
 // Makes room for n bytes after the first `used` of a buffer, which are written out where they leave
@@ -29,7 +34,7 @@ pub fn make_room(out: &[u8], used: usize, n: usize) -> usize
     if has_room(out, used, n) {
         return used;
     }
-    io::write_all(libc::STDOUT_FILENO, first(out, used));
+    io::write_all(STDOUT, first(out, used));
     0
 }
 

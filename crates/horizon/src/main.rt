@@ -5,10 +5,14 @@
 use printing::Printed;
 use sheet::Kind;
 
-fn main() {
-    match printing::print_sheet(Kind::Plan) {
+fn main(rt: HostRuntime) {
+    match printing::print_sheet(&rt, Kind::Plan) {
         Printed::All(_) => {}
-        Printed::NotRead => os::fail(b"horizon: standard input"),
-        Printed::NotWritten => os::fail(b"horizon: standard output"),
+        Printed::NotRead(error) => {
+            let _ = eprintln!(rt; "horizon: standard input: {error}");
+        }
+        Printed::NotWritten(error) => {
+            let _ = eprintln!(rt; "horizon: standard output: {error}");
+        }
     }
 }

@@ -5,10 +5,14 @@
 use printing::Printed;
 use sheet::Kind;
 
-fn main() {
-    match printing::print_sheet(Kind::Ladder) {
+fn main(rt: HostRuntime) {
+    match printing::print_sheet(&rt, Kind::Ladder) {
         Printed::All(_) => {}
-        Printed::NotRead => os::fail(b"ladder: standard input"),
-        Printed::NotWritten => os::fail(b"ladder: standard output"),
+        Printed::NotRead(error) => {
+            let _ = eprintln!(rt; "ladder: standard input: {error}");
+        }
+        Printed::NotWritten(error) => {
+            let _ = eprintln!(rt; "ladder: standard output: {error}");
+        }
     }
 }

@@ -149,7 +149,7 @@ fn run_block() -> bool {
     let mut out = io::large_buffer();
     let answers = put_records(&mut out, &block, n);
     let used = put_cut(&mut out, answers, n % RECORD);
-    io::write_all(libc::STDOUT_FILENO, first(&out, used));
+    io::write_all(harness::STDOUT, first(&out, used));
     n == BLOCK
 }
 

@@ -7,18 +7,22 @@ use sheet::Kind;
 
 // This and `run` are functions of their own for speed alone: here the compiler learns the kind and drops the code of the
 // others, and in `run` it joins what has one caller left. With both in `main` a record with time left takes 0.9 µs more.
-fn print_lines() -> Printed {
-    printing::print_sheet(Kind::Line)
+fn print_lines(rt: &HostRuntime) -> Printed {
+    printing::print_sheet(rt, Kind::Line)
 }
 
-fn run() {
-    match print_lines() {
+fn run(rt: &HostRuntime) {
+    match print_lines(rt) {
         Printed::All(_) => {}
-        Printed::NotRead => os::fail(b"quotesheet: standard input"),
-        Printed::NotWritten => os::fail(b"quotesheet: standard output"),
+        Printed::NotRead(error) => {
+            let _ = eprintln!(rt; "quotesheet: standard input: {error}");
+        }
+        Printed::NotWritten(error) => {
+            let _ = eprintln!(rt; "quotesheet: standard output: {error}");
+        }
     }
 }
 
-fn main() {
-    run();
+fn main(rt: HostRuntime) {
+    run(&rt);
 }

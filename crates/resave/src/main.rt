@@ -13,6 +13,7 @@ ghost use Rattle.resave.specs.Resave.{piece, onward, kept};
 
 use feed::{Feed, first};
 use sheet::{MOST_BYTES, RECORD_ROOM, RecordAnswer, SaveAnswer};
+use std::io::Result;
 
 // What is kept is no longer than the sheet, and behind it there is room for any record.
 const ROOM: usize = MOST_BYTES + RECORD_ROOM;
@@ -66,11 +67,11 @@ fn keep(s: &[u8], out: &mut [u8]) -> usize
     n
 }
 
-// Writes what is kept of a sheet; false where standard output does not take it.
-fn write_kept(s: &[u8]) -> bool {
+// Writes what is kept of a sheet, where standard output takes it.
+fn write_kept(rt: &HostRuntime, s: &[u8]) -> Result<()> {
     let mut out = blank();
     let n = keep(s, &mut out);
-    io::write_all(libc::STDOUT_FILENO, first(&out, n))
+    rt.write_all(first(&out, n))
 }
 
 fn blank() -> [u8; ROOM]
@@ -86,21 +87,23 @@ fn blank_input() -> [u8; INPUT]
 }
 
 // Reads a sheet into a buffer that tells one that is too long.
-fn read(input: &mut [u8]) -> Feed
+fn read(rt: &HostRuntime, input: &mut [u8]) -> Feed
     requires { most_bytes < length input.old }
     ensures { Fed (length input.old) result }
 {
-    feed::read_sheet(input)
+    feed::read_sheet(rt, input)
 }
 
-fn main() {
+fn main(rt: HostRuntime) {
     let mut input = blank_input();
-    match read(&mut input) {
+    match read(&rt, &mut input) {
         Feed::Bytes(n) => {
-            if !write_kept(first(&input, n)) {
-                os::fail(b"resave: standard output");
+            if let Err(error) = write_kept(&rt, first(&input, n)) {
+                let _ = eprintln!(rt; "resave: standard output: {error}");
             }
         }
-        Feed::Failed => os::fail(b"resave: standard input"),
+        Feed::Failed(error) => {
+            let _ = eprintln!(rt; "resave: standard input: {error}");
+        }
     }
 }

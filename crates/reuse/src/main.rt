@@ -161,7 +161,7 @@ fn calls(table: &mut [u64], kind: u8, count: u64) -> u64 {
 }
 
 fn print(text: &[u8]) {
-    io::write_all(libc::STDOUT_FILENO, text);
+    io::write_all(harness::STDOUT, text);
 }
 
 // An order and its line.
@@ -169,11 +169,11 @@ fn order(kind: u8, count: u64) {
     let mut room = [0u64; TABLE_ROOM];
     let table: &mut [u64] = &mut room;
     clear_table(table);
-    io::print_decimal(libc::STDOUT_FILENO, calls(table, kind, count));
+    io::print_decimal(harness::STDOUT, calls(table, kind, count));
     print(b" ");
-    io::print_decimal(libc::STDOUT_FILENO, number_at(table, FILLED));
+    io::print_decimal(harness::STDOUT, number_at(table, FILLED));
     print(b" ");
-    io::print_decimal(libc::STDOUT_FILENO, number_at(table, NEXT));
+    io::print_decimal(harness::STDOUT, number_at(table, NEXT));
     print(b"\n");
 }
 
@@ -209,6 +209,6 @@ fn orders(s: &[u8]) {
 
 fn main() {
     let mut buf = io::buffer();
-    let n = io::read_full(libc::STDIN_FILENO, &mut buf);
+    let n = io::read_full(harness::STDIN, &mut buf);
     orders(&buf[..n]);
 }

@@ -19,7 +19,7 @@ fn say_line(s: &[u8], at: usize) -> usize {
     let mut line = [0u8; sheet::LEAST_ROOM];
     match sheet::next_line(s, at, &mut line) {
         LineAnswer::Written(n, next) => {
-            io::write_all(libc::STDOUT_FILENO, first(&line, n));
+            io::write_all(harness::STDOUT, first(&line, n));
             next
         }
         LineAnswer::End => s.len(),
@@ -62,7 +62,7 @@ fn run_sheet() -> bool {
     let mut sheet = blank_sheet();
     read_block(&mut sheet, n);
     say_lines(&sheet[..n]);
-    io::write_all(libc::STDOUT_FILENO, b".\n");
+    io::write_all(harness::STDOUT, b".\n");
     true
 }
 

@@ -209,7 +209,7 @@ fn run_block(numbers: &mut [u64], lent: usize) -> Ahead {
     let mut out = io::large_buffer();
     let lines = put_lines(&mut out, &block, n, numbers, lent);
     let used = put_cut(&mut out, lines.used, n % RECORD);
-    io::write_all(libc::STDOUT_FILENO, first(&out, used));
+    io::write_all(harness::STDOUT, first(&out, used));
     if n == BLOCK {
         return Ahead::More(lines.lent);
     }

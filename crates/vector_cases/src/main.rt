@@ -71,5 +71,5 @@ fn main() {
     at = put_floor(&mut out, at, 9.999999999999998e-201, 1);
     at = put(&mut out, at, b"below it after the last step: ");
     at = put_floor(&mut out, at, 9.999999999999998e-201, 0);
-    io::write_all(libc::STDOUT_FILENO, first(&out, at));
+    io::write_all(harness::STDOUT, first(&out, at));
 }
