@@ -1,7 +1,7 @@
 -- `harness::word::signed_of` meets its contract: a word from 2^63 on is at most 2^63 - 1 below the largest. Assumes nothing.
 use Prim.Native.Nat.{ℕ, zero, suc, ◌-◌, ◌^◌, ◌<◌, ◌≤◌}
 use mathlib.Core.Path.{◌≡◌, refl, ap, ◌∙◌}
-use mathlib.Core.Bool.{Bool, true}
+use mathlib.Core.Bool.{Bool, true, false}
 use native.Mathlib.Nat.{zero-add}
 use native.Mathlib.Omega.{arith}
 use borrow.Author.Tests.{lt-ltb, le-ltb}
@@ -11,13 +11,12 @@ use mir.Syntax.{w64}
 use mir.Val.{SFits, sel, to_z}
 use mir.Facts.{sfits_lit, to_z-of_z}
 use Rattle.harness.specs.Words.{signed_by, signed}
-use borrow.Author.Rules.{rules}
-use Rattle.harness.proofs.word.signed_of.Statement.{statement}
-use Rattle.harness.proofs.word.signed_of.Tie as tie
+use Rattle.harness.proofs.word.signed_of.Goals as goal
 
 below-minus-one : (b : Bool) (m : ℕ) → T b → m < 2 ^ 63 → SFits w64 (negsuc 0 -ℤ sel b (pos m) (negsuc (2 ^ 64 - suc m)))
 below-minus-one true zero t h = sfits_lit tt
 below-minus-one true (suc m) t h = record { sfits = omega (arith, h) }
+below-minus-one false m t h = elim t [ ]
 
 fits : (n : ℕ) → 0x8000000000000000 ≤ n → SFits w64 (negsuc 0 -ℤ to_z w64 (0xFFFFFFFFFFFFFFFF - n))
 fits n h =
@@ -33,26 +32,13 @@ minus n h =
     less_one zero = refl
     less_one (suc m) = ap (λ k. negsuc (suc k)) (zero-add m)
 
-cast-result : tie.Need-overflow-cast-result
-cast-result c = search rules
-
-returns : tie.Need-returns
+pub returns-then-word-lt-SIGN : goal.returns-then-word-lt-SIGN
 unfolding signed signed_by
-returns c = rw (lt-ltb _ 0x8000000000000000 c.if1.true)
+returns-then-word-lt-SIGN c = rw (lt-ltb _ 0x8000000000000000 c.if-word-lt-SIGN.true)
 
-sub-result : tie.Need-overflow-sub-result
-sub-result c = search rules
+pub overflow_sub-result-2 : goal.overflow_sub-result-2
+overflow_sub-result-2 c = fits _ c.if-word-lt-SIGN.false
 
-cast-result-2 : tie.Need-overflow-cast-result-2
-cast-result-2 c = search rules
-
-sub-result-2 : tie.Need-overflow-sub-result-2
-sub-result-2 c = fits _ c.if1.false
-
-returns-2 : tie.Need-returns-2
+pub returns : goal.returns
 unfolding signed signed_by
-returns-2 c = rw (le-ltb _ 0x8000000000000000 c.if1.false) (to_z-of_z (fits _ c.if1.false) ∙ minus _ c.if1.false)
-
-pub signed-of-spec : {M : Type 1} → statement M
-signed-of-spec =
-    tie.close (tie.spec cast-result returns sub-result cast-result-2 sub-result-2 returns-2)
+returns c = rw (le-ltb _ 0x8000000000000000 c.if-word-lt-SIGN.false) (to_z-of_z (fits _ c.if-word-lt-SIGN.false) ∙ minus _ c.if-word-lt-SIGN.false)

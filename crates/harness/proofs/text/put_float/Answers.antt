@@ -1,0 +1,10 @@
+-- `harness::text::put_float` meets its contract: the space's place and the text's, one after the other. Assumes nothing.
+use Rattle.harness.specs.Texts.{spaced, after_spaced}
+use Rattle.harness.proofs.text.put_float.Goals as goal
+
+pub returns : goal.returns
+unfolding spaced after_spaced
+returns c =
+    let q = c in
+    let p = q.put-next.ensures in
+    rw (← p.out_after, ← p.value, ← q.bits_of.ensures) (record { out_after = q.put_hex.ensures.out_after; value = q.put_hex.ensures.value })
