@@ -1,0 +1,10 @@
+-- The space's place and the text's, one after the other. Assumes nothing.
+use Rattle.harness.specs.Texts.{spaced, after_spaced}
+use Rattle.desk.proofs.line.put_field.Goals as goal
+
+pub returns : goal.returns
+unfolding spaced after_spaced
+returns c =
+    let q = c in
+    let p = q.put-next.ensures in
+    rw (← p.out_after, ← p.value) (record { out_after = q.put.ensures.out_after; value = q.put.ensures.value })

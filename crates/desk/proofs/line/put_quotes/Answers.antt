@@ -1,0 +1,11 @@
+-- The letter's place, the bid's and the ask's, one after the other. Assumes nothing.
+use Rattle.desk.specs.Lines.{fields, after_fields, lined, after_lined}
+use Rattle.desk.proofs.line.put_quotes.Goals as goal
+
+pub returns : goal.returns
+unfolding lined after_lined fields after_fields
+returns c =
+    let a = c in
+    let b = a in
+    let p = b.put-at.ensures in
+    rw (← p.out_after, ← p.value, ← b.put_price-at.ensures.out_after, ← b.put_price-at.ensures.value) (record { out_after = a.put_price.ensures.out_after; value = a.put_price.ensures.value })
