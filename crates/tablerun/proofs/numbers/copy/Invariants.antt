@@ -1,0 +1,7 @@
+use Prim.Native.Nat.{◌-◌, ◌≤◌}
+use mathlib.Core.Path.{◌≡◌}
+use lib.ListN.{length}
+use Rattle.tablerun.proofs.numbers.copy.Given as goal
+
+abbrev pub invariant-loop-i : goal.invariant-loop-i
+invariant-loop-i l = (l.i-end ≤ length l.table) × (l.i-end ≤ length l.initial.to) × (length l.to ≡ length l.initial.to)
