@@ -5,3 +5,6 @@ use Rattle.tablerun.proofs.put_lines.Given as goal
 
 abbrev pub invariant-loop-i : goal.invariant-loop-i
 invariant-loop-i l = (length l.out ≡ length l.initial.out) × (length l.numbers ≡ length l.initial.numbers) × (l.i ≤ l.i-end) × (l.i-end * 104 ≤ l.n)
+
+abbrev pub decreases-loop-i : goal.decreases-loop-i
+decreases-loop-i l = l.i-end - l.i

@@ -4,3 +4,6 @@ use Rattle.tablerun.proofs.numbers.are_same.Given as goal
 
 abbrev pub invariant-loop-i : goal.invariant-loop-i
 invariant-loop-i l = (l.i-end ≤ length l.table) × (l.i-end ≤ length l.others)
+
+abbrev pub decreases-loop-i : goal.decreases-loop-i
+decreases-loop-i l = l.i-end - l.i
