@@ -20,7 +20,7 @@ use Rattle.elementary.proofs.Count.{positive_is}
 use Rattle.elementary.proofs.Exact.{minus_zero, zero_add_f, zero-div}
 use Rattle.operator.specs.Vectors.{at, fill}
 use Rattle.operator.specs.Operator.{rows}
-use Rattle.vector.specs.Run.{fixed, run_for, run, run_from}
+use Rattle.vector.specs.Run.{fixed, run, run_from}
 use Rattle.vector.specs.Values.{padded, vector_of}
 use Rattle.distances.specs.Distances.{place, distance, bid_at, ask_at, fine, sides, exact_at}
 use Rattle.distances.specs.FloatEntry.{with_vector, answer_by, entry_if, entry_over, float_entry}

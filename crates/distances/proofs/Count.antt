@@ -14,7 +14,6 @@ use Rattle.plan.specs.Count.{plan_ahead, plan_if, FirstGoes}
 use Rattle.vector.specs.Causes.{CapReported}
 use Rattle.plan.specs.declared.RunInput.{RunInput}
 use Rattle.plan.specs.declared.FirstPlan.{FirstPlan}
-use Rattle.plan.specs.declared.FirstPlan.TheVariants as FirstPlan
 use Rattle.vector.proofs.Spent.{budget_within}
 use Rattle.vector.proofs.Causes.{cap_reports}
 use Rattle.plan.proofs.Ahead.{first_when}

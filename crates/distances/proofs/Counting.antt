@@ -11,7 +11,6 @@ use Rattle.vector.proofs.Spent.{steps_within, budget_within}
 use Rattle.distances.specs.FloatEntry.{refused_entry, with_vector, answer_by, entry_checks, entry_if, entry_over, float_entry, steps_if, steps_over, float_steps}
 use Rattle.distances.specs.Promises.{Counted, StepsCounted}
 use Rattle.distances.specs.declared.Sides.{Sides}
-use Rattle.distances.specs.declared.Sides.TheVariants as Sides
 
 sides_counted : (v : ValueVector) (s : ℕ) (r : Sides) → Counted (with_vector v s r).answer s
 unfolding Counted with_vector refused_entry

@@ -10,14 +10,12 @@ use Rattle.vector.specs.Run.{run}
 use Rattle.plan.specs.declared.RunInput.{RunInput}
 use Rattle.vector.specs.declared.ValueVector.{ValueVector}
 use Rattle.vector.specs.declared.Outcome.{Outcome}
-use Rattle.vector.specs.declared.Outcome.TheVariants as Outcome
 use Rattle.distances.specs.Distances.{place, fine, sides, exact_at, distance_checks, distances_if, exact_distances}
 use Rattle.distances.specs.FloatEntry.{refused_entry, answer_by, entry_checks, entry_if, entry_over, float_entry}
 use Rattle.distances.specs.Reading.{sides_with, read_by, answer_from}
 use Rattle.distances.specs.Promises.{Finite, FiniteDistances}
 use Rattle.distances.specs.declared.Distance.{Distance}
 use Rattle.distances.specs.declared.Sides.{Sides}
-use Rattle.distances.specs.declared.Sides.TheVariants as Sides
 use Rattle.distances.specs.declared.Answer.TheVariants.{Distances}
 use Rattle.distances.proofs.Checked.{passed}
 use Rattle.distances.proofs.Presence.{sides_are}

@@ -25,7 +25,6 @@ use Rattle.distances.specs.FloatEntry.{refused_entry, with_vector, answer_by, fl
 use Rattle.distances.specs.Promises.{exchanged_sides, exchanged, MirrorVector, FloatMirror}
 use Rattle.distances.specs.declared.Distance.{Distance}
 use Rattle.distances.specs.declared.Sides.{Sides}
-use Rattle.distances.specs.declared.Sides.TheVariants as Sides
 use Rattle.distances.specs.declared.FloatAnswer.{FloatAnswer}
 use Rattle.distances.proofs.Checked.{rates_pass, passed}
 

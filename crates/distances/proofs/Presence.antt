@@ -20,7 +20,6 @@ use Rattle.distances.specs.Promises.{Withheld, FloatPresence}
 use Rattle.distances.specs.declared.Distance.{Distance}
 use Rattle.distances.specs.declared.Distance.TheVariants.{Absent}
 use Rattle.distances.specs.declared.Sides.{Sides}
-use Rattle.distances.specs.declared.Sides.TheVariants as Sides
 use Rattle.distances.specs.declared.Answer.TheVariants.{Distances}
 use Rattle.distances.proofs.Checked.{passed}
 use Rattle.distances.proofs.Holdings.{at_place, place_most}

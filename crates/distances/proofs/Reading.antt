@@ -15,12 +15,10 @@ use Rattle.operator.specs.Operator.{rows}
 use Rattle.vector.specs.Values.{vector_of, refused_vector, vector_by}
 use Rattle.vector.specs.declared.ValueVector.{ValueVector}
 use Rattle.vector.specs.declared.Outcome.{Outcome}
-use Rattle.vector.specs.declared.Outcome.TheVariants as Outcome
 use Rattle.distances.specs.Distances.{within, place, length_ok, exact_at, distances_if, exact_distances}
 use Rattle.distances.specs.FloatEntry.{refused_entry, with_vector, answer_by, entry_if, entry_over, float_entry}
 use Rattle.distances.specs.Reading.{sides_with, read_by, answer_from, EntryReads, ReadRefusals}
 use Rattle.distances.specs.declared.Sides.{Sides}
-use Rattle.distances.specs.declared.Sides.TheVariants as Sides
 use Rattle.distances.specs.declared.Answer.TheVariants as Answer
 use Rattle.distances.proofs.Checked.{scale_pass, vector_is, all_pass}
 

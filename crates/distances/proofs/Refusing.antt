@@ -22,7 +22,6 @@ use Rattle.distances.specs.FloatEntry.{refused_entry, with_vector, answer_by, en
 use Rattle.distances.specs.Refusing.{ReadFails, by_bid, by_ask, ReadsFail, DistancesRefused, by_5, by_1, by_4, by_11, DistancesRefusals, EntryFails, by_run, by_read, FloatRefused, at_5, at_1, at_4, at_11, FloatRefusals, FloatReported, FloatReports}
 use Rattle.distances.specs.declared.Distance.{Distance}
 use Rattle.distances.specs.declared.Sides.{Sides}
-use Rattle.distances.specs.declared.Sides.TheVariants as Sides
 use Rattle.distances.specs.declared.Answer.TheVariants as Answer
 use Rattle.distances.proofs.Checked.{passed, all_pass}
 use Rattle.distances.proofs.Weights.{distances_fail}

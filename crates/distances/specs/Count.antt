@@ -10,7 +10,6 @@ use Rattle.vector.specs.Run.{going, cap, bound_ok, run_on, fixed}
 use Rattle.plan.specs.Count.{plan_ahead, plan_if, FirstIs, FirstGoes}
 use Rattle.plan.specs.declared.RunInput.{RunInput}
 use Rattle.plan.specs.declared.FirstPlan.{FirstPlan}
-use Rattle.plan.specs.declared.FirstPlan.TheVariants as FirstPlan
 use Rattle.distances.specs.Refusals.{holding}
 use Rattle.distances.specs.Distances.{within}
 use Rattle.distances.specs.FloatEntry.{answer_by, floats_ok, entry_checks, float_entry, float_steps}

@@ -13,7 +13,6 @@ use Rattle.distances.specs.Refusals.{holding}
 use Rattle.distances.specs.declared.Distance.{Distance}
 use Rattle.distances.specs.declared.Distance.TheVariants.{At, Absent}
 use Rattle.distances.specs.declared.Sides.{Sides}
-use Rattle.distances.specs.declared.Sides.TheVariants as Sides
 
 -- ---- the holding
 -- q lots are no more than the bound in magnitude

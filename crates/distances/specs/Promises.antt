@@ -17,7 +17,6 @@ use Rattle.distances.specs.Reading.{answer_from}
 use Rattle.distances.specs.declared.Distance.{Distance}
 use Rattle.distances.specs.declared.Distance.TheVariants.{At, Absent}
 use Rattle.distances.specs.declared.Sides.{Sides}
-use Rattle.distances.specs.declared.Sides.TheVariants as Sides
 use Rattle.distances.specs.declared.Answer.{Answer}
 use Rattle.distances.specs.declared.Answer.TheVariants.{Distances, OverCap, Refused}
 

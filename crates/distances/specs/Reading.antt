@@ -6,14 +6,11 @@ use Rattle.vector.specs.Values.{value_vector}
 use Rattle.plan.specs.declared.RunInput.{RunInput}
 use Rattle.vector.specs.declared.ValueVector.{ValueVector}
 use Rattle.vector.specs.declared.Outcome.{Outcome}
-use Rattle.vector.specs.declared.Outcome.TheVariants as Outcome
 use Rattle.vector.specs.declared.VectorAnswer.{VectorAnswer}
 use Rattle.distances.specs.Distances.{within, exact_distances}
 use Rattle.distances.specs.FloatEntry.{floats_ok, float_entry}
 use Rattle.distances.specs.declared.Sides.{Sides}
-use Rattle.distances.specs.declared.Sides.TheVariants as Sides
 use Rattle.distances.specs.declared.Answer.{Answer}
-use Rattle.distances.specs.declared.Answer.TheVariants as Answer
 
 -- distances, with the steps of the vector that gave them
 unfoldable pub sides_with : ℕ → Sides → Answer

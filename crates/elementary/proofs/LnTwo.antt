@@ -1,5 +1,5 @@
 -- The logarithm of 2, and products with its high part. Assumes nothing.
-use Rattle.std.proofs.Common.{◌≡◌, ℕ, suc, ◌-◌, ◌*◌, ◌^◌, ◌<◌, ◌≤◌, Bool, true, false, cond, leb, pos, negsuc, nat_abs, sym, refl, ap, ◌∙◌, subst, le_trans, lt_of_lt_of_le, zero-lt-suc, mul_assoc, arith, pow_pos, pow_mono, pow-add, shl_lt}
+use Rattle.std.proofs.Common.{ℕ, suc, ◌-◌, ◌*◌, ◌^◌, ◌<◌, ◌≤◌, Bool, true, false, cond, leb, pos, negsuc, nat_abs, sym, refl, ap, ◌∙◌, subst, le_trans, lt_of_lt_of_le, zero-lt-suc, mul_assoc, arith, pow_pos, pow_mono, pow-add, shl_lt}
 use lib.Ieee.{Float, binary64, minus, unlike, size, lt, round, add, sub, mul, div, of_int, of_bits}
 use lib.Ieee.Digits.{size-le}
 use lib.Ieee.Exact.{HasValue, round_exact}

@@ -1,7 +1,6 @@
 -- The checks of a call, in order: each a test, and the number that refuses where it fails. Each statement is proved once, in proofs/. Definitions only.
 use Rattle.std.specs.Prelude.{◌≡◌, ℕ, Bool, true, false, ◌↔◌, List, [], ◌∷◌, ◌++◌}
 use Rattle.elementary.specs.declared.Check.{Check}
-use Rattle.elementary.specs.declared.Check.TheVariants as Check
 
 pub data Verdict : Type 0 where
   passes : Verdict

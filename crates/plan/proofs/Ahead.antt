@@ -17,7 +17,6 @@ use Rattle.plan.specs.Count.{plan_in, plan_when, plan_if, first_plan, first_norm
 use Rattle.plan.specs.Inner.{ahead_of}
 use Rattle.plan.specs.declared.RunInput.{RunInput}
 use Rattle.plan.specs.declared.FirstPlan.{FirstPlan}
-use Rattle.plan.specs.declared.FirstPlan.TheVariants as FirstPlan
 use Rattle.plan.proofs.Bounds.{input_passes, rates_refused, bound_refused, all_passed}
 use Rattle.plan.proofs.Begun.{Any, TurnOk, begin_ok}
 use Rattle.plan.proofs.Rows.{factors_fine}

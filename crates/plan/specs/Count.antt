@@ -12,7 +12,6 @@ use Rattle.plan.specs.Plan.{vector, over_cap, failed, Fixed, Going, Turn, going,
 use Rattle.plan.specs.Input.{rates_ok, input_checks}
 use Rattle.plan.specs.declared.RunInput.{RunInput}
 use Rattle.plan.specs.declared.FirstPlan.{FirstPlan}
-use Rattle.plan.specs.declared.FirstPlan.TheVariants as FirstPlan
 
 -- ---- by where the run begins: the steps planned; the steps needed and the budget left; or 11. None begins with a vector.
 unfoldable pub plan_in : Turn → FirstPlan

@@ -2,9 +2,7 @@
 use Rattle.series.specs.Refusals.{numerical}
 use Rattle.plan.specs.Plan.{cap}
 use Rattle.plan.specs.declared.FirstPlan.{FirstPlan}
-use Rattle.plan.specs.declared.FirstPlan.TheVariants as FirstPlan
 use Rattle.plan.specs.declared.plan.Planned.{Planned}
-use Rattle.plan.specs.declared.plan.Planned.TheVariants as Planned
 
 -- a plan as a first plan, with the whole budget
 unfoldable pub ahead_of : Planned → FirstPlan

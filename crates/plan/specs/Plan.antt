@@ -8,7 +8,6 @@ use Rattle.operator.specs.Operator.{rows, diagonal_at, left_at, right_at}
 use Rattle.operator.specs.Slices.{both_sized}
 use Rattle.plan.specs.declared.RunInput.{RunInput}
 use Rattle.plan.specs.declared.plan.Planned.{Planned}
-use Rattle.plan.specs.declared.plan.Planned.TheVariants as Planned
 
 -- the step budget, the largest bound, and the places of a vector's arrays
 abbrev pub cap : ℕ

@@ -3,7 +3,6 @@ use Rattle.std.specs.Prelude.{ℕ, Bool, cond, List, Float}
 use Rattle.operator.specs.Slices.{scaled_over}
 use Rattle.plan.specs.Plan.{plan_with}
 use Rattle.plan.specs.declared.plan.Planned.{Planned}
-use Rattle.plan.specs.declared.plan.Planned.TheVariants as Planned
 
 -- the plan over new factors, where all of them are finite
 unfoldable pub plan_from : Bool → Float → List Float → Float → List Float → List Float → ℕ → Planned

@@ -23,7 +23,6 @@ use Rattle.sheet.specs.declared.text.Kind.{Kind}
 use Rattle.sheet.specs.declared.line.LineAnswer.{LineAnswer}
 use Rattle.sheet.specs.declared.line.LineAnswer.TheVariants as LineAnswer
 use Rattle.sheet.specs.declared.fill.FillAnswer.TheVariants as FillAnswer
-use Rattle.sheet.specs.contracts.line.LineAnswer.{the_type}
 use Rattle.sheet.proofs.Texts.{with_room, room_least, text_end, text_before, text_written, texts_fit, texts_move}
 
 -- ---- the turns: more than enough change nothing

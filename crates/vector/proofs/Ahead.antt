@@ -10,7 +10,7 @@ use lib.Dec.{T, lit<}
 use lib.Ieee.{Float, lt, le, to_unsigned}
 use Rattle.elementary.specs.Float.{◌⊘◌, whole, 0ᶠ, 1ᶠ, positive}
 use Rattle.series.specs.Refusals.{numerical}
-use Rattle.operator.specs.Vectors.{tab, at, fill}
+use Rattle.operator.specs.Vectors.{tab, fill}
 use Rattle.operator.specs.Operator.{left_at, right_at, rows}
 use Rattle.plan.specs.Plan.{Ended, over_cap, failed, Fixed, Turn, ended, cap, needed, start, diagonal_finite, first_if, first_turn, fixed}
 use Rattle.vector.specs.Run.{run_on, run, spent, run_from}
@@ -18,7 +18,6 @@ use Rattle.plan.specs.Count.{plan_in, plan_when, first_size, over, FirstGoes, pl
 use Rattle.vector.specs.Causes.{Reached, first, later, Planning, at_first, again, factors_finite, times_norm, CapReported}
 use Rattle.plan.specs.declared.RunInput.{RunInput}
 use Rattle.plan.specs.declared.FirstPlan.{FirstPlan}
-use Rattle.plan.specs.declared.FirstPlan.TheVariants as FirstPlan
 use Rattle.plan.proofs.Plans.{planned_some, planned_within, planned_same}
 use Rattle.plan.proofs.Ahead.{begun, first_begins, first_when}
 use Rattle.vector.proofs.RunLaws.{on_ended}

@@ -25,9 +25,7 @@ use Rattle.series.specs.Half.{filled_out, full_size, full_factors, full, Centred
 use Rattle.vector.specs.Half.{full_fixed, RowsStand}
 use Rattle.plan.specs.declared.RunInput.{RunInput}
 use Rattle.vector.specs.declared.Outcome.{Outcome}
-use Rattle.vector.specs.declared.Outcome.TheVariants as Outcome
 use Rattle.plan.specs.declared.plan.Planned.{Planned}
-use Rattle.plan.specs.declared.plan.Planned.TheVariants as Planned
 use Rattle.plan.specs.Slices.{plan_from, diagonal_for}
 use Rattle.plan.proofs.Plans.{planned_over}
 use Rattle.vector.specs.declared.run.Pace.{Pace}

@@ -22,9 +22,7 @@ use Rattle.vector.specs.Inner.{going_over, paced_of, asked_of, stopped_of, told,
 use Rattle.series.specs.Half.{StepIs}
 use Rattle.plan.specs.declared.RunInput.{RunInput}
 use Rattle.vector.specs.declared.Outcome.{Outcome}
-use Rattle.vector.specs.declared.Outcome.TheVariants as Outcome
 use Rattle.plan.specs.declared.plan.Planned.{Planned}
-use Rattle.plan.specs.declared.plan.Planned.TheVariants as Planned
 use Rattle.vector.specs.declared.run.Pace.{Pace}
 use Rattle.operator.proofs.Lists.{every_true}
 use Rattle.series.proofs.Extremes.{smallest_floor}

@@ -8,9 +8,7 @@ use Rattle.operator.specs.Vectors.{tab, at, fill, every, fold, smaller}
 use Rattle.plan.specs.Plan.{Ended, vector, over_cap, failed, Fixed, fixed_over, Going, going, cap, begin}
 use Rattle.vector.specs.Run.{rebalances, run_on}
 use Rattle.vector.specs.declared.Outcome.{Outcome}
-use Rattle.vector.specs.declared.Outcome.TheVariants as Outcome
 use Rattle.plan.specs.declared.plan.Planned.{Planned}
-use Rattle.plan.specs.declared.plan.Planned.TheVariants as Planned
 use Rattle.vector.specs.declared.run.Pace.{Pace}
 
 abbrev pub going_over : List Float → List Float → List Float → List Float → Float → Float → ℕ → Going

@@ -11,7 +11,6 @@ use Rattle.operator.specs.Operator.{rows}
 use Rattle.plan.specs.declared.RunInput.{RunInput}
 use Rattle.vector.specs.declared.ValueVector.{ValueVector}
 use Rattle.vector.specs.declared.Outcome.{Outcome}
-use Rattle.vector.specs.declared.Outcome.TheVariants as Outcome
 use Rattle.vector.specs.declared.VectorAnswer.{VectorAnswer}
 
 -- ---- the value vector: its two arrays of 401 floats and its length

@@ -11,7 +11,6 @@ use Rattle.distances.specs.Distances.{place, exact_at}
 use Rattle.distances.specs.FloatEntry.{refused_entry, with_vector, answer_by}
 use Rattle.vector.specs.declared.ValueVector.{ValueVector}
 use Rattle.vector.specs.declared.Outcome.{Outcome}
-use Rattle.vector.specs.declared.Outcome.TheVariants as Outcome
 use Rattle.distances.specs.declared.Answer.TheVariants as Answer
 use Rattle.distances.specs.declared.FloatAnswer.{FloatAnswer}
 use Rattle.plan.proofs.Bounds.{bound_range}

@@ -1,4 +1,4 @@
-use Rattle.std.proofs.Common.{◌-◌, rules}
+use Rattle.std.proofs.Common.{rules}
 use Rattle.elementary.proofs.WholeRoot.{reading_starts, reading_room, reading_goes_on, reading_ends}
 use Rattle.elementary.proofs.root.whole_root.Goals as goal
 

@@ -1,6 +1,5 @@
 -- `harness::text::put_hex` meets its contract. The loop's invariant: the digits but those that are left are written. Assumes nothing.
 use mathlib.Core.Path.{sym, ◌∙◌}
-use Prim.Native.Nat.{◌-◌}
 use native.Mathlib.Omega.{arith}
 use Rattle.harness.specs.Texts.{hex}
 use Rattle.harness.proofs.Placing.{placed_none, copied_none}

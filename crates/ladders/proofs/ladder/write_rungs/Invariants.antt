@@ -1,7 +1,6 @@
 use Prim.Native.Nat.{◌-◌}
 use mir.Syntax.{w64}
 use mir.Val.{to_z}
-use Rattle.lines.specs.declared.line.LineWritten.TheVariants as LineWritten
 use Rattle.ladders.proofs.Rungs.{Laying}
 use Rattle.ladders.proofs.ladder.write_rungs.Given as goal
 

@@ -1,6 +1,5 @@
 -- The rows so far have factors of 1.0. Assumes nothing.
 use mathlib.Core.Path.{refl, ◌∙◌}
-use Prim.Native.Nat.{◌-◌}
 use native.Mathlib.Omega.{arith}
 use borrow.Author.Tests.{eq-eqb, ne_eqb}
 use Rattle.operator.specs.Slices.{ones_between}

@@ -1,5 +1,5 @@
 -- The loop's invariant: `norm` is the largest of the first i row sums, from 0.0. Assumes nothing.
-use Rattle.std.proofs.Common.{◌≡◌, ℕ, ◌-◌, List, length, sym, ap, ◌∙◌, arith}
+use Rattle.std.proofs.Common.{◌≡◌, ℕ, List, length, sym, ap, ◌∙◌, arith}
 use lib.Ieee.{Float}
 use Rattle.elementary.specs.Float.{◌⊕◌, ◌⊗◌, 0ᶠ}
 use Rattle.operator.specs.Vectors.{tab, at, fold, larger, abs}

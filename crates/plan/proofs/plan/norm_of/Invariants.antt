@@ -2,7 +2,6 @@ use Rattle.std.proofs.Common.{◌≡◌, ℕ, ◌-◌, ◌≤◌, List, length}
 use lib.Ieee.{Float}
 use Rattle.elementary.specs.Float.{◌⊕◌, ◌⊗◌, 0ᶠ}
 use Rattle.operator.specs.Vectors.{tab, at, fold, larger, abs}
-use Rattle.plan.specs.Plan.{norm}
 use Rattle.plan.proofs.plan.norm_of.Given as goal
 
 abbrev pub row_sum : List Float → Float → List Float → List Float → ℕ → Float

@@ -1,7 +1,6 @@
 -- What is left of the series from the last term and the sum is what was left after the first. Assumes nothing.
 use mathlib.Core.Path.{refl, sym, ap, ◌∙◌}
 use mathlib.Core.Bool.{true, false}
-use Prim.Native.Nat.{◌-◌}
 use native.Mathlib.Omega.{arith}
 use Rattle.series.specs.Slices.{SliceSum, more_terms, series_over}
 use Rattle.series.specs.Pairs.{operator_of, partial_of}

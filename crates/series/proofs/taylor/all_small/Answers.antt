@@ -1,6 +1,5 @@
 -- The flag is the test of the entries so far. Assumes nothing.
 use mathlib.Core.Path.{◌∙◌}
-use Prim.Native.Nat.{◌-◌}
 use native.Mathlib.Omega.{arith}
 use Rattle.series.specs.Series.{converged}
 use Rattle.operator.proofs.Loops.{every_zero, every_suc, every_at}

@@ -1,6 +1,5 @@
 -- What is left of the series from the last term and the sum is what was left after the first. Assumes nothing.
 use mathlib.Core.Path.{refl, sym, ap, ◌∙◌}
-use Prim.Native.Nat.{◌-◌}
 use native.Mathlib.Omega.{arith}
 use lib.ListN.{length}
 use Rattle.series.specs.Series.{operator_over}

@@ -1,6 +1,5 @@
 -- The loop's invariant: the first i weights are divided, and `calm` says that none of them calls for rebalancing. Assumes nothing.
 use mathlib.Core.Path.{◌≡◌, refl, sym, ap, ◌∙◌}
-use Prim.Native.Nat.{◌-◌}
 use native.Mathlib.Nat.{le_refl}
 use native.Mathlib.Omega.{arith}
 use mathlib.Core.Bool.{false, not}

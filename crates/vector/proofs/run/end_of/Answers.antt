@@ -3,7 +3,6 @@ use Prim.Native.Nat.{ℕ, zero, suc, ◌<◌, ◌≤◌}
 use native.Mathlib.Omega.{arith}
 use Rattle.vector.specs.Inner.{end_by}
 use Rattle.vector.specs.declared.Outcome.{Outcome}
-use Rattle.vector.specs.declared.Outcome.TheVariants as Outcome
 use Rattle.vector.proofs.run.end_of.Goals as goal
 
 some_left : (s : ℕ) (r : Outcome) → 0 < s → Outcome.Refused 11 ≡ end_by s r

@@ -1,6 +1,5 @@
 -- The first i weights are 1.0. Assumes nothing.
 use mathlib.Core.Path.{refl, sym, ◌∙◌}
-use Prim.Native.Nat.{◌-◌}
 use native.Mathlib.Omega.{arith}
 use lib.ListN.{length, length-set}
 use Rattle.elementary.specs.Float.{1ᶠ}

@@ -1,6 +1,5 @@
 -- The loop's invariant: the first i weights have gone into their offsets, and `all` says whether they were finite and positive. Assumes nothing.
 use mathlib.Core.Path.{◌≡◌, refl, sym, ap, ◌∙◌}
-use Prim.Native.Nat.{◌-◌}
 use native.Mathlib.Nat.{le_refl}
 use native.Mathlib.Omega.{arith}
 use mathlib.Core.List.{List}
