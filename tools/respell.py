@@ -3,9 +3,9 @@
 
 usage: python3 tools/respell.py [FOLDER]
 
-It goes by tools/respelled.tsv, a line for each name: the old one, a tab, the new one. It is run once, on what port.py
-made of the repository: a second run would respell what the first one wrote. Functions of src/, strings, inputs and
-outputs are not touched.
+It goes by tools/respelled.tsv, a line for each name: the old one, a tab, the new one. It was run once, on what port.py
+made of the repository, and refuses a tree that has no old name: a second run would respell what the first one wrote.
+Functions of src/, strings, inputs and outputs are not touched.
 """
 
 import os
@@ -73,10 +73,24 @@ def turn(path, names, plain):
             f.write(new)
 
 
+def old_names(root, names):
+    """Whether a definition has a name of the old spelling."""
+    for folder, dirs, files in os.walk(os.path.join(root, "crates")):
+        dirs[:] = [d for d in dirs if d != "out"]
+        for f in files:
+            if f.endswith(".antt"):
+                with open(os.path.join(folder, f), encoding="utf-8") as it:
+                    if any(w in names for w in WORD.findall(it.read())):
+                        return True
+    return False
+
+
 def main(root):
     names = table()
     # what no function of src/ is called: a name in camel case
     plain = {a: b for a, b in names.items() if "-" not in a and a.lower() != a}
+    if not old_names(root, plain):
+        sys.exit("respell.py: no name of the old spelling is left")
     for folder, dirs, files in os.walk(root):
         dirs[:] = sorted(d for d in dirs if d not in ("out", ".git", "target", "tools"))
         for f in sorted(files):
