@@ -51,8 +51,8 @@ fn times_billion(n: u64) -> Wide
 
 // p over unit * 2^23 as a whole number, cut or rounded up.
 fn divided(p: Wide, unit: u64, cut: bool) -> u64
-    requires high_bound { (p.high < 2 ^ 60) × (p.low < 2 ^ 23) }
-    requires unit_nonzero { (0 < unit) × (unit < 2 ^ 60) }
+    requires words_fit { (p.high < 2 ^ 60) × (p.low < 2 ^ 23) }
+    requires unit_fits { (0 < unit) × (unit < 2 ^ 60) }
     ensures { result ≡ next cut (p.high * 2 ^ 23 + p.low) (unit * 2 ^ 23) }
 {
     let q = p.high / unit;
@@ -69,8 +69,8 @@ fn divided(p: Wide, unit: u64, cut: bool) -> u64
 // The billionths of a number from 2^-30 up to 2^30, which is its 53 digits over 2^(1075 - field), where
 // `field` is the exponent's.
 fn counted(x: f64, cut: bool) -> u64
-    requires t { T (positive x) }
-    requires hex_value { (lt x (hex 0x3E10000000000000) ≡ false) × (lt x (hex 0x41D0000000000000) ≡ true) }
+    requires above_zero { T (positive x) }
+    requires in_range { (lt x (hex 0x3E10000000000000) ≡ false) × (lt x (hex 0x41D0000000000000) ≡ true) }
     ensures { result ≡ size_by cut x }
 {
     let bits: u64 = f64::to_bits(x);

@@ -9,8 +9,8 @@ const WHOLE: f64 = 4503599627370496.0;
 
 // Of a negative number the fraction is cut off, and the sign stays.
 fn ceil_negative(x: f64) -> f64
-    requires x_value { lt x 0ᶠ ≡ true }
-    requires t { T (lt (neg (hex 0x4330000000000000)) x) }
+    requires below_zero { lt x 0ᶠ ≡ true }
+    requires small { T (lt (neg (hex 0x4330000000000000)) x) }
     ensures { result ≡ ceil_of x }
 {
     let n: u64 = std::num::truncating_f64_to_u64(-x);
@@ -19,8 +19,8 @@ fn ceil_negative(x: f64) -> f64
 
 // A number that is no whole one goes to the next.
 fn ceil_small(x: f64) -> f64
-    requires x_value { lt x 0ᶠ ≡ false }
-    requires t { T (lt x (hex 0x4330000000000000)) }
+    requires not_below_zero { lt x 0ᶠ ≡ false }
+    requires small { T (lt x (hex 0x4330000000000000)) }
     ensures { result ≡ ceil_of x }
 {
     let n: u64 = std::num::truncating_f64_to_u64(x);

@@ -45,8 +45,8 @@ fn power(n: u64) -> f64
 
 // N of a number from 0 to 709.
 fn exp_count(x: f64) -> u64
-    requires x_value { lt x 0ᶠ ≡ false }
-    requires t { T (le x (whole (pos 709))) }
+    requires not_below_zero { lt x 0ᶠ ≡ false }
+    requires at_most_709 { T (le x (whole (pos 709))) }
     ensures { (pos result ≡ exp_n x) × (result ≤ 1023) }
 {
     std::num::truncating_f64_to_u64(x * LOG2E + 0.5)
@@ -54,8 +54,8 @@ fn exp_count(x: f64) -> u64
 
 // The exponential of a number from 0 to 709.
 fn exp_up(x: f64) -> f64
-    requires x_value { lt x 0ᶠ ≡ false }
-    requires t { T (le x (whole (pos 709))) }
+    requires not_below_zero { lt x 0ᶠ ≡ false }
+    requires at_most_709 { T (le x (whole (pos 709))) }
     ensures { result ≡ exp_by x (exp_n x) }
 {
     let n: u64 = exp_count(x);
@@ -65,8 +65,8 @@ fn exp_up(x: f64) -> f64
 
 // The exponential of a number from -708 to 0: N is that of -x with the other sign.
 fn exp_down(x: f64) -> f64
-    requires x_value { lt x 0ᶠ ≡ true }
-    requires negsuc_value { lt x (whole (negsuc 707)) ≡ false }
+    requires below_zero { lt x 0ᶠ ≡ true }
+    requires at_least_minus_708 { lt x (whole (negsuc 707)) ≡ false }
     ensures { result ≡ exp_by x (exp_n x) }
 {
     let n: u64 = exp_count(-x);

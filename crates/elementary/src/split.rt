@@ -17,8 +17,8 @@ pub(crate) struct Parts {
 
 // Of a normal number the bits have both.
 fn split_normal(x: f64) -> Parts
-    requires t { T (positive x) }
-    requires bound { 53 ≤ size (count binary64 x) }
+    requires above_zero { T (positive x) }
+    requires normal { 53 ≤ size (count binary64 x) }
     ensures { SplitOf (count binary64 x) result.digits result.size }
 {
     let bits: u64 = f64::to_bits(x);

@@ -1,6 +1,6 @@
 // Words of eight bytes, and the numbers that they stand for.
 ghost use Rattle.std.specs.Prelude.{◌≡◌, ◌+◌, ◌<◌, ◌≤◌, min, get_or};
-ghost use Rattle.harness.specs.Words.{four as four·of, word, signed};
+ghost use Rattle.harness.specs.Words.{four as four_of, word, signed};
 
 // The least word whose number in two's complement is negative.
 const SIGN: u64 = 0x8000000000000000;
@@ -31,7 +31,7 @@ fn byte_at(s: &[u8], at: usize, i: usize, j: usize) -> u64
 // The number of the four bytes from at + i + j on.
 fn four(s: &[u8], at: usize, i: usize, j: usize) -> u64
     requires { j ≤ 4 }
-    ensures value { result ≡ four·of s.now (at + i) j }
+    ensures value { result ≡ four_of s.now (at + i) j }
     ensures upper_bound { result < 4294967296 }
 {
     let low = byte_at(s, at, i, j) + byte_at(s, at, i, j + 1) * 256;

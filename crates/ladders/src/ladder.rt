@@ -45,8 +45,8 @@ fn write_rungs(
     volatility: i64,
     current_time: u64,
 ) -> usize
-    requires current_time_value { check_call mid_price config volatility current_time ≡ Check.Passes }
-    requires config_in_bounds { ladder_room config ≤ length out.old }
+    requires checked { check_call mid_price config volatility current_time ≡ Check.Passes }
+    requires room { ladder_room config ≤ length out.old }
     ensures out_after { out.new ≡ over (ladder mid_price config volatility current_time) out.old }
     ensures value { result ≡ length (ladder mid_price config volatility current_time) }
 {

@@ -45,8 +45,8 @@ fn digit(d: u64) -> u8
 
 // The last k digits of n in a base.
 fn write_digits(out: &mut [u8], base: u64, n: u64, k: usize)
-    requires lt_base { (1 < base) × (base ≤ 16) }
-    requires k_in_bounds { k ≤ length out.old }
+    requires base_fits { (1 < base) × (base ≤ 16) }
+    requires room { k ≤ length out.old }
     ensures { out.new ≡ over (digits base k n) out.old }
 {
     let mut i = k;

@@ -37,7 +37,7 @@ struct Texts {
 // Puts the texts from a place of a sheet on into a buffer that has the room.
 fn fill(s: &[u8], at: usize, out: &mut [u8], kind: Kind) -> Texts
     requires { room_of kind ≤ length out.old }
-    ensures out_value { filled_as kind s.now at out.old ≡ Filled result.count result.next }
+    ensures filled { filled_as kind s.now at out.old ≡ Filled result.count result.next }
     ensures out_after { out.new ≡ left_as kind s.now at out.old }
 {
     match sheet::fill_texts(s, at, out, kind) {

@@ -39,8 +39,8 @@ fn write_number(out: &mut [u8], n: u64) -> usize
 
 // Numbers one after the other.
 fn write_numbers(out: &mut [u8], v: [u64; FIELDS]) -> usize
-    requires v_len { length v ≡ fields }
-    requires v_in_bounds { length (all_in_groups v) ≤ length out.old }
+    requires eleven { length v ≡ fields }
+    requires room { length (all_in_groups v) ≤ length out.old }
     ensures out_after { out.new ≡ over (all_in_groups v) out.old }
     ensures value { result ≡ length (all_in_groups v) }
 {

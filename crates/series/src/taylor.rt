@@ -52,7 +52,7 @@ fn first_term(
     half: bool,
     out: &mut [f64],
 ) -> bool
-    requires in_bounds { 2 ≤ length v.old }
+    requires two_rows { 2 ≤ length v.old }
     requires sizes { Sizes (length v.old) diag.now left.now right.now out.old }
     ensures { sum_of out.new v.new result ≡ with_term (length v.old) v.old
         (slice_term half false (operator_over (length v.old) diag.now left.now right.now) eta_dt 1 v.old) }
@@ -87,7 +87,7 @@ fn next_term(
     order: u32,
     v: &mut [f64],
 ) -> bool
-    requires in_bounds { 2 ≤ length x.old }
+    requires two_rows { 2 ≤ length x.old }
     requires sizes { Sizes (length x.old) diag.now left.now right.now v.old }
     ensures { sum_of x.new v.new result ≡ with_term (length x.old) v.old
         (slice_term half plain (operator_over (length x.old) diag.now left.now right.now) eta_dt order x.old) }
@@ -125,7 +125,7 @@ fn taylor_rows(
     plain: bool,
     term: &mut [f64],
 ) -> bool
-    requires in_bounds { 2 ≤ length v.old }
+    requires two_rows { 2 ≤ length v.old }
     requires sizes { Sizes (length v.old) diag.now left.now right.now term.old }
     ensures { sum_of term.new v.new result
         ≡ series_over half plain (operator_over (length v.old) diag.now left.now right.now) eta_dt v.old }

@@ -3,8 +3,8 @@ ghost use Rattle.std.specs.Prelude.{◌≤◌};
 
 // The smaller of two counts.
 pub(crate) fn at_most(n: usize, most: usize) -> usize
-    ensures upper_bound { result ≤ n }
-    ensures upper_bound_2 { result ≤ most }
+    ensures at_most_asked { result ≤ n }
+    ensures at_most_room { result ≤ most }
 {
     if n < most {
         return n;

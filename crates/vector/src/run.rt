@@ -228,7 +228,7 @@ fn plan_steps(
     first: Pace,
     half: bool,
 ) -> Pace
-    requires in_bounds { (2 ≤ length w.old) × (length o.old ≡ length w.old) × (first.budget ≤ cap) × Centred half (length w.old) left.now right.now }
+    requires start { (2 ≤ length w.old) × (length o.old ≡ length w.old) × (first.budget ≤ cap) × Centred half (length w.old) left.now right.now }
     requires sizes { Sizes (length w.old) diag.now left.now right.now term.old }
     ensures { PlanSpent (full_size half (length w.old)) eta (full half (length w.old) w.old) (full half (length w.old) o.old)
         (full_factors half (length w.old) left.now right.now) (full_factors half (length w.old) right.now left.now) (full half (length w.old) diag.now)
@@ -373,7 +373,7 @@ fn fill_mirror(x: &mut [f64], n: usize)
 // The run over tau seconds, above zero, by n rows, which stand for all: refused by 11 at once where an
 // entry of the diagonal is not finite.
 fn run_rows(w: &mut [f64], o: &mut [f64], input: RunInput, n: usize, half: bool) -> Outcome
-    requires le_n { (2 ≤ n) × (n ≤ rows input.bound) × (input.bound ≤ 200) × (lt 0ᶠ input.tau ≡ true) × (w.old ≡ fill n 1ᶠ) × (o.old ≡ fill n 0ᶠ) }
+    requires start { (2 ≤ n) × (n ≤ rows input.bound) × (input.bound ≤ 200) × (lt 0ᶠ input.tau ≡ true) × (w.old ≡ fill n 1ᶠ) × (o.old ≡ fill n 0ᶠ) }
     requires rows_stand { RowsStand half n input.bound input.alpha input.beta input.eta }
     ensures { EndIs (run input) result (full half n w.new) (full half n o.new) }
 {
@@ -393,7 +393,7 @@ fn run_rows(w: &mut [f64], o: &mut [f64], input: RunInput, n: usize, half: bool)
 // Takes a vector from the end of the time back over tau seconds, above zero, by its rows, which stand for
 // all, and hands it back with every row filled; or the blank one where the run is not done.
 fn run_back(v: ValueVector, input: RunInput, n: usize, half: bool) -> VectorAnswer
-    requires le_n { (2 ≤ n) × (n ≤ rows input.bound) × (input.bound ≤ 200) × (lt 0ᶠ input.tau ≡ true) × (v ≡ vector_of n (fill n 1ᶠ) (fill n 0ᶠ)) }
+    requires start { (2 ≤ n) × (n ≤ rows input.bound) × (input.bound ≤ 200) × (lt 0ᶠ input.tau ≡ true) × (v ≡ vector_of n (fill n 1ᶠ) (fill n 0ᶠ)) }
     requires rows_stand { RowsStand half n input.bound input.alpha input.beta input.eta }
     ensures { result ≡ vector_by (rows input.bound) (run input) }
 {

@@ -11,16 +11,13 @@ use Rattle.distances.proofs.float_entry.Goals as goal
 pub returns-in-Refused : goal.returns-in-Refused
 unfolding float_entry entry_over entry_if
 returns-in-Refused c =
-    let n = c in
-    let e = n in
-    rw (check_refused _ _ (rw (to_z-of_z e.ranges.q) at (sym n.in-Refused.is ∙ e.check_entry.ensures))) c.refused_entry.ensures
+    rw (check_refused _ _ (rw (to_z-of_z c.ranges.q) at (sym c.in-Refused.is ∙ c.check_entry.ensures))) c.refused_entry.ensures
 
 pub entry_within-requires : goal.entry_within-requires
 entry_within-requires c =
     let passes-is : let a = c.args in first_failing (entry_checks a.k a.base a.input a.q) ≡ passes = check_passes _ (rw (to_z-of_z c.ranges.q) at (sym c.in-Passes.is ∙ c.check_entry.ensures)) in
-    let s = c in
-    let p = passed _ _ _ s.args.q passes-is in
-    rw (to_z-of_z s.ranges.q) (p.floats, p.bound_is_ok, leb-true _ _ p.held)
+    let p = passed _ _ _ c.args.q passes-is in
+    rw (to_z-of_z c.ranges.q) (p.floats, p.bound_is_ok, leb-true _ _ p.held)
 
 pub returns : goal.returns
 unfolding float_entry entry_over entry_if

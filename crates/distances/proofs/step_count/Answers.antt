@@ -20,6 +20,4 @@ returns-in-Passes c =
 pub returns-in-Refused : goal.returns-in-Refused
 unfolding step_count count_over plan_if
 returns-in-Refused c =
-    let n = c in
-    let e = n in
-    rw (check_refused _ _ (rw (to_z-of_z e.ranges.q) at (sym n.in-Refused.is ∙ e.check_entry.ensures)))
+    rw (check_refused _ _ (rw (to_z-of_z c.ranges.q) at (sym c.in-Refused.is ∙ c.check_entry.ensures)))

@@ -1,3 +1,4 @@
+-- The loop's invariant: `out` keeps its length, and the input holds the patterns to come. Assumes nothing.
 use Prim.Native.Nat.{◌*◌, ◌≤◌}
 use mathlib.Core.Path.{◌≡◌}
 use lib.ListN.{length}

@@ -1,3 +1,4 @@
+-- `floatrun::put_floats` is safe and ends. The loop's invariant: `out` keeps its length. Assumes nothing.
 use Prim.Native.Nat.{◌-◌, ◌≤◌}
 use mathlib.Core.Path.{◌≡◌}
 use lib.ListN.{length}

@@ -1,3 +1,4 @@
+-- The bytes left are the measure; nothing else has to hold from byte to byte. Assumes nothing.
 use Prim.Native.Nat.{◌-◌}
 use lib.ListN.{length}
 use Rattle.ladderrun.proofs.untouched.Given as goal

@@ -15,7 +15,6 @@ pub lots_fit-requires : goal.lots_fit-requires
 lots_fit-requires c =
     let lot-kept : let l = c.args.config.lot_size in to_z w64 (of_z w64 l) ≡ l = kept c.args.config.lot_size c.struct_told-1.given.1.1.1.1.0.1 in
     let lot-is : above0 c.args.config.lot_size ≡ c.is_positive.result = rw (c.is_positive.ensures, lot-kept) in
-    let p = c in
     rw lot-kept (subst T (sym (lot-is ∙ c.if-is_positive.true)) tt)
 
 pub returns-then-lots_fit : goal.returns-then-lots_fit
@@ -23,20 +22,15 @@ unfolding quotes_of_lots first_failing first_of verdict lots_if quotes_from quot
 returns-then-lots_fit c =
     let lot-kept : let l = c.args.config.lot_size in to_z w64 (of_z w64 l) ≡ l = kept c.args.config.lot_size c.struct_told-1.given.1.1.1.1.0.1 in
     let lot-is : above0 c.args.config.lot_size ≡ c.is_positive.result = rw (c.is_positive.ensures, lot-kept) in
-    let fits-is : let a = c.args in amount_ok (holding_of a.config a.q) ≡ c.lots_fit.result = let p = c in
-    rw (c.lots_fit.ensures, lot-kept, to_z-of_z p.ranges.q) in
-    let f = c in
-    let p = f in
-    let s = p in
-    rw (lot-is, f.if-is_positive.true, fits-is, c.if-lots_fit.true, c.quotes_by.ensures, c.answer_in-answer.ensures, to_z-of_z s.ranges.mid_price, kept s.args.config.min_spread p.struct_told-1.given.1.1.1.1.1.1.0.1, to_z-of_z s.ranges.q)
+    let fits-is : let a = c.args in amount_ok (holding_of a.config a.q) ≡ c.lots_fit.result = rw (c.lots_fit.ensures, lot-kept, to_z-of_z c.ranges.q) in
+    rw (lot-is, c.if-is_positive.true, fits-is, c.if-lots_fit.true, c.quotes_by.ensures, c.answer_in-answer.ensures, to_z-of_z c.ranges.mid_price, kept c.args.config.min_spread c.struct_told-1.given.1.1.1.1.1.1.0.1, to_z-of_z c.ranges.q)
 
 pub returns-then-is_positive : goal.returns-then-is_positive
 unfolding quotes_of_lots first_failing first_of verdict lots_if holding_of
 returns-then-is_positive c =
     let lot-kept : let l = c.args.config.lot_size in to_z w64 (of_z w64 l) ≡ l = kept c.args.config.lot_size c.struct_told-1.given.1.1.1.1.0.1 in
     let lot-is : above0 c.args.config.lot_size ≡ c.is_positive.result = rw (c.is_positive.ensures, lot-kept) in
-    let fits-is : let a = c.args in amount_ok (holding_of a.config a.q) ≡ c.lots_fit.result = let p = c in
-    rw (c.lots_fit.ensures, lot-kept, to_z-of_z p.ranges.q) in
+    let fits-is : let a = c.args in amount_ok (holding_of a.config a.q) ≡ c.lots_fit.result = rw (c.lots_fit.ensures, lot-kept, to_z-of_z c.ranges.q) in
     rw (lot-is, c.if-is_positive.true, fits-is, c.if-lots_fit.false)
 
 pub returns : goal.returns

@@ -3,5 +3,4 @@ use Rattle.lots.proofs.quotes_of_lots.Goals as goal
 
 pub returns : goal.returns
 returns c =
-    let s = c in
-    rw (c.quotes_in.ensures, to_z-of_z s.ranges.mid_price, to_z-of_z s.ranges.q)
+    rw (c.quotes_in.ensures, to_z-of_z c.ranges.mid_price, to_z-of_z c.ranges.q)

@@ -5,7 +5,4 @@ use Rattle.lots.proofs.reckon.Goals as goal
 pub returns : goal.returns
 unfolding reckoning reckoned
 returns c =
-    let b = c in
-    let v = b in
-    let m = v in
-    rw (c.beside_vector-2.ensures, b.beside_vector.ensures, v.vector_of-vector.ensures, m.model_of-m.ensures, v.seconds_to_terminal-tau.ensures, to_z-of_z m.ranges.volatility)
+    rw (c.beside_vector-2.ensures, c.beside_vector.ensures, c.vector_of-vector.ensures, c.model_of-m.ensures, c.seconds_to_terminal-tau.ensures, to_z-of_z c.ranges.volatility)

@@ -4,8 +4,7 @@ use Rattle.lots.proofs.vector_of.Goals as goal
 pub returns-then-floats_fit : goal.returns-then-floats_fit
 unfolding reckon_if
 returns-then-floats_fit c =
-    let i = c in
-    rw (← i.floats_fit.ensures, i.if-floats_fit.true, c.value_vector.ensures, i.run_input.ensures)
+    rw (← c.floats_fit.ensures, c.if-floats_fit.true, c.value_vector.ensures, c.run_input.ensures)
 
 pub returns : goal.returns
 unfolding reckon_if

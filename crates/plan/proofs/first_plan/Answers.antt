@@ -19,4 +19,4 @@ returns-in-Passes c = rw (passes-is c.before) c.plan_within.ensures
 
 pub returns-in-Refused : goal.returns-in-Refused
 unfolding first_plan plan_over plan_if
-returns-in-Refused c = let n = c in rw (check_refused _ _ (sym n.in-Refused.is ∙ n.check_input.ensures))
+returns-in-Refused c = rw (check_refused _ _ (sym c.in-Refused.is ∙ c.check_input.ensures))

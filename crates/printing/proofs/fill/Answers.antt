@@ -8,12 +8,10 @@ use Rattle.printing.proofs.fill.Goals as goal
 pub returns-in-Filled : goal.returns-in-Filled
 returns-in-Filled c =
     let w = c.fill_texts in
-    record { out_value = sym w.ensures.value ∙ c.in-Filled.is; out_after = w.ensures.out_after }
+    record { filled = sym w.ensures.value ∙ c.in-Filled.is; out_after = w.ensures.out_after }
 
 pub returns-in-Refused : goal.returns-in-Refused
 returns-in-Refused c =
-    let w = c in
-    let s = w in
-    let f = fill_there s.args.kind s.args.s.now s.args.at s.args.out.now s.requires in
-    let z : ◌≡◌ {A = ℕ} 0 1 = cc (w.fill_texts.ensures.value, c.in-Refused.is, f.2) in
+    let f = fill_there c.args.kind c.args.s.now c.args.at c.args.out.now c.requires in
+    let z : ◌≡◌ {A = ℕ} 0 1 = cc (c.fill_texts.ensures.value, c.in-Refused.is, f.2) in
     absurd (omega arith)

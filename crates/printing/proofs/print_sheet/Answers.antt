@@ -6,9 +6,8 @@ use Rattle.printing.proofs.print_sheet.Goals as goal
 
 pub returns-in-Bytes : goal.returns-in-Bytes
 returns-in-Bytes c =
-    let r = c in
-    let m = read_most c.in-Bytes.n _ r.read.new.input c.first.ensures in
-    of_sheet _ _ _ (omega (arith, m, r.read.auto.input, r.blank-input.ensures)) c.print_texts.ensures
+    let m = read_most c.in-Bytes.n _ c.read.new.input c.first.ensures in
+    of_sheet _ _ _ (omega (arith, m, c.read.auto.input, c.blank-input.ensures)) c.print_texts.ensures
 
 pub returns-in-Failed : goal.returns-in-Failed
 unfolding OfSomeSheet

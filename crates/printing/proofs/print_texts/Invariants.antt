@@ -1,3 +1,5 @@
+-- `printing::print_texts` meets its contract. The loop's invariant: what is done is handed on, and the rest follows from the place on; the buffer has its length, and the place is
+-- within the sheet. The measure is what is left of the sheet, which each fill makes less. Assumes nothing.
 use mathlib.Core.Path.{◌≡◌}
 use Prim.Native.Nat.{◌-◌, ◌≤◌}
 use lib.ListN.{length}

@@ -1,3 +1,4 @@
+-- `resave::keep` meets its contract. The loop's invariant: what is kept of the records passed is written. The measure is what is left of the sheet. Assumes nothing.
 use Prim.Native.Nat.{◌-◌}
 use lib.ListN.{length}
 use Rattle.resave.proofs.Keeping.{Keeping}

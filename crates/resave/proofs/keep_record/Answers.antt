@@ -18,32 +18,25 @@ pub returns-in-Saved : goal.returns-in-Saved
 unfolding piece onward
 returns-in-Saved c =
     let record_of : Record = c.in-Record.r in
-    let took : let r = c in let a = r.args in read_record a.s.now a.at ≡ RecordAnswer.Record record_of r.in-Record.next = let r = c in
-    sym r.read_record.ensures ∙ r.in-Record.is in
-    let whole : let a = c.args in (saved record_of a.out.now ≡ SaveAnswer.Saved (length (record_bytes record_of))) × (saved_in record_of a.out.now ≡ over (record_bytes record_of) a.out.now) = let s = c in
-    saved_whole record_of s.args.out.now s.requires (taken_saves s.args.s.now s.args.at record_of _ took) in
-    let w = c in
+    let took : let a = c.args in read_record a.s.now a.at ≡ RecordAnswer.Record record_of c.in-Record.next = sym c.read_record.ensures ∙ c.in-Record.is in
+    let whole : let a = c.args in (saved record_of a.out.now ≡ SaveAnswer.Saved (length (record_bytes record_of))) × (saved_in record_of a.out.now ≡ over (record_bytes record_of) a.out.now) = saved_whole record_of c.args.out.now c.requires (taken_saves c.args.s.now c.args.at record_of _ took) in
     let k = whole in
-    let a = w.save_record.ensures in
+    let a = c.save_record.ensures in
     let n : c.in-Saved.count ≡ length (record_bytes record_of) = cc (a.value, c.in-Saved.is, k.0) in
     rw took (record { count_value = n; next_value = refl; out_after = a.out_after ∙ k.1 })
 
 pub returns-in-Refused-save_record : goal.returns-in-Refused-save_record
 returns-in-Refused-save_record c =
     let record_of : Record = c.in-Record.r in
-    let took : let r = c in let a = r.args in read_record a.s.now a.at ≡ RecordAnswer.Record record_of r.in-Record.next = let r = c in
-    sym r.read_record.ensures ∙ r.in-Record.is in
-    let whole : let a = c.args in (saved record_of a.out.now ≡ SaveAnswer.Saved (length (record_bytes record_of))) × (saved_in record_of a.out.now ≡ over (record_bytes record_of) a.out.now) = let s = c in
-    saved_whole record_of s.args.out.now s.requires (taken_saves s.args.s.now s.args.at record_of _ took) in
-    let w = c in
-    let z : ◌≡◌ {A = ℕ} 0 1 = cc (w.save_record.ensures.value, c.in-Refused-save_record.is, whole.0) in
+    let took : let a = c.args in read_record a.s.now a.at ≡ RecordAnswer.Record record_of c.in-Record.next = sym c.read_record.ensures ∙ c.in-Record.is in
+    let whole : let a = c.args in (saved record_of a.out.now ≡ SaveAnswer.Saved (length (record_bytes record_of))) × (saved_in record_of a.out.now ≡ over (record_bytes record_of) a.out.now) = saved_whole record_of c.args.out.now c.requires (taken_saves c.args.s.now c.args.at record_of _ took) in
+    let z : ◌≡◌ {A = ℕ} 0 1 = cc (c.save_record.ensures.value, c.in-Refused-save_record.is, whole.0) in
     absurd (omega arith)
 
 pub returns-in-Skipped : goal.returns-in-Skipped
 unfolding piece onward over
 returns-in-Skipped c =
-    let n = c in
-    let e = sym n.read_record.ensures ∙ n.in-Skipped.is in
+    let e = sym c.read_record.ensures ∙ c.in-Skipped.is in
     rw e (record { count_value = refl; next_value = refl; out_after = refl })
 
 pub returns-in-Refused : goal.returns-in-Refused

@@ -1,3 +1,4 @@
+-- The loop's invariant: the table keeps its length. The calls left are the measure. Assumes nothing.
 use Rattle.std.proofs.Common.{◌≡◌, ◌-◌, length}
 use Rattle.reuse.proofs.calls.Given as goal
 

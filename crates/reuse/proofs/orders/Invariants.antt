@@ -1,3 +1,4 @@
+-- The bytes left are the measure; nothing else has to hold from byte to byte. Assumes nothing.
 use Rattle.std.proofs.Common.{◌-◌, length}
 use Rattle.reuse.proofs.orders.Given as goal
 

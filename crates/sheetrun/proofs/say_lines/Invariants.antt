@@ -1,3 +1,4 @@
+-- `sheetrun::say_lines` is safe and ends. The loop's invariant: the turns are counted up to the length. Assumes nothing.
 use Prim.Native.Nat.{◌-◌, ◌≤◌}
 use lib.ListN.{length}
 use Rattle.sheetrun.proofs.say_lines.Given as goal

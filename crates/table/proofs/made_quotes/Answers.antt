@@ -11,34 +11,23 @@ use Rattle.table.proofs.made_quotes.Goals as goal
 
 pub add_row-requires : goal.add_row-requires
 add_row-requires c =
-    let v = c in
-    let s = v in
-    let f = full_arrays s.args.input in
-    (s.requires.0, (table_passed s.args.table.now s.requires.1).within, rw v.value_vector-a.ensures f.weights, rw v.value_vector-a.ensures f.offsets)
+    let f = full_arrays c.args.input in
+    (c.requires.0, (table_passed c.args.table.now c.requires.1).within, rw c.value_vector-a.ensures f.weights, rw c.value_vector-a.ensures f.offsets)
 
 pub returns-in-Quotes : goal.returns-in-Quotes
 unfolding kept_in answer_from
 returns-in-Quotes c =
-    let quotes-are : let a = c.args in c.quotes_by-quotes.result ≡ quotes_by_answer a.mid a.least (answer_from (value_vector a.input) a.k a.base a.q) = let v = c in
-    let s = v in
-    rw (c.quotes_by-quotes.ensures, to_z-of_z s.ranges.mid, to_z-of_z s.ranges.least, c.answer_in-answer.ensures, to_z-of_z s.ranges.q, v.value_vector-a.ensures) in
-    let q = c in
-    let a = q in
-    let v = a in
-    record { value = sym q.in-Quotes.is ∙ quotes-are; table_after = rw (← v.value_vector-a.ensures) c.add_row.ensures }
+    let quotes-are : let a = c.args in c.quotes_by-quotes.result ≡ quotes_by_answer a.mid a.least (answer_from (value_vector a.input) a.k a.base a.q) = rw (c.quotes_by-quotes.ensures, to_z-of_z c.ranges.mid, to_z-of_z c.ranges.least, c.answer_in-answer.ensures, to_z-of_z c.ranges.q, c.value_vector-a.ensures) in
+    record { value = sym c.in-Quotes.is ∙ quotes-are; table_after = rw (← c.value_vector-a.ensures) c.add_row.ensures }
 
 pub returns-in-OverStepCap : goal.returns-in-OverStepCap
 unfolding kept_in answer_from
 returns-in-OverStepCap c =
-    let quotes-are : let a = c.args in c.quotes_by-quotes.result ≡ quotes_by_answer a.mid a.least (answer_from (value_vector a.input) a.k a.base a.q) = let v = c in
-    let s = v in
-    rw (c.quotes_by-quotes.ensures, to_z-of_z s.ranges.mid, to_z-of_z s.ranges.least, c.answer_in-answer.ensures, to_z-of_z s.ranges.q, v.value_vector-a.ensures) in
+    let quotes-are : let a = c.args in c.quotes_by-quotes.result ≡ quotes_by_answer a.mid a.least (answer_from (value_vector a.input) a.k a.base a.q) = rw (c.quotes_by-quotes.ensures, to_z-of_z c.ranges.mid, to_z-of_z c.ranges.least, c.answer_in-answer.ensures, to_z-of_z c.ranges.q, c.value_vector-a.ensures) in
     record { value = quotes-are; table_after = rw c.in-OverStepCap.is }
 
 pub returns-in-Refused : goal.returns-in-Refused
 unfolding kept_in answer_from
 returns-in-Refused c =
-    let quotes-are : let a = c.args in c.quotes_by-quotes.result ≡ quotes_by_answer a.mid a.least (answer_from (value_vector a.input) a.k a.base a.q) = let v = c in
-    let s = v in
-    rw (c.quotes_by-quotes.ensures, to_z-of_z s.ranges.mid, to_z-of_z s.ranges.least, c.answer_in-answer.ensures, to_z-of_z s.ranges.q, v.value_vector-a.ensures) in
+    let quotes-are : let a = c.args in c.quotes_by-quotes.result ≡ quotes_by_answer a.mid a.least (answer_from (value_vector a.input) a.k a.base a.q) = rw (c.quotes_by-quotes.ensures, to_z-of_z c.ranges.mid, to_z-of_z c.ranges.least, c.answer_in-answer.ensures, to_z-of_z c.ranges.q, c.value_vector-a.ensures) in
     record { value = quotes-are; table_after = rw c.in-Refused.is }

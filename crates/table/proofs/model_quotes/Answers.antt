@@ -7,29 +7,24 @@ use Rattle.table.proofs.Answering.{row_ready, used_row, used_made}
 use Rattle.table.proofs.model_quotes.Goals as goal
 
 pub find-requires : goal.find-requires
-find-requires c = let s = c in (s.requires.0, (table_passed s.args.table.now s.requires.1).few)
+find-requires c = (c.requires.0, (table_passed c.args.table.now c.requires.1).few)
 
 pub answer_of_row-requires : goal.answer_of_row-requires
 answer_of_row-requires c =
-    let s = c in
     let e = sym c.find.ensures ∙ c.in-Row.is in
-    let (few, passes) = row_ready s.args.table.now _ _ s.requires.1 e in
-    (s.requires.0, few, passes)
+    let (few, passes) = row_ready c.args.table.now _ _ c.requires.1 e in
+    (c.requires.0, few, passes)
 
 pub returns-in-Row : goal.returns-in-Row
 returns-in-Row c =
-    let s = c in
-    let t = s.args.table.now in
-    let i = c in
-    let e = ap (found t) (sym i.run_input-input.ensures) ∙ sym c.find.ensures ∙ c.in-Row.is in
-    let u = used_row s.args.m s.args.q s.args.mid s.args.least s.args.tau t _ e in
-    record { value = rw (u, c.quotes_by.ensures, to_z-of_z s.ranges.mid, to_z-of_z s.ranges.least, c.answer_of_row.ensures, to_z-of_z s.ranges.q); table_after = rw u }
+    let t = c.args.table.now in
+    let e = ap (found t) (sym c.run_input-input.ensures) ∙ sym c.find.ensures ∙ c.in-Row.is in
+    let u = used_row c.args.m c.args.q c.args.mid c.args.least c.args.tau t _ e in
+    record { value = rw (u, c.quotes_by.ensures, to_z-of_z c.ranges.mid, to_z-of_z c.ranges.least, c.answer_of_row.ensures, to_z-of_z c.ranges.q); table_after = rw u }
 
 pub returns-in-Nothing : goal.returns-in-Nothing
 returns-in-Nothing c =
-    let s = c in
-    let i = c in
     let e = sym c.find.ensures ∙ c.in-Nothing.is in
     let m = c.made_quotes.ensures in
-    let p = used_made s.args.m s.args.q s.args.mid s.args.least s.args.tau s.args.table.now _ i.run_input-input.ensures _ _ _ (to_z-of_z s.ranges.mid) (to_z-of_z s.ranges.least)
-    (to_z-of_z s.ranges.q) e _ _ m.value m.table_after in record { value = p.0; table_after = p.1 }
+    let p = used_made c.args.m c.args.q c.args.mid c.args.least c.args.tau c.args.table.now _ c.run_input-input.ensures _ _ _ (to_z-of_z c.ranges.mid) (to_z-of_z c.ranges.least)
+    (to_z-of_z c.ranges.q) e _ _ m.value m.table_after in record { value = p.0; table_after = p.1 }

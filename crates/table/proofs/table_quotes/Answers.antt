@@ -11,38 +11,29 @@ use Rattle.table.proofs.table_quotes.Goals as goal
 
 pub returns-in-Refused : goal.returns-in-Refused
 returns-in-Refused c =
-    let s = c in
-    let a = s.args in
+    let a = c.args in
     let u = used_stopped a.table.now a.mid_price a.inventory a.config a.volatility a.current_time _ (sym c.in-Refused.is ∙ c.check_table.ensures) in
     record { value = rw u; table_after = rw u }
 
 pub model_quotes-requires : goal.model_quotes-requires
 model_quotes-requires c =
     let passed : Check.Passes ≡ check_of (first_failing (table_checks c.args.table.now)) = sym c.in-Passes.is ∙ c.check_table.ensures in
-    let e = c in ready e.args.table.now passed
+    ready c.args.table.now passed
 
 pub returns-in-Model : goal.returns-in-Model
 returns-in-Model c =
     let passed : Check.Passes ≡ check_of (first_failing (table_checks c.args.table.now)) = sym c.in-Passes.is ∙ c.check_table.ensures in
-    let model_is : let a = c.args in c.exact.result ≡ exact_model a.mid_price a.inventory a.config a.volatility a.current_time = let s = c in
-    rw (to_z-of_z s.ranges.mid_price, to_z-of_z s.ranges.inventory, to_z-of_z s.ranges.volatility) at c.exact.ensures in
-    let t = c in
-    let m = t in
-    let n = m in
-    let s = n in
-    let a = s.args in
+    let model_is : let a = c.args in c.exact.result ≡ exact_model a.mid_price a.inventory a.config a.volatility a.current_time = rw (to_z-of_z c.ranges.mid_price, to_z-of_z c.ranges.inventory, to_z-of_z c.ranges.volatility) at c.exact.ensures in
+    let a = c.args in
     let q = c.model_quotes.ensures in
-    let p = used_given a.table.now a.mid_price a.inventory a.config a.volatility a.current_time passed _ _ (sym model_is ∙ m.in-Model.is) _ _ _ _
-    (kept m.in-Model.q t.in-Model.known_told-in-Model-1-own.given.1.0.1) (to_z-of_z s.ranges.mid_price) (kept a.config.min_spread n.struct_told-1.given.1.1.1.1.1.1.0.1)
-    t.seconds_to_terminal-tau.ensures _ _ q.value q.table_after in record { value = p.0; table_after = p.1 }
+    let p = used_given a.table.now a.mid_price a.inventory a.config a.volatility a.current_time passed _ _ (sym model_is ∙ c.in-Model.is) _ _ _ _
+    (kept c.in-Model.q c.in-Model.known_told-in-Model-1-own.given.1.0.1) (to_z-of_z c.ranges.mid_price) (kept a.config.min_spread c.struct_told-1.given.1.1.1.1.1.1.0.1)
+    c.seconds_to_terminal-tau.ensures _ _ q.value q.table_after in record { value = p.0; table_after = p.1 }
 
 pub returns-in-Refused-exact : goal.returns-in-Refused-exact
 returns-in-Refused-exact c =
     let passed : Check.Passes ≡ check_of (first_failing (table_checks c.args.table.now)) = sym c.in-Passes.is ∙ c.check_table.ensures in
-    let model_is : let a = c.args in c.exact.result ≡ exact_model a.mid_price a.inventory a.config a.volatility a.current_time = let s = c in
-    rw (to_z-of_z s.ranges.mid_price, to_z-of_z s.ranges.inventory, to_z-of_z s.ranges.volatility) at c.exact.ensures in
-    let n = c in
-    let s = n in
-    let a = s.args in
+    let model_is : let a = c.args in c.exact.result ≡ exact_model a.mid_price a.inventory a.config a.volatility a.current_time = rw (to_z-of_z c.ranges.mid_price, to_z-of_z c.ranges.inventory, to_z-of_z c.ranges.volatility) at c.exact.ensures in
+    let a = c.args in
     let u = used_refused a.table.now a.mid_price a.inventory a.config a.volatility a.current_time passed _ (sym model_is ∙ c.in-Refused-exact.is) in
     record { value = rw u; table_after = rw u }

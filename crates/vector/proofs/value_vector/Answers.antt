@@ -13,8 +13,7 @@ passes-is c = check_passes _ (sym c.in-Passes.is ∙ c.check_input.ensures)
 pub returns-in-Refused : goal.returns-in-Refused
 unfolding value_vector vector_over vector_if
 returns-in-Refused c =
-    let n = c in
-    rw (check_refused _ _ (sym n.in-Refused.is ∙ n.check_input.ensures)) c.refused_vector.ensures
+    rw (check_refused _ _ (sym c.in-Refused.is ∙ c.check_input.ensures)) c.refused_vector.ensures
 
 pub run_vector-requires : goal.run_vector-requires
 run_vector-requires c = input_passed _ (passes-is c)

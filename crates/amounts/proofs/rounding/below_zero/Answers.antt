@@ -29,11 +29,9 @@ overflow_sub-result c = rw (to_z-of_z (fits c)) (minus_held (n c) (within c))
 
 pub returns-in-Count : goal.returns-in-Count
 returns-in-Count c =
-    let s = c in
     rw (to_z-of_z (fits c), to_z-of_z (minus_held (n c) (within c)), +ℤ_idl (neg_ℤ (n c)))
-    (ap opposite (counted c) ∙ is_opposite (size s.args.x) ∙ ap count_of (sym (below s.args.x s.requires)))
+    (ap opposite (counted c) ∙ is_opposite (size c.args.x) ∙ ap count_of (sym (below c.args.x c.requires)))
 
 pub returns-in-Refused : goal.returns-in-Refused
 returns-in-Refused c =
-    let s = c in
-    ap opposite (sym c.in-Refused.is ∙ c.sized.ensures) ∙ is_opposite (size s.args.x) ∙ ap count_of (sym (below s.args.x s.requires))
+    ap opposite (sym c.in-Refused.is ∙ c.sized.ensures) ∙ is_opposite (size c.args.x) ∙ ap count_of (sym (below c.args.x c.requires))

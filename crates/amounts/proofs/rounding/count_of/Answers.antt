@@ -8,15 +8,12 @@ sized-requires c = subst T (sym c.if-is_positive_finite.true ∙ c.is_positive_f
 
 pub returns-then-is_positive_finite : goal.returns-then-is_positive_finite
 returns-then-is_positive_finite c =
-    let b = c in
-    c.sized.ensures ∙ ap count_of (sym (above b.args.d (subst T (sym b.if-is_positive_finite.true ∙ b.is_positive_finite.ensures) tt)))
+    c.sized.ensures ∙ ap count_of (sym (above c.args.d (subst T (sym c.if-is_positive_finite.true ∙ c.is_positive_finite.ensures) tt)))
 
 pub below_zero-requires : goal.below_zero-requires
 below_zero-requires c = subst T (sym c.if-is_positive_finite-2.true ∙ c.is_positive_finite-2.ensures) tt
 
 pub returns : goal.returns
 returns c =
-    let a = c in
-    let b = a in
     sym (is_count (pos 0) zero-le)
-    ∙ ap count_of (sym (neither b.args.d (sym b.is_positive_finite.ensures ∙ b.if-is_positive_finite.false) (sym a.is_positive_finite-2.ensures ∙ c.if-is_positive_finite-2.false)))
+    ∙ ap count_of (sym (neither c.args.d (sym c.is_positive_finite.ensures ∙ c.if-is_positive_finite.false) (sym c.is_positive_finite-2.ensures ∙ c.if-is_positive_finite-2.false)))

@@ -9,26 +9,22 @@ held : (c : goal.Start) → T (fits binary64 c.args.x)
 held c = subst T (sym c.well_formed.0.1) tt
 
 pub float_to_bits-bits : goal.float_to_bits-bits
-float_to_bits-bits c = positive_no_nan c.args.x c.requires.t
+float_to_bits-bits c = positive_no_nan c.args.x c.requires.above_zero
 
 pub overflow_sub-field : goal.overflow_sub-field
 overflow_sub-field c =
-    let s = c in
-    field_most s.args.x (held s.before) s.requires.t s.requires.hex_value
+    field_most c.args.x (held c.before) c.requires.above_zero c.requires.in_range
 
 pub overflow_shl-field : goal.overflow_shl-field
 overflow_shl-field c =
-    let s = c in
-    lt_trans (shift_lt s.args.x (held s.before) s.requires.t s.requires.hex_value) (lit< tt)
+    lt_trans (shift_lt c.args.x (held c.before) c.requires.above_zero c.requires.in_range) (lit< tt)
 
 pub divided-requires : goal.divided-requires
 divided-requires c =
-    let s = c in
     let e = c.times_billion.ensures in
-    record { high_bound = (e.1, e.2); unit_nonzero = (unit_some s.args.x (held s.before) s.requires.t s.requires.hex_value, unit_small s.args.x (held s.before) s.requires.t s.requires.hex_value) }
+    record { words_fit = (e.1, e.2); unit_fits = (unit_some c.args.x (held c.before) c.requires.above_zero c.requires.in_range, unit_small c.args.x (held c.before) c.requires.above_zero c.requires.in_range) }
 
 pub returns : goal.returns
 returns c =
-    let s = c in
     let p = c.times_billion in
-    by_words s.args.x (held s.before.before) s.requires.t s.requires.hex_value s.args.cut c.divided.result p.result.high p.result.low p.ensures.0 c.divided.ensures
+    by_words c.args.x (held c.before.before) c.requires.above_zero c.requires.in_range c.args.cut c.divided.result p.result.high p.result.low p.ensures.0 c.divided.ensures

@@ -5,25 +5,20 @@ use Rattle.amounts.proofs.rounding.divided.Goals as goal
 
 pub returns-then-cut : goal.returns-then-cut
 returns-then-cut c =
-    let s = c in
-    rw c.if-cut.true (words_cut s.args.p.high s.args.p.low s.args.unit s.requires.high_bound.1 s.requires.unit_nonzero.0)
+    rw c.if-cut.true (words_cut c.args.p.high c.args.p.low c.args.unit c.requires.words_fit.1 c.requires.unit_fits.0)
 
 pub overflow_add-rest : goal.overflow_add-rest
 overflow_add-rest c =
-    let s = c in
-    omega (arith, mod-le s.args.p.high s.args.unit)
+    omega (arith, mod-le c.args.p.high c.args.unit)
 
 pub overflow_add-result : goal.overflow_add-result
 overflow_add-result c =
-    let s = c in
-    omega (arith, div-le_self s.args.p.high s.args.unit)
+    omega (arith, div-le_self c.args.p.high c.args.unit)
 
 pub returns-then-rest-p-gt0 : goal.returns-then-rest-p-gt0
 returns-then-rest-p-gt0 c =
-    let s = c in
-    rw c.if-cut.false (words_up s.args.p.high s.args.p.low s.args.unit s.requires.high_bound.1 s.requires.unit_nonzero.0 c.if-rest-p-gt0.true)
+    rw c.if-cut.false (words_up c.args.p.high c.args.p.low c.args.unit c.requires.words_fit.1 c.requires.unit_fits.0 c.if-rest-p-gt0.true)
 
 pub returns : goal.returns
 returns c =
-    let s = c in
-    rw c.if-cut.false (words_whole s.args.p.high s.args.p.low s.args.unit s.requires.high_bound.1 s.requires.unit_nonzero.0 c.if-rest-p-gt0.false)
+    rw c.if-cut.false (words_whole c.args.p.high c.args.p.low c.args.unit c.requires.words_fit.1 c.requires.unit_fits.0 c.if-rest-p-gt0.false)

@@ -8,14 +8,12 @@ use Rattle.amounts.proofs.rounding.sized.Goals as goal
 pub returns-then-cut : goal.returns-then-cut
 returns-then-cut c =
     let held : T (fits binary64 c.args.x) = subst T (sym c.well_formed.0.1) tt in
-    let s = c in
-    rw (c.if-cut.true, least_cut s.args.x held s.requires c.if-x.true) (sym (is_count (pos 0) zero-le))
+    rw (c.if-cut.true, least_cut c.args.x held c.requires c.if-x.true) (sym (is_count (pos 0) zero-le))
 
 pub returns-then-x : goal.returns-then-x
 returns-then-x c =
     let held : T (fits binary64 c.args.x) = subst T (sym c.well_formed.0.1) tt in
-    let s = c in
-    rw (c.if-cut.false, least_up s.args.x held s.requires c.if-x.true) (sym (is_count (pos 1) (lit≤ tt)))
+    rw (c.if-cut.false, least_up c.args.x held c.requires c.if-x.true) (sym (is_count (pos 1) (lit≤ tt)))
 
 pub returns-then-n : goal.returns-then-n
 returns-then-n c =
@@ -30,5 +28,4 @@ returns-else-n c =
 pub returns-else-x-2 : goal.returns-else-x-2
 returns-else-x-2 c =
     let held : T (fits binary64 c.args.x) = subst T (sym c.well_formed.0.1) tt in
-    let s = c in
-    sym (is_beyond (pos (size_by s.args.cut s.args.x)) (most s.args.cut s.args.x held s.requires c.if-x-2.false))
+    sym (is_beyond (pos (size_by c.args.cut c.args.x)) (most c.args.cut c.args.x held c.requires c.if-x-2.false))

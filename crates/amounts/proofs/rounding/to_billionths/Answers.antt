@@ -6,8 +6,7 @@ use Rattle.amounts.proofs.rounding.to_billionths.Goals as goal
 pub returns-then-is_finite : goal.returns-then-is_finite
 unfolding to_billionths count_of
 returns-then-is_finite c =
-    let b = c in
-    rw (← (sym b.if-is_finite.true ∙ b.is_finite.ensures)) c.count_of.ensures
+    rw (← (sym c.if-is_finite.true ∙ c.is_finite.ensures)) c.count_of.ensures
 
 pub returns : goal.returns
 unfolding to_billionths count_if

@@ -5,8 +5,5 @@ use Rattle.desk.proofs.line.put_cap.Goals as goal
 pub returns : goal.returns
 unfolding lined after_lined fields after_fields
 returns c =
-    let s = c in
-    let n = s in
-    let f = n in
-    let p = f.put-at.ensures in
-    rw (← p.out_after, ← p.value, ← f.put_float-at.ensures.out_after, ← f.put_float-at.ensures.value, ← n.put_number-at.ensures.out_after, ← n.put_number-at.ensures.value) (record { out_after = s.put_number.ensures.out_after; value = s.put_number.ensures.value })
+    let p = c.put-at.ensures in
+    rw (← p.out_after, ← p.value, ← c.put_float-at.ensures.out_after, ← c.put_float-at.ensures.value, ← c.put_number-at.ensures.out_after, ← c.put_number-at.ensures.value) (record { out_after = c.put_number.ensures.out_after; value = c.put_number.ensures.value })

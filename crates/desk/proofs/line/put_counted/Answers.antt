@@ -5,6 +5,5 @@ use Rattle.desk.proofs.line.put_counted.Goals as goal
 pub returns : goal.returns
 unfolding lined after_lined fields after_fields
 returns c =
-    let n = c in
-    let q = n.put_quotes-at.ensures in
-    rw (← q.out_after, ← q.value) (record { out_after = n.put_number.ensures.out_after; value = n.put_number.ensures.value })
+    let q = c.put_quotes-at.ensures in
+    rw (← q.out_after, ← q.value) (record { out_after = c.put_number.ensures.out_after; value = c.put_number.ensures.value })

@@ -6,14 +6,10 @@ use Rattle.desk.proofs.line.put_price.Goals as goal
 pub returns-in-At : goal.returns-in-At
 unfolding price_text
 returns-in-At c =
-    let q = c in
-    let k = q in
-    let z = rw (kept _ k.in-At.known_told-1-own.given.0.1) at q.size_of.ensures in
-    rw (k.in-At.is, ← z) (record { out_after = q.put_number.ensures.out_after; value = q.put_number.ensures.value })
+    let z = rw (kept _ c.in-At.known_told-1-own.given.0.1) at c.size_of.ensures in
+    rw (c.in-At.is, ← z) (record { out_after = c.put_number.ensures.out_after; value = c.put_number.ensures.value })
 
 pub returns-in-Absent : goal.returns-in-Absent
 unfolding price_text
 returns-in-Absent c =
-    let q = c in
-    let p = q in
-    rw p.in-Absent.is (record { out_after = q.put_field.ensures.out_after; value = q.put_field.ensures.value })
+    rw c.in-Absent.is (record { out_after = c.put_field.ensures.out_after; value = c.put_field.ensures.value })

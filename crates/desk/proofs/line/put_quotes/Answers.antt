@@ -5,7 +5,5 @@ use Rattle.desk.proofs.line.put_quotes.Goals as goal
 pub returns : goal.returns
 unfolding lined after_lined fields after_fields
 returns c =
-    let a = c in
-    let b = a in
-    let p = b.put-at.ensures in
-    rw (← p.out_after, ← p.value, ← b.put_price-at.ensures.out_after, ← b.put_price-at.ensures.value) (record { out_after = a.put_price.ensures.out_after; value = a.put_price.ensures.value })
+    let p = c.put-at.ensures in
+    rw (← p.out_after, ← p.value, ← c.put_price-at.ensures.out_after, ← c.put_price-at.ensures.value) (record { out_after = c.put_price.ensures.out_after; value = c.put_price.ensures.value })

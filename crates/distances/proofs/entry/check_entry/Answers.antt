@@ -12,31 +12,22 @@ use Rattle.distances.proofs.entry.check_entry.Goals as goal
 pub returns-in-Refused : goal.returns-in-Refused
 unfolding first_of check_of
 returns-in-Refused c =
-    let n = c in
-    let i = n in
-    let t = i in
-    let r = check_refused (first_failing (input_checks t.args.input)) _ (sym n.in-Refused.is ∙ i.check_input.ensures) in
-    rw (entry_next _ _ _ _ (sym t.scale_fits.ensures ∙ t.if-scale_fits.true), r)
+    let r = check_refused (first_failing (input_checks c.args.input)) _ (sym c.in-Refused.is ∙ c.check_input.ensures) in
+    rw (entry_next _ _ _ _ (sym c.scale_fits.ensures ∙ c.if-scale_fits.true), r)
 
 pub returns-then-within : goal.returns-then-within
 unfolding first_failing first_of verdict check_of
 returns-then-within c =
     let input-is : first_failing (input_checks c.args.input) ≡ passes = check_passes _ (sym c.in-Passes.is ∙ c.check_input.ensures) in
-    let held : let a = c.args in leb (nat_abs a.q) a.input.bound ≡ c.within.result = let s = c in
-    sym (c.within.ensures ∙ ap (λ (z : ℤ). leb (nat_abs z) s.args.input.bound) (to_z-of_z s.ranges.q)) in
-    let w = c in
-    let t = w in
-    rw (entry_next _ _ _ _ (sym t.scale_fits.ensures ∙ t.if-scale_fits.true), input-is, held, c.if-within.true)
+    let held : let a = c.args in leb (nat_abs a.q) a.input.bound ≡ c.within.result = sym (c.within.ensures ∙ ap (λ (z : ℤ). leb (nat_abs z) c.args.input.bound) (to_z-of_z c.ranges.q)) in
+    rw (entry_next _ _ _ _ (sym c.scale_fits.ensures ∙ c.if-scale_fits.true), input-is, held, c.if-within.true)
 
 pub returns-then-scale_fits : goal.returns-then-scale_fits
 unfolding first_failing first_of verdict check_of
 returns-then-scale_fits c =
     let input-is : first_failing (input_checks c.args.input) ≡ passes = check_passes _ (sym c.in-Passes.is ∙ c.check_input.ensures) in
-    let held : let a = c.args in leb (nat_abs a.q) a.input.bound ≡ c.within.result = let s = c in
-    sym (c.within.ensures ∙ ap (λ (z : ℤ). leb (nat_abs z) s.args.input.bound) (to_z-of_z s.ranges.q)) in
-    let w = c in
-    let t = w in
-    rw (entry_next _ _ _ _ (sym t.scale_fits.ensures ∙ t.if-scale_fits.true), input-is, held, c.if-within.false)
+    let held : let a = c.args in leb (nat_abs a.q) a.input.bound ≡ c.within.result = sym (c.within.ensures ∙ ap (λ (z : ℤ). leb (nat_abs z) c.args.input.bound) (to_z-of_z c.ranges.q)) in
+    rw (entry_next _ _ _ _ (sym c.scale_fits.ensures ∙ c.if-scale_fits.true), input-is, held, c.if-within.false)
 
 pub returns : goal.returns
 unfolding check_of

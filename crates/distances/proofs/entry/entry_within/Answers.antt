@@ -53,29 +53,23 @@ sides_in-requires c =
 pub returns-in-Done : goal.returns-in-Done
 unfolding entry
 returns-in-Done c =
-    let come : let a = c.args in c.value_vector-a.result ≡ vector_by (rows a.input.bound) (run a.input) = let s = c in c.value_vector-a.ensures ∙ vector_is s.args.k s.args.base s.args.input s.requires.0 s.requires.1 in
+    let come : let a = c.args in c.value_vector-a.result ≡ vector_by (rows a.input.bound) (run a.input) = c.value_vector-a.ensures ∙ vector_is c.args.k c.args.base c.args.input c.requires.0 c.requires.1 in
     let ended : let a = c.args in answer_by a.input.bound a.k a.base a.q (run a.input) ≡ entry a.input.bound a.k a.base a.q c.value_vector-a.result.outcome c.value_vector-a.result.vector = let a = c.args in
     rw come (entry-is a.input.bound a.k a.base a.q (run a.input)) in
-    let d = c in
-    let p = d in
-    let o = p in
-    let r = o in
-    rw (ended, o.in-Done.is, c.with_vector.ensures, d.sides_in.ensures, p.place_of-place.ensures, to_z-of_z r.ranges.q)
+    rw (ended, c.in-Done.is, c.with_vector.ensures, c.sides_in.ensures, c.place_of-place.ensures, to_z-of_z c.ranges.q)
 
 pub returns-in-OverCap : goal.returns-in-OverCap
 unfolding entry
 returns-in-OverCap c =
-    let come : let a = c.args in c.value_vector-a.result ≡ vector_by (rows a.input.bound) (run a.input) = let s = c in c.value_vector-a.ensures ∙ vector_is s.args.k s.args.base s.args.input s.requires.0 s.requires.1 in
+    let come : let a = c.args in c.value_vector-a.result ≡ vector_by (rows a.input.bound) (run a.input) = c.value_vector-a.ensures ∙ vector_is c.args.k c.args.base c.args.input c.requires.0 c.requires.1 in
     let ended : let a = c.args in answer_by a.input.bound a.k a.base a.q (run a.input) ≡ entry a.input.bound a.k a.base a.q c.value_vector-a.result.outcome c.value_vector-a.result.vector = let a = c.args in
     rw come (entry-is a.input.bound a.k a.base a.q (run a.input)) in
-    let o = c in
-    rw (ended, o.in-OverCap.is)
+    rw (ended, c.in-OverCap.is)
 
 pub returns-in-Refused : goal.returns-in-Refused
 unfolding entry
 returns-in-Refused c =
-    let come : let a = c.args in c.value_vector-a.result ≡ vector_by (rows a.input.bound) (run a.input) = let s = c in c.value_vector-a.ensures ∙ vector_is s.args.k s.args.base s.args.input s.requires.0 s.requires.1 in
+    let come : let a = c.args in c.value_vector-a.result ≡ vector_by (rows a.input.bound) (run a.input) = c.value_vector-a.ensures ∙ vector_is c.args.k c.args.base c.args.input c.requires.0 c.requires.1 in
     let ended : let a = c.args in answer_by a.input.bound a.k a.base a.q (run a.input) ≡ entry a.input.bound a.k a.base a.q c.value_vector-a.result.outcome c.value_vector-a.result.vector = let a = c.args in
     rw come (entry-is a.input.bound a.k a.base a.q (run a.input)) in
-    let o = c in
-    rw (ended, o.in-Refused.is, c.refused_entry.ensures)
+    rw (ended, c.in-Refused.is, c.refused_entry.ensures)

@@ -8,8 +8,7 @@ use Rattle.distances.proofs.from_bits.bid_at.Goals as goal
 pub returns-then-up-n : goal.returns-then-up-n
 unfolding bid_at
 returns-then-up-n c =
-    let t = c in
-    let a = t.args in
+    let a = c.args in
     rw (lt-ltb (suc a.i) a.n (omega arith), c.distance_at.ensures a.n, add-one)
 
 pub returns : goal.returns

@@ -7,9 +7,8 @@ use Rattle.distances.proofs.from_bits.float_at.Goals as goal
 
 pub returns-then-i-s : goal.returns-then-i-s
 returns-then-i-s c =
-    let t = c in
-    let a = t.args in
-    c.float_of.ensures ∙ sym (at_floats a.s.now a.i t.if-i-s.true)
+    let a = c.args in
+    c.float_of.ensures ∙ sym (at_floats a.s.now a.i c.if-i-s.true)
 
 pub returns : goal.returns
 unfolding of_bits div

@@ -4,6 +4,4 @@ use Rattle.distances.proofs.from_bits.sides_at.Goals as goal
 pub returns : goal.returns
 unfolding exact_at
 returns c =
-    let k = c in
-    let b = k in
-    rw (c.both.ensures, b.bid_at.ensures, k.ask_at.ensures b.args.n)
+    rw (c.both.ensures, c.bid_at.ensures, c.ask_at.ensures c.args.n)

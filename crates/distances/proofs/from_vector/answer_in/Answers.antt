@@ -5,10 +5,7 @@ use Rattle.distances.proofs.from_vector.answer_in.Goals as goal
 pub returns-in-Done : goal.returns-in-Done
 unfolding read_by
 returns-in-Done c =
-    let d = c in
-    let o = d in
-    let s = o in
-    rw (o.in-Done.is, c.with_steps.ensures, d.distances_in.ensures, to_z-of_z s.ranges.q)
+    rw (c.in-Done.is, c.with_steps.ensures, c.distances_in.ensures, to_z-of_z c.ranges.q)
 
 pub returns-in-OverCap : goal.returns-in-OverCap
 unfolding read_by

@@ -22,9 +22,7 @@ unfolding first_failing first_of verdict check_of
 returns-then-within c =
     let scaled : (positive c.args.k && positive c.args.base) ≡ true = sym c.scale_fits.ensures ∙ c.if-scale_fits.true in
     let sized : length_ok c.args.n ≡ true = sym c.length_fits.ensures ∙ c.if-length_fits.true in
-    let held : let a = c.args in leb (nat_abs a.q) (a.n / 2) ≡ c.within.result = let s = c in
-    sym (c.within.ensures ∙ ap (λ (z : ℤ). leb (nat_abs z) (s.args.n / 2)) (to_z-of_z s.ranges.q)) in
-    let w = c in
+    let held : let a = c.args in leb (nat_abs a.q) (a.n / 2) ≡ c.within.result = sym (c.within.ensures ∙ ap (λ (z : ℤ). leb (nat_abs z) (c.args.n / 2)) (to_z-of_z c.ranges.q)) in
     rw (scaled, sized, held, c.if-within.true)
 
 pub returns-then-length_fits : goal.returns-then-length_fits
@@ -32,9 +30,7 @@ unfolding first_failing first_of verdict check_of
 returns-then-length_fits c =
     let scaled : (positive c.args.k && positive c.args.base) ≡ true = sym c.scale_fits.ensures ∙ c.if-scale_fits.true in
     let sized : length_ok c.args.n ≡ true = sym c.length_fits.ensures ∙ c.if-length_fits.true in
-    let held : let a = c.args in leb (nat_abs a.q) (a.n / 2) ≡ c.within.result = let s = c in
-    sym (c.within.ensures ∙ ap (λ (z : ℤ). leb (nat_abs z) (s.args.n / 2)) (to_z-of_z s.ranges.q)) in
-    let w = c in
+    let held : let a = c.args in leb (nat_abs a.q) (a.n / 2) ≡ c.within.result = sym (c.within.ensures ∙ ap (λ (z : ℤ). leb (nat_abs z) (c.args.n / 2)) (to_z-of_z c.ranges.q)) in
     rw (scaled, sized, held, c.if-within.false)
 
 pub returns-then-scale_fits : goal.returns-then-scale_fits

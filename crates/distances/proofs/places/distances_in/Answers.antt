@@ -9,46 +9,32 @@ use Rattle.distances.proofs.places.distances_in.Goals as goal
 
 pub overflow_cast-n : goal.overflow_cast-n
 overflow_cast-n c =
-    let passed : let a = c.args in Readable a.n a.k a.base a.q = let d = c in
-    let s = d in
-    let a = s.args in
-    readable a.n a.k a.base a.q (rw (to_z-of_z s.ranges.q) at (sym c.in-Passes.is ∙ d.check_read.ensures)) in
+    let passed : let a = c.args in Readable a.n a.k a.base a.q = let a = c.args in
+    readable a.n a.k a.base a.q (rw (to_z-of_z c.ranges.q) at (sym c.in-Passes.is ∙ c.check_read.ensures)) in
     omega (arith, passed.half)
 
 pub place_of-requires : goal.place_of-requires
 place_of-requires c =
-    let passed : let a = c.args in Readable a.n a.k a.base a.q = let d = c in
-    let s = d in
-    let a = s.args in
-    readable a.n a.k a.base a.q (rw (to_z-of_z s.ranges.q) at (sym c.in-Passes.is ∙ d.check_read.ensures)) in
+    let passed : let a = c.args in Readable a.n a.k a.base a.q = let a = c.args in
+    readable a.n a.k a.base a.q (rw (to_z-of_z c.ranges.q) at (sym c.in-Passes.is ∙ c.check_read.ensures)) in
     rw (to_z-of_z c.ranges.q) passed.held
 
 pub sides_in-requires : goal.sides_in-requires
 sides_in-requires c =
-    let passed : let a = c.args in Readable a.n a.k a.base a.q = let d = c in
-    let s = d in
-    let a = s.args in
-    readable a.n a.k a.base a.q (rw (to_z-of_z s.ranges.q) at (sym c.in-Passes.is ∙ d.check_read.ensures)) in
-    let placed : let a = c.args in c.place_of.result ≡ place (a.n / 2) a.q = let s = c in
-    c.place_of.ensures ∙ ap (place (s.args.n / 2)) (to_z-of_z s.ranges.q) in
+    let passed : let a = c.args in Readable a.n a.k a.base a.q = let a = c.args in
+    readable a.n a.k a.base a.q (rw (to_z-of_z c.ranges.q) at (sym c.in-Passes.is ∙ c.check_read.ensures)) in
+    let placed : let a = c.args in c.place_of.result ≡ place (a.n / 2) a.q = c.place_of.ensures ∙ ap (place (c.args.n / 2)) (to_z-of_z c.ranges.q) in
     let p = passed in rw placed (p.inside, p.most)
 
 pub returns-in-Passes : goal.returns-in-Passes
 returns-in-Passes c =
-    let passed : let a = c.args in Readable a.n a.k a.base a.q = let d = c in
-    let s = d in
-    let a = s.args in
-    readable a.n a.k a.base a.q (rw (to_z-of_z s.ranges.q) at (sym c.in-Passes.is ∙ d.check_read.ensures)) in
-    let placed : let a = c.args in c.place_of.result ≡ place (a.n / 2) a.q = let s = c in
-    c.place_of.ensures ∙ ap (place (s.args.n / 2)) (to_z-of_z s.ranges.q) in
-    let p = c in
-    let a = p.args in
+    let passed : let a = c.args in Readable a.n a.k a.base a.q = let a = c.args in
+    readable a.n a.k a.base a.q (rw (to_z-of_z c.ranges.q) at (sym c.in-Passes.is ∙ c.check_read.ensures)) in
+    let placed : let a = c.args in c.place_of.result ≡ place (a.n / 2) a.q = c.place_of.ensures ∙ ap (place (c.args.n / 2)) (to_z-of_z c.ranges.q) in
+    let a = c.args in
     rw (passed.read a.w.now a.o.now, c.sides_in.ensures, placed)
 
 pub returns-in-Refused : goal.returns-in-Refused
 returns-in-Refused c =
-    let n = c in
-    let d = n in
-    let s = d in
-    let a = s.args in
-    sym (unreadable a.n a.k a.base a.q _ (rw (to_z-of_z s.ranges.q) at (sym n.in-Refused.is ∙ d.check_read.ensures)) a.w.now a.o.now)
+    let a = c.args in
+    sym (unreadable a.n a.k a.base a.q _ (rw (to_z-of_z c.ranges.q) at (sym c.in-Refused.is ∙ c.check_read.ensures)) a.w.now a.o.now)

@@ -4,7 +4,7 @@ use Rattle.elementary.proofs.WholeUp.{small_cast, Negative, negative, negative_s
 use Rattle.elementary.proofs.ceiling.ceil_negative.Goals as goal
 
 is_negative : (c : goal.Start) → Negative c.args.x
-is_negative c = negative c.args.x c.requires.x_value c.requires.t
+is_negative c = negative c.args.x c.requires.below_zero c.requires.small
 
 pub truncating_f64_to_u64-n-requires : goal.truncating_f64_to_u64-n-requires
 truncating_f64_to_u64-n-requires c =
@@ -13,5 +13,4 @@ truncating_f64_to_u64-n-requires c =
 
 pub returns : goal.returns
 returns c =
-    let t = c in
-    ap neg c.nearest_u64_to_f64.ensures ∙ negative_cut (is_negative t.before.before) t.truncating_f64_to_u64-n.ensures
+    ap neg c.nearest_u64_to_f64.ensures ∙ negative_cut (is_negative c.before.before) c.truncating_f64_to_u64-n.ensures

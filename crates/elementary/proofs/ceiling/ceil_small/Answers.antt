@@ -8,7 +8,7 @@ held : (c : goal.Start) → T (fits binary64 c.args.x)
 held c = subst T (sym c.well_formed.0.1) tt
 
 is-small : (c : goal.Start) → Small c.args.x
-is-small c = small c.args.x c.requires.x_value c.requires.t
+is-small c = small c.args.x c.requires.not_below_zero c.requires.small
 
 pub truncating_f64_to_u64-n-requires : goal.truncating_f64_to_u64-n-requires
 truncating_f64_to_u64-n-requires c =
@@ -17,18 +17,13 @@ truncating_f64_to_u64-n-requires c =
 
 pub overflow_add-n : goal.overflow_add-n
 overflow_add-n c =
-    let t = c in
-    omega (arith, small_cut (is-small t.before.before.before), t.truncating_f64_to_u64-n.ensures)
+    omega (arith, small_cut (is-small c.before.before.before), c.truncating_f64_to_u64-n.ensures)
 
 pub returns-then-nearest_u64_to_f64-x : goal.returns-then-nearest_u64_to_f64-x
 returns-then-nearest_u64_to_f64-x c =
-    let r = c in
-    let t = r in
     c.nearest_u64_to_f64-then-nearest_u64_to_f64-x.ensures
-    ∙ small_next (is-small t.before.before.before.before) t.truncating_f64_to_u64-n.ensures (rw r.nearest_u64_to_f64.ensures at c.if-nearest_u64_to_f64-x.true)
+    ∙ small_next (is-small c.before.before.before.before) c.truncating_f64_to_u64-n.ensures (rw c.nearest_u64_to_f64.ensures at c.if-nearest_u64_to_f64-x.true)
 
 pub returns : goal.returns
 returns c =
-    let r = c in
-    let t = r in
-    small_whole (held t.before.before.before) (is-small t.before.before.before) t.truncating_f64_to_u64-n.ensures (rw r.nearest_u64_to_f64.ensures at c.if-nearest_u64_to_f64-x.false)
+    small_whole (held c.before.before.before) (is-small c.before.before.before) c.truncating_f64_to_u64-n.ensures (rw c.nearest_u64_to_f64.ensures at c.if-nearest_u64_to_f64-x.false)

@@ -13,11 +13,11 @@ returns-then-x-2 c = rw (c.if-x.false, c.if-x-2.true)
 
 pub exp_down-requires : goal.exp_down-requires
 unfolding neg of_int of_bits
-exp_down-requires c = record { x_value = c.if-x-3.true; negsuc_value = c.if-x-2.false }
+exp_down-requires c = record { below_zero = c.if-x-3.true; at_least_minus_708 = c.if-x-2.false }
 
 pub exp_up-requires : goal.exp_up-requires
 unfolding of_int of_bits
-exp_up-requires c = record { x_value = c.if-x-3.false; t = not_above c.args.x c.requires c.if-x.false }
+exp_up-requires c = record { not_below_zero = c.if-x-3.false; at_most_709 = not_above c.args.x c.requires c.if-x.false }
 
 pub returns-then-x-3 : goal.returns-then-x-3
 unfolding exp_of neg of_int of_bits

@@ -25,22 +25,20 @@ pub returns-then-f : goal.returns-then-f
 unfolding ln_of ln_halved exponent
 returns-then-f c =
     let s = c.split-s in
-    let start = c in
-    let f-is = read start.args.x (subst T (sym c.well_formed.0.1) tt) c.requires s.result.digits s.result.size s.ensures in
-    let above : lt (hex 0x3FF8000000000000) (mantissa start.args.x) ≡ true = ap (λ (f : Float). lt (hex 0x3FF8000000000000) f) (sym f-is) ∙ c.if-f.true in
+    let f-is = read c.args.x (subst T (sym c.well_formed.0.1) tt) c.requires s.result.digits s.result.size s.ensures in
+    let above : lt (hex 0x3FF8000000000000) (mantissa c.args.x) ≡ true = ap (λ (f : Float). lt (hex 0x3FF8000000000000) f) (sym f-is) ∙ c.if-f.true in
     rw above
     (c.ln_parts.ensures
     ∙ ap (λ (f : Float). ln_parts (f ⊗ ½ᶠ) (minus (s.result.size + 1) 1075)) f-is
-    ∙ ap (λ (e : ℤ). ln_parts (mantissa start.args.x ⊗ ½ᶠ) e) (ap (λ (z : ℕ). minus z 1075) (add-one s.result.size) ∙ sym (minus_suc s.result.size 1075) ∙ ap (λ (z : ℕ). minus z 1075 +ℤ pos 1) s.ensures.sized))
+    ∙ ap (λ (e : ℤ). ln_parts (mantissa c.args.x ⊗ ½ᶠ) e) (ap (λ (z : ℕ). minus z 1075) (add-one s.result.size) ∙ sym (minus_suc s.result.size 1075) ∙ ap (λ (z : ℕ). minus z 1075 +ℤ pos 1) s.ensures.sized))
 
 pub returns : goal.returns
 unfolding ln_of ln_halved exponent
 returns c =
     let s = c.split-s in
-    let start = c in
-    let f-is = read start.args.x (subst T (sym c.well_formed.0.1) tt) c.requires s.result.digits s.result.size s.ensures in
-    let not_above : lt (hex 0x3FF8000000000000) (mantissa start.args.x) ≡ false = ap (λ (f : Float). lt (hex 0x3FF8000000000000) f) (sym f-is) ∙ c.if-f.false in
+    let f-is = read c.args.x (subst T (sym c.well_formed.0.1) tt) c.requires s.result.digits s.result.size s.ensures in
+    let not_above : lt (hex 0x3FF8000000000000) (mantissa c.args.x) ≡ false = ap (λ (f : Float). lt (hex 0x3FF8000000000000) f) (sym f-is) ∙ c.if-f.false in
     rw not_above
     (c.ln_parts-2.ensures
     ∙ ap (λ (f : Float). ln_parts f (minus s.result.size 1075)) f-is
-    ∙ ap (λ (z : ℕ). ln_parts (mantissa start.args.x) (minus z 1075)) s.ensures.sized)
+    ∙ ap (λ (z : ℕ). ln_parts (mantissa c.args.x) (minus z 1075)) s.ensures.sized)

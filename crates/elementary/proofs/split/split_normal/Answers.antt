@@ -8,10 +8,10 @@ held : (c : goal.Start) → T (fits binary64 c.args.x)
 held c = subst T (sym c.well_formed.0.1) tt
 
 pub float_to_bits-bits : goal.float_to_bits-bits
-float_to_bits-bits c = positive_no_nan c.args.x c.requires.t
+float_to_bits-bits c = positive_no_nan c.args.x c.requires.above_zero
 
 pub overflow_add-result-2 : goal.overflow_add-result-2
-overflow_add-result-2 c = record { fits = lt_of_le_of_lt (normal_parts c.args.x (held c) c.requires.t c.requires.bound).most (lit< tt) }
+overflow_add-result-2 c = record { fits = lt_of_le_of_lt (normal_parts c.args.x (held c) c.requires.above_zero c.requires.normal).most (lit< tt) }
 
 pub returns : goal.returns
-returns c = normal_parts c.args.x (held c) c.requires.t c.requires.bound
+returns c = normal_parts c.args.x (held c) c.requires.above_zero c.requires.normal

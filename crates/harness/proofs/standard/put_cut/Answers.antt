@@ -11,7 +11,4 @@ returns-then-left-eq0 c = rw c.if-left-eq0.true (record { out_after = refl; valu
 pub returns : goal.returns
 unfolding cut_by after_cut
 returns c =
-    let q = c in
-    let m = q in
-    let i = m in
-    rw (ne_eqb i.args.left 0 i.if-left-eq0.false, ← m.make_room-at.ensures) (record { out_after = q.put.ensures.out_after; value = q.put.ensures.value })
+    rw (ne_eqb c.args.left 0 c.if-left-eq0.false, ← c.make_room-at.ensures) (record { out_after = c.put.ensures.out_after; value = c.put.ensures.value })

@@ -1,4 +1,3 @@
--- `harness::text::put` meets its contract. The loop's invariant: the first i bytes of the text are copied. Assumes nothing.
 use mathlib.Core.Path.{sym, ◌∙◌}
 use Rattle.harness.proofs.Placing.{placed_none, copied_none, copied_more, copied_all}
 use Rattle.harness.proofs.text.put.Goals as goal

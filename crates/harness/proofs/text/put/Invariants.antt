@@ -1,3 +1,4 @@
+-- `harness::text::put` meets its contract. The loop's invariant: the first i bytes of the text are copied. Assumes nothing.
 use Prim.Native.Nat.{◌-◌}
 use lib.ListN.{length}
 use Rattle.harness.proofs.Placing.{Copied}

@@ -5,7 +5,5 @@ use Rattle.harness.proofs.text.put_cap.Goals as goal
 pub returns : goal.returns
 unfolding capped after_capped lettered after_lettered
 returns c =
-    let n = c in
-    let f = n in
-    let p = f.put-next.ensures in
-    rw (← p.out_after, ← p.value, ← f.put_float-next.ensures.out_after, ← f.put_float-next.ensures.value) (record { out_after = n.put_number.ensures.out_after; value = n.put_number.ensures.value })
+    let p = c.put-next.ensures in
+    rw (← p.out_after, ← p.value, ← c.put_float-next.ensures.out_after, ← c.put_float-next.ensures.value) (record { out_after = c.put_number.ensures.out_after; value = c.put_number.ensures.value })

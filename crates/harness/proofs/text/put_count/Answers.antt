@@ -6,7 +6,5 @@ use Rattle.harness.proofs.text.put_count.Goals as goal
 
 pub returns : goal.returns
 returns c =
-    let p = c in
-    let d = p in
-    let e = d.decimal-k.ensures.digits ∙ count_is _ _ (omega (arith, d.ranges.n)) d.decimal-k.ensures.len in
-    rw (sym e) (record { out_after = p.put.ensures.out_after; value = p.put.ensures.value })
+    let e = c.decimal-k.ensures.digits ∙ count_is _ _ (omega (arith, c.ranges.n)) c.decimal-k.ensures.len in
+    rw (sym e) (record { out_after = c.put.ensures.out_after; value = c.put.ensures.value })

@@ -5,6 +5,5 @@ use Rattle.harness.proofs.text.put_float.Goals as goal
 pub returns : goal.returns
 unfolding spaced after_spaced
 returns c =
-    let q = c in
-    let p = q.put-next.ensures in
-    rw (← p.out_after, ← p.value, ← q.bits_of.ensures) (record { out_after = q.put_hex.ensures.out_after; value = q.put_hex.ensures.value })
+    let p = c.put-next.ensures in
+    rw (← p.out_after, ← p.value, ← c.bits_of.ensures) (record { out_after = c.put_hex.ensures.out_after; value = c.put_hex.ensures.value })

@@ -1,4 +1,3 @@
--- `harness::text::put_hex` meets its contract. The loop's invariant: the digits but those that are left are written. Assumes nothing.
 use mathlib.Core.Path.{sym, ◌∙◌}
 use native.Mathlib.Omega.{arith}
 use Rattle.harness.specs.Texts.{hex}
@@ -23,7 +22,7 @@ unfolding hex
 bounds-out-at c = omega arith
 
 pub loop-left-preserved : goal.loop-left-preserved
-loop-left-preserved c = let l = c in (omega arith, hex_more _ _ _ _ _ _ l.loop-left.invariant.1 c.loop-left-test.true l.loop-left.invariant.0 c.digit.ensures)
+loop-left-preserved c = (omega arith, hex_more _ _ _ _ _ _ c.loop-left.invariant.1 c.loop-left-test.true c.loop-left.invariant.0 c.digit.ensures)
 
 pub overflow_add-result : goal.overflow_add-result
 unfolding hex

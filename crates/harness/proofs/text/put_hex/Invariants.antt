@@ -1,3 +1,4 @@
+-- `harness::text::put_hex` meets its contract. The loop's invariant: the digits but those that are left are written. Assumes nothing.
 use Prim.Native.Nat.{◌-◌, ◌≤◌}
 use Rattle.harness.specs.Texts.{hex}
 use Rattle.harness.proofs.Placing.{Copied}

@@ -5,6 +5,5 @@ use Rattle.harness.proofs.text.put_refusal.Goals as goal
 pub returns : goal.returns
 unfolding lettered after_lettered
 returns c =
-    let q = c in
-    let p = q.put-next.ensures in
-    rw (← p.out_after, ← p.value) (record { out_after = q.put_number.ensures.out_after; value = q.put_number.ensures.value })
+    let p = c.put-next.ensures in
+    rw (← p.out_after, ← p.value) (record { out_after = c.put_number.ensures.out_after; value = c.put_number.ensures.value })

@@ -20,7 +20,7 @@ use Rattle.ladders.proofs.Rungs.{bound_checked, rung_kept, Laying, laying_none, 
 use Rattle.ladders.proofs.ladder.write_rungs.Goals as goal
 
 pub rungs_of-n-requires : goal.rungs_of-n-requires
-rungs_of-n-requires c = let s = c in bound_checked s.args.mid_price s.args.config s.args.volatility s.args.current_time s.requires.current_time_value
+rungs_of-n-requires c = bound_checked c.args.mid_price c.args.config c.args.volatility c.args.current_time c.requires.checked
 
 pub loop-i-init : goal.loop-i-init
 loop-i-init c = laying_none _ _ _ _
@@ -28,15 +28,14 @@ loop-i-init c = laying_none _ _ _ _
 pub lot_at-lot-requires : goal.lot_at-lot-requires
 lot_at-lot-requires c =
     let line-due : c.loop-i.i < rungs c.args.config = rw (← c.rungs_of-n.ensures) c.loop-i-test.true in
-    let bounded : c.args.config.max_inventory_lots ≤ 200 = let s = c in
-    bound_checked s.args.mid_price s.args.config s.args.volatility s.args.current_time s.requires.current_time_value in
+    let bounded : c.args.config.max_inventory_lots ≤ 200 = bound_checked c.args.mid_price c.args.config c.args.volatility c.args.current_time c.requires.checked in
     (bounded, omega (arith, bounded, line-due))
 
 pub slice_bounds-write_answer-count : goal.slice_bounds-write_answer-count
 slice_bounds-write_answer-count c =
     let line-due : c.loop-i.i < rungs c.args.config = rw (← c.rungs_of-n.ensures) c.loop-i-test.true in
     let room-left : let l = c.loop-i in (l.at + least_room ≤ length l.out) × (length l.out ≡ length c.args.out.now) = let l = c.loop-i in
-    let p = c.requires.config_in_bounds in
+    let p = c.requires.room in
     let e = laying_length _ _ _ _ _ _ _ l.invariant p in
     (rw e (laying_room _ _ _ _ _ _ _ l.invariant p line-due), e) in
     omega (arith, room-left)
@@ -45,7 +44,7 @@ pub slice_bounds-write_answer-start : goal.slice_bounds-write_answer-start
 slice_bounds-write_answer-start c =
     let line-due : c.loop-i.i < rungs c.args.config = rw (← c.rungs_of-n.ensures) c.loop-i-test.true in
     let room-left : let l = c.loop-i in (l.at + least_room ≤ length l.out) × (length l.out ≡ length c.args.out.now) = let l = c.loop-i in
-    let p = c.requires.config_in_bounds in
+    let p = c.requires.room in
     let e = laying_length _ _ _ _ _ _ _ l.invariant p in
     (rw e (laying_room _ _ _ _ _ _ _ l.invariant p line-due), e) in
     omega (arith, room-left)
@@ -55,13 +54,11 @@ unfolding ladder_line
 shape_of-out-in_default c =
     let line-due : c.loop-i.i < rungs c.args.config = rw (← c.rungs_of-n.ensures) c.loop-i-test.true in
     let answer-is : let a = c.args in c.quotes_in-answer.result ≡ quotes_of_lots (to_z w64 (of_z w64 a.mid_price)) a.config c.reckon-r.result (lot_at a.config c.loop-i.i) = let a = c.args in
-    let l = c in
-    let f : SFits w64 l.lot_at-lot.result = record { sfits = l.lot_at-lot.type_inv } in
-    c.quotes_in-answer.ensures ∙ ap (quotes_of_lots (to_z w64 (of_z w64 a.mid_price)) a.config c.reckon-r.result) (to_z-of_z f ∙ l.lot_at-lot.ensures) in
-    let written : let t = c in let l = t.loop-i in let a = t.args in let u = ladder_line (to_z w64 (of_z w64 a.mid_price)) a.config t.reckon-r.result l.i in (c.write_answer.result ≡ LineWritten.Written (length u)) × (c.write_answer.new.line ≡ over u (mid_of l.at (length l.out - l.at) l.out)) = let q = c in
-    let l = q.loop-i in
+    let f : SFits w64 c.lot_at-lot.result = record { sfits = c.lot_at-lot.type_inv } in
+    c.quotes_in-answer.ensures ∙ ap (quotes_of_lots (to_z w64 (of_z w64 a.mid_price)) a.config c.reckon-r.result) (to_z-of_z f ∙ c.lot_at-lot.ensures) in
+    let written : let l = c.loop-i in let a = c.args in let u = ladder_line (to_z w64 (of_z w64 a.mid_price)) a.config c.reckon-r.result l.i in (c.write_answer.result ≡ LineWritten.Written (length u)) × (c.write_answer.new.line ≡ over u (mid_of l.at (length l.out - l.at) l.out)) = let l = c.loop-i in
     let e = c.write_answer.ensures in
-    let there = line_there (answer_line q.quotes_in-answer.result) _ (part_room _ _ _ _ _ l.invariant.wrote (laying_room _ _ _ _ _ _ _ l.invariant q.requires.config_in_bounds line-due)) in
+    let there = line_there (answer_line c.quotes_in-answer.result) _ (part_room _ _ _ _ _ l.invariant.wrote (laying_room _ _ _ _ _ _ _ l.invariant c.requires.room line-due)) in
     rw (← answer-is) (e.value ∙ there.0, e.line_after ∙ there.1) in
     let none-refused : ⊥ = never_refused (sym c.in_default.is ∙ written.0) in
     absurd none-refused
@@ -71,13 +68,11 @@ unfolding ladder_line
 returns-in_default c =
     let line-due : c.loop-i.i < rungs c.args.config = rw (← c.rungs_of-n.ensures) c.loop-i-test.true in
     let answer-is : let a = c.args in c.quotes_in-answer.result ≡ quotes_of_lots (to_z w64 (of_z w64 a.mid_price)) a.config c.reckon-r.result (lot_at a.config c.loop-i.i) = let a = c.args in
-    let l = c in
-    let f : SFits w64 l.lot_at-lot.result = record { sfits = l.lot_at-lot.type_inv } in
-    c.quotes_in-answer.ensures ∙ ap (quotes_of_lots (to_z w64 (of_z w64 a.mid_price)) a.config c.reckon-r.result) (to_z-of_z f ∙ l.lot_at-lot.ensures) in
-    let written : let t = c in let l = t.loop-i in let a = t.args in let u = ladder_line (to_z w64 (of_z w64 a.mid_price)) a.config t.reckon-r.result l.i in (c.write_answer.result ≡ LineWritten.Written (length u)) × (c.write_answer.new.line ≡ over u (mid_of l.at (length l.out - l.at) l.out)) = let q = c in
-    let l = q.loop-i in
+    let f : SFits w64 c.lot_at-lot.result = record { sfits = c.lot_at-lot.type_inv } in
+    c.quotes_in-answer.ensures ∙ ap (quotes_of_lots (to_z w64 (of_z w64 a.mid_price)) a.config c.reckon-r.result) (to_z-of_z f ∙ c.lot_at-lot.ensures) in
+    let written : let l = c.loop-i in let a = c.args in let u = ladder_line (to_z w64 (of_z w64 a.mid_price)) a.config c.reckon-r.result l.i in (c.write_answer.result ≡ LineWritten.Written (length u)) × (c.write_answer.new.line ≡ over u (mid_of l.at (length l.out - l.at) l.out)) = let l = c.loop-i in
     let e = c.write_answer.ensures in
-    let there = line_there (answer_line q.quotes_in-answer.result) _ (part_room _ _ _ _ _ l.invariant.wrote (laying_room _ _ _ _ _ _ _ l.invariant q.requires.config_in_bounds line-due)) in
+    let there = line_there (answer_line c.quotes_in-answer.result) _ (part_room _ _ _ _ _ l.invariant.wrote (laying_room _ _ _ _ _ _ _ l.invariant c.requires.room line-due)) in
     rw (← answer-is) (e.value ∙ there.0, e.line_after ∙ there.1) in
     let none-refused : ⊥ = never_refused (sym c.in_default.is ∙ written.0) in
     absurd none-refused
@@ -86,88 +81,70 @@ pub overflow_add-at : goal.overflow_add-at
 unfolding ladder_line
 overflow_add-at c =
     let line-due : c.loop-i.i < rungs c.args.config = rw (← c.rungs_of-n.ensures) c.loop-i-test.true in
-    let bounded : c.args.config.max_inventory_lots ≤ 200 = let s = c in
-    bound_checked s.args.mid_price s.args.config s.args.volatility s.args.current_time s.requires.current_time_value in
-    let reckoned : let a = c.args in c.reckon-r.result ≡ reckoning a.config a.volatility a.current_time = let s = c in
-    c.reckon-r.ensures ∙ ap (λ (z : ℤ). reckoning s.args.config z s.args.current_time) (to_z-of_z s.ranges.volatility) in
-    let answer_kept : let a = c.args in ReplyKept (quotes_of_lots (to_z w64 (of_z w64 a.mid_price)) a.config c.reckon-r.result (lot_at a.config c.loop-i.i)) = let s = c in
-    let a = s.args in
+    let bounded : c.args.config.max_inventory_lots ≤ 200 = bound_checked c.args.mid_price c.args.config c.args.volatility c.args.current_time c.requires.checked in
+    let reckoned : let a = c.args in c.reckon-r.result ≡ reckoning a.config a.volatility a.current_time = c.reckon-r.ensures ∙ ap (λ (z : ℤ). reckoning c.args.config z c.args.current_time) (to_z-of_z c.ranges.volatility) in
+    let answer_kept : let a = c.args in ReplyKept (quotes_of_lots (to_z w64 (of_z w64 a.mid_price)) a.config c.reckon-r.result (lot_at a.config c.loop-i.i)) = let a = c.args in
     let i = c.loop-i.i in
     let q = lot_at a.config i in
-    let k = rung_kept a.mid_price a.config a.volatility a.current_time s.requires.current_time_value i line-due in
-    subst (λ (z : ℤ). ReplyKept (quotes_of_lots z a.config c.reckon-r.result q)) (sym (to_z-of_z s.ranges.mid_price))
+    let k = rung_kept a.mid_price a.config a.volatility a.current_time c.requires.checked i line-due in
+    subst (λ (z : ℤ). ReplyKept (quotes_of_lots z a.config c.reckon-r.result q)) (sym (to_z-of_z c.ranges.mid_price))
     (subst (λ (r : Reckoning). ReplyKept (quotes_of_lots a.mid_price a.config r q)) (sym reckoned) k) in
     let answer-is : let a = c.args in c.quotes_in-answer.result ≡ quotes_of_lots (to_z w64 (of_z w64 a.mid_price)) a.config c.reckon-r.result (lot_at a.config c.loop-i.i) = let a = c.args in
-    let l = c in
-    let f : SFits w64 l.lot_at-lot.result = record { sfits = l.lot_at-lot.type_inv } in
-    c.quotes_in-answer.ensures ∙ ap (quotes_of_lots (to_z w64 (of_z w64 a.mid_price)) a.config c.reckon-r.result) (to_z-of_z f ∙ l.lot_at-lot.ensures) in
-    let written : let t = c in let l = t.loop-i in let a = t.args in let u = ladder_line (to_z w64 (of_z w64 a.mid_price)) a.config t.reckon-r.result l.i in (c.write_answer.result ≡ LineWritten.Written (length u)) × (c.write_answer.new.line ≡ over u (mid_of l.at (length l.out - l.at) l.out)) = let q = c in
-    let l = q.loop-i in
+    let f : SFits w64 c.lot_at-lot.result = record { sfits = c.lot_at-lot.type_inv } in
+    c.quotes_in-answer.ensures ∙ ap (quotes_of_lots (to_z w64 (of_z w64 a.mid_price)) a.config c.reckon-r.result) (to_z-of_z f ∙ c.lot_at-lot.ensures) in
+    let written : let l = c.loop-i in let a = c.args in let u = ladder_line (to_z w64 (of_z w64 a.mid_price)) a.config c.reckon-r.result l.i in (c.write_answer.result ≡ LineWritten.Written (length u)) × (c.write_answer.new.line ≡ over u (mid_of l.at (length l.out - l.at) l.out)) = let l = c.loop-i in
     let e = c.write_answer.ensures in
-    let there = line_there (answer_line q.quotes_in-answer.result) _ (part_room _ _ _ _ _ l.invariant.wrote (laying_room _ _ _ _ _ _ _ l.invariant q.requires.config_in_bounds line-due)) in
+    let there = line_there (answer_line c.quotes_in-answer.result) _ (part_room _ _ _ _ _ l.invariant.wrote (laying_room _ _ _ _ _ _ _ l.invariant c.requires.room line-due)) in
     rw (← answer-is) (e.value ∙ there.0, e.line_after ∙ there.1) in
-    let line-added : let w = c in let t = w in let l = t.loop-i in let a = t.args in let k = c.in-Written.k in (k ≤ least_room) × Laying (to_z w64 (of_z w64 a.mid_price)) a.config t.reckon-r.result a.out.now (put_mid l.at (length l.out - l.at) l.out w.write_answer.new.line) (l.at + k) (l.i + 1) = let w = c in
-    let q = w in
-    let l = q.loop-i in
+    let line-added : let l = c.loop-i in let a = c.args in let k = c.in-Written.k in (k ≤ least_room) × Laying (to_z w64 (of_z w64 a.mid_price)) a.config c.reckon-r.result a.out.now (put_mid l.at (length l.out - l.at) l.out c.write_answer.new.line) (l.at + k) (l.i + 1) = let l = c.loop-i in
     let e = written in
-    laying_more _ _ _ _ _ _ _ l.invariant q.requires.config_in_bounds _ _ line-due answer_kept e.1 (same_written (sym c.in-Written.is ∙ e.0)) in
-    let l = c in
-    omega (arith, bounded, line-due, l.loop-i.invariant.room, line-added.0)
+    laying_more _ _ _ _ _ _ _ l.invariant c.requires.room _ _ line-due answer_kept e.1 (same_written (sym c.in-Written.is ∙ e.0)) in
+    omega (arith, bounded, line-due, c.loop-i.invariant.room, line-added.0)
 
 pub overflow_add-i : goal.overflow_add-i
 overflow_add-i c =
     let line-due : c.loop-i.i < rungs c.args.config = rw (← c.rungs_of-n.ensures) c.loop-i-test.true in
-    let bounded : c.args.config.max_inventory_lots ≤ 200 = let s = c in
-    bound_checked s.args.mid_price s.args.config s.args.volatility s.args.current_time s.requires.current_time_value in
-    let l = c in omega (arith, bounded, line-due)
+    let bounded : c.args.config.max_inventory_lots ≤ 200 = bound_checked c.args.mid_price c.args.config c.args.volatility c.args.current_time c.requires.checked in
+    omega (arith, bounded, line-due)
 
 pub loop-i-smaller : goal.loop-i-smaller
-loop-i-smaller c = let l = c in omega (arith, l.loop-i-test.true)
+loop-i-smaller c = omega (arith, c.loop-i-test.true)
 
 pub loop-i-preserved : goal.loop-i-preserved
 unfolding ladder_line
 loop-i-preserved c =
     let line-due : c.loop-i.i < rungs c.args.config = rw (← c.rungs_of-n.ensures) c.loop-i-test.true in
-    let reckoned : let a = c.args in c.reckon-r.result ≡ reckoning a.config a.volatility a.current_time = let s = c in
-    c.reckon-r.ensures ∙ ap (λ (z : ℤ). reckoning s.args.config z s.args.current_time) (to_z-of_z s.ranges.volatility) in
-    let answer_kept : let a = c.args in ReplyKept (quotes_of_lots (to_z w64 (of_z w64 a.mid_price)) a.config c.reckon-r.result (lot_at a.config c.loop-i.i)) = let s = c in
-    let a = s.args in
+    let reckoned : let a = c.args in c.reckon-r.result ≡ reckoning a.config a.volatility a.current_time = c.reckon-r.ensures ∙ ap (λ (z : ℤ). reckoning c.args.config z c.args.current_time) (to_z-of_z c.ranges.volatility) in
+    let answer_kept : let a = c.args in ReplyKept (quotes_of_lots (to_z w64 (of_z w64 a.mid_price)) a.config c.reckon-r.result (lot_at a.config c.loop-i.i)) = let a = c.args in
     let i = c.loop-i.i in
     let q = lot_at a.config i in
-    let k = rung_kept a.mid_price a.config a.volatility a.current_time s.requires.current_time_value i line-due in
-    subst (λ (z : ℤ). ReplyKept (quotes_of_lots z a.config c.reckon-r.result q)) (sym (to_z-of_z s.ranges.mid_price))
+    let k = rung_kept a.mid_price a.config a.volatility a.current_time c.requires.checked i line-due in
+    subst (λ (z : ℤ). ReplyKept (quotes_of_lots z a.config c.reckon-r.result q)) (sym (to_z-of_z c.ranges.mid_price))
     (subst (λ (r : Reckoning). ReplyKept (quotes_of_lots a.mid_price a.config r q)) (sym reckoned) k) in
     let answer-is : let a = c.args in c.quotes_in-answer.result ≡ quotes_of_lots (to_z w64 (of_z w64 a.mid_price)) a.config c.reckon-r.result (lot_at a.config c.loop-i.i) = let a = c.args in
-    let l = c in
-    let f : SFits w64 l.lot_at-lot.result = record { sfits = l.lot_at-lot.type_inv } in
-    c.quotes_in-answer.ensures ∙ ap (quotes_of_lots (to_z w64 (of_z w64 a.mid_price)) a.config c.reckon-r.result) (to_z-of_z f ∙ l.lot_at-lot.ensures) in
-    let written : let t = c in let l = t.loop-i in let a = t.args in let u = ladder_line (to_z w64 (of_z w64 a.mid_price)) a.config t.reckon-r.result l.i in (c.write_answer.result ≡ LineWritten.Written (length u)) × (c.write_answer.new.line ≡ over u (mid_of l.at (length l.out - l.at) l.out)) = let q = c in
-    let l = q.loop-i in
+    let f : SFits w64 c.lot_at-lot.result = record { sfits = c.lot_at-lot.type_inv } in
+    c.quotes_in-answer.ensures ∙ ap (quotes_of_lots (to_z w64 (of_z w64 a.mid_price)) a.config c.reckon-r.result) (to_z-of_z f ∙ c.lot_at-lot.ensures) in
+    let written : let l = c.loop-i in let a = c.args in let u = ladder_line (to_z w64 (of_z w64 a.mid_price)) a.config c.reckon-r.result l.i in (c.write_answer.result ≡ LineWritten.Written (length u)) × (c.write_answer.new.line ≡ over u (mid_of l.at (length l.out - l.at) l.out)) = let l = c.loop-i in
     let e = c.write_answer.ensures in
-    let there = line_there (answer_line q.quotes_in-answer.result) _ (part_room _ _ _ _ _ l.invariant.wrote (laying_room _ _ _ _ _ _ _ l.invariant q.requires.config_in_bounds line-due)) in
+    let there = line_there (answer_line c.quotes_in-answer.result) _ (part_room _ _ _ _ _ l.invariant.wrote (laying_room _ _ _ _ _ _ _ l.invariant c.requires.room line-due)) in
     rw (← answer-is) (e.value ∙ there.0, e.line_after ∙ there.1) in
-    let line-added : let w = c in let t = w in let l = t.loop-i in let a = t.args in let k = c.in-Written.k in (k ≤ least_room) × Laying (to_z w64 (of_z w64 a.mid_price)) a.config t.reckon-r.result a.out.now (put_mid l.at (length l.out - l.at) l.out w.write_answer.new.line) (l.at + k) (l.i + 1) = let w = c in
-    let q = w in
-    let l = q.loop-i in
+    let line-added : let l = c.loop-i in let a = c.args in let k = c.in-Written.k in (k ≤ least_room) × Laying (to_z w64 (of_z w64 a.mid_price)) a.config c.reckon-r.result a.out.now (put_mid l.at (length l.out - l.at) l.out c.write_answer.new.line) (l.at + k) (l.i + 1) = let l = c.loop-i in
     let e = written in
-    laying_more _ _ _ _ _ _ _ l.invariant q.requires.config_in_bounds _ _ line-due answer_kept e.1 (same_written (sym c.in-Written.is ∙ e.0)) in
+    laying_more _ _ _ _ _ _ _ l.invariant c.requires.room _ _ line-due answer_kept e.1 (same_written (sym c.in-Written.is ∙ e.0)) in
     line-added.1
 
 pub shape_of-out : goal.shape_of-out
-shape_of-out c = laying_length _ _ _ _ _ _ _ c.loop-i.invariant c.requires.config_in_bounds
+shape_of-out c = laying_length _ _ _ _ _ _ _ c.loop-i.invariant c.requires.room
 
 pub returns : goal.returns
 unfolding ladder
 returns c =
-    let reckoned : let a = c.args in c.reckon-r.result ≡ reckoning a.config a.volatility a.current_time = let s = c in
-    c.reckon-r.ensures ∙ ap (λ (z : ℤ). reckoning s.args.config z s.args.current_time) (to_z-of_z s.ranges.volatility) in
+    let reckoned : let a = c.args in c.reckon-r.result ≡ reckoning a.config a.volatility a.current_time = c.reckon-r.ensures ∙ ap (λ (z : ℤ). reckoning c.args.config z c.args.current_time) (to_z-of_z c.ranges.volatility) in
     let l = c.loop-i in
-    let m = c in
-    let s = m in
-    let a = s.args in
+    let a = c.args in
     let n : l.i ≡ rungs a.config = omega (arith, c.rungs_of-n.ensures, c.loop-i-test, l.invariant.few) in
-    let all : ladder_lines (to_z w64 (of_z w64 a.mid_price)) a.config m.reckon-r.result l.i ≡ ladder a.mid_price a.config a.volatility a.current_time =
-    ap (λ (z : ℤ). ladder_lines z a.config m.reckon-r.result l.i) (to_z-of_z s.ranges.mid_price)
+    let all : ladder_lines (to_z w64 (of_z w64 a.mid_price)) a.config c.reckon-r.result l.i ≡ ladder a.mid_price a.config a.volatility a.current_time =
+    ap (λ (z : ℤ). ladder_lines z a.config c.reckon-r.result l.i) (to_z-of_z c.ranges.mid_price)
     ∙ ap (λ (r : Reckoning). ladder_lines a.mid_price a.config r l.i) reckoned
     ∙ ap (ladder_lines a.mid_price a.config (reckoning a.config a.volatility a.current_time)) n in
     let w = wrote_as _ _ (ladder a.mid_price a.config a.volatility a.current_time) _ _ l.invariant.wrote all in

@@ -1,4 +1,4 @@
--- `lines::plan::write_plan` meets its contract: it writes the line of the plan that it has, which takes at most 64 bytes. Assumes nothing.
+-- `lines::horizon::write_plan` meets its contract: it writes the line of the plan that it has, which takes at most 64 bytes. Assumes nothing.
 use native.Mathlib.Nat.{le_trans}
 use native.Mathlib.Omega.{arith}
 use Rattle.lines.specs.Lines.{refusal_line, plan_line}
@@ -21,20 +21,14 @@ write_counted-requires-in-Refused c = le_trans (counted_most _ _ (omega arith)) 
 pub returns-in-Steps : goal.returns-in-Steps
 unfolding plan_line
 returns-in-Steps c =
-    let w = c in
-    let k = w in
-    rw k.in-Steps.is (let p = line_written _ _ _ _ k.if-line-lt-LEAST_ROOM.false w.write_counted.ensures.line_after w.write_counted.ensures.value in record { value = p.0; line_after = p.1 })
+    rw c.in-Steps.is (let p = line_written _ _ _ _ c.if-line-lt-LEAST_ROOM.false c.write_counted.ensures.line_after c.write_counted.ensures.value in record { value = p.0; line_after = p.1 })
 
 pub returns-in-OverCap : goal.returns-in-OverCap
 unfolding plan_line
 returns-in-OverCap c =
-    let w = c in
-    let k = w in
-    rw k.in-OverCap.is (let p = line_written _ _ _ _ k.if-line-lt-LEAST_ROOM.false w.write_cap.ensures.line_after w.write_cap.ensures.value in record { value = p.0; line_after = p.1 })
+    rw c.in-OverCap.is (let p = line_written _ _ _ _ c.if-line-lt-LEAST_ROOM.false c.write_cap.ensures.line_after c.write_cap.ensures.value in record { value = p.0; line_after = p.1 })
 
 pub returns-in-Refused : goal.returns-in-Refused
 unfolding plan_line refusal_line
 returns-in-Refused c =
-    let w = c in
-    let k = w in
-    rw k.in-Refused.is (let p = line_written _ _ _ _ k.if-line-lt-LEAST_ROOM.false w.write_counted-in-Refused.ensures.line_after w.write_counted-in-Refused.ensures.value in record { value = p.0; line_after = p.1 })
+    rw c.in-Refused.is (let p = line_written _ _ _ _ c.if-line-lt-LEAST_ROOM.false c.write_counted-in-Refused.ensures.line_after c.write_counted-in-Refused.ensures.value in record { value = p.0; line_after = p.1 })

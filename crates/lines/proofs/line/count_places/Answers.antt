@@ -1,4 +1,3 @@
--- `lines::line::count_places` meets its contract. The loop's invariant: the digits passed and those of the rest are one more than all. The measure is the rest. Assumes nothing.
 use native.Mathlib.Nat.{le_refl}
 use native.Mathlib.Omega.{arith}
 use Rattle.lines.proofs.Digits.{places_one, places_more, places_most}

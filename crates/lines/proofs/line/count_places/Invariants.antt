@@ -1,3 +1,4 @@
+-- `lines::line::count_places` meets its contract. The loop's invariant: the digits passed and those of the rest are one more than all. The measure is the rest. Assumes nothing.
 use mathlib.Core.Path.{◌≡◌}
 use Prim.Native.Nat.{suc, ◌+◌, ◌≤◌}
 use Rattle.lines.specs.Lines.{places}

@@ -18,20 +18,14 @@ write_counted-requires c = le_trans (counted_most _ _ (omega arith)) c.if-line-l
 pub returns-in-Quotes : goal.returns-in-Quotes
 unfolding answer_line
 returns-in-Quotes c =
-    let w = c in
-    let k = w in
-    rw k.in-Quotes.is (let p = line_written _ _ _ _ k.if-line-lt-LEAST_ROOM.false w.write_quotes.ensures.line_after w.write_quotes.ensures.value in record { value = p.0; line_after = p.1 })
+    rw c.in-Quotes.is (let p = line_written _ _ _ _ c.if-line-lt-LEAST_ROOM.false c.write_quotes.ensures.line_after c.write_quotes.ensures.value in record { value = p.0; line_after = p.1 })
 
 pub returns-in-OverStepCap : goal.returns-in-OverStepCap
 unfolding answer_line
 returns-in-OverStepCap c =
-    let w = c in
-    let k = w in
-    rw k.in-OverStepCap.is (let p = line_written _ _ _ _ k.if-line-lt-LEAST_ROOM.false w.write_cap.ensures.line_after w.write_cap.ensures.value in record { value = p.0; line_after = p.1 })
+    rw c.in-OverStepCap.is (let p = line_written _ _ _ _ c.if-line-lt-LEAST_ROOM.false c.write_cap.ensures.line_after c.write_cap.ensures.value in record { value = p.0; line_after = p.1 })
 
 pub returns-in-Refused : goal.returns-in-Refused
 unfolding answer_line refusal_line
 returns-in-Refused c =
-    let w = c in
-    let k = w in
-    rw k.in-Refused.is (let p = line_written _ _ _ _ k.if-line-lt-LEAST_ROOM.false w.write_counted.ensures.line_after w.write_counted.ensures.value in record { value = p.0; line_after = p.1 })
+    rw c.in-Refused.is (let p = line_written _ _ _ _ c.if-line-lt-LEAST_ROOM.false c.write_counted.ensures.line_after c.write_counted.ensures.value in record { value = p.0; line_after = p.1 })

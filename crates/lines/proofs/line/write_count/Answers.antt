@@ -7,10 +7,9 @@ use Rattle.lines.proofs.Digits.{length_count}
 use Rattle.lines.proofs.line.write_count.Goals as goal
 
 pub write_digits-requires : goal.write_digits-requires
-write_digits-requires c = record { lt_base = (lit< tt, lit≤ tt); k_in_bounds = omega (arith, c.count_places-k.ensures, length_count c.args.n) }
+write_digits-requires c = record { base_fits = (lit< tt, lit≤ tt); room = omega (arith, c.count_places-k.ensures, length_count c.args.n) }
 
 pub returns : goal.returns
 unfolding count
 returns c =
-    let k = c in
-    record { out_after = rw (← k.count_places-k.ensures) c.write_digits.ensures; value = k.count_places-k.ensures ∙ sym (length_count k.args.n) }
+    record { out_after = rw (← c.count_places-k.ensures) c.write_digits.ensures; value = c.count_places-k.ensures ∙ sym (length_count c.args.n) }

@@ -33,7 +33,7 @@ pub write_count-at-requires : goal.write_count-at-requires
 write_count-at-requires c =
     let room : length (count c.args.n) + 3 ≤ length c.args.line.now = rw (length_counted c.args.letter c.args.n) at c.requires in
     let letter : Wrote c.args.line.now (c.args.letter ∷ 32 ∷ []) (lettered c.args.line.now c.args.letter) 2 = wrote_letter _ c.args.letter (omega (arith, room)) in
-    let k = c in part_room _ _ _ _ _ letter (omega (arith, room))
+    part_room _ _ _ _ _ letter (omega (arith, room))
 
 pub overflow_add-at : goal.overflow_add-at
 overflow_add-at c =
@@ -46,9 +46,7 @@ bounds-line-at c =
     let room : length (count c.args.n) + 3 ≤ length c.args.line.now = rw (length_counted c.args.letter c.args.n) at c.requires in
     let letter : Wrote c.args.line.now (c.args.letter ∷ 32 ∷ []) (lettered c.args.line.now c.args.letter) 2 = wrote_letter _ c.args.letter (omega (arith, room)) in
     let short : 2 + c.write_count-at.result + 1 ≤ length c.args.line.now = omega (arith, room, c.write_count-at.ensures.value) in
-    let w = c in
-    let k = w in
-    rw (lent_length _ _ _ _ _ _ _ letter w.write_count-at.ensures.out_after w.write_count-at.ensures.value (omega (arith, short))) (omega (arith, short))
+    rw (lent_length _ _ _ _ _ _ _ letter c.write_count-at.ensures.out_after c.write_count-at.ensures.value (omega (arith, short))) (omega (arith, short))
 
 pub overflow_add-result : goal.overflow_add-result
 overflow_add-result c =
@@ -62,7 +60,7 @@ shape_of-line c =
     let short : 2 + c.write_count-at.result + 1 ≤ length c.args.line.now = omega (arith, room, c.write_count-at.ensures.value) in
     let letter : Wrote c.args.line.now (c.args.letter ∷ 32 ∷ []) (lettered c.args.line.now c.args.letter) 2 = wrote_letter _ c.args.letter (omega (arith, room)) in
     let whole : let a = c.args in let l = a.line.now in Wrote l (a.letter ∷ 32 ∷ [] ++ count a.n ++ (10 ∷ [])) (fielded (lettered l a.letter) 2 c.write_count-at.new.out c.write_count-at.result 10) (2 + c.write_count-at.result + 1) = wrote_field _ _ _ _ _ _ _ 10 letter c.write_count-at.ensures.out_after c.write_count-at.ensures.value (omega (arith, short)) in
-    let w = c in wrote_length _ _ _ _ whole short
+    wrote_length _ _ _ _ whole short
 
 pub returns : goal.returns
 unfolding joined

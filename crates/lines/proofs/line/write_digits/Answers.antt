@@ -1,4 +1,3 @@
--- `lines::line::write_digits` meets its contract. The loop's invariant: the digits from i on are written. The measure is i. Assumes nothing.
 use Prim.Native.Nat.{◌<◌}
 use native.Mathlib.Nat.{mod-lt}
 use native.Mathlib.Omega.{arith}
@@ -10,23 +9,22 @@ loop-i-init c = downward_none _ _ _ _
 
 pub nonzero_rem-rest : goal.nonzero_rem-rest
 nonzero_rem-rest c =
-    let based : 0 < c.args.base = omega (arith, c.requires.lt_base.0) in
+    let based : 0 < c.args.base = omega (arith, c.requires.base_fits.0) in
     based
 
 pub digit-requires : goal.digit-requires
 digit-requires c =
-    let based : 0 < c.args.base = omega (arith, c.requires.lt_base.0) in
-    let p = c.requires.lt_base in omega (arith, mod-lt c.loop-i.rest {m = c.args.base} based, p)
+    let based : 0 < c.args.base = omega (arith, c.requires.base_fits.0) in
+    let p = c.requires.base_fits in omega (arith, mod-lt c.loop-i.rest {m = c.args.base} based, p)
 
 pub nonzero_div-rest : goal.nonzero_div-rest
 nonzero_div-rest c =
-    let based : 0 < c.args.base = omega (arith, c.requires.lt_base.0) in
+    let based : 0 < c.args.base = omega (arith, c.requires.base_fits.0) in
     based
 
 pub loop-i-preserved : goal.loop-i-preserved
 loop-i-preserved c =
-    let l = c in
-    downward_more _ _ _ _ _ _ _ _ (omega arith) l.loop-i.invariant c.loop-i-test.true c.digit.ensures
+    downward_more _ _ _ _ _ _ _ _ (omega arith) c.loop-i.invariant c.loop-i-test.true c.digit.ensures
 
 pub shape_of-out : goal.shape_of-out
 shape_of-out c = c.loop-i.invariant.size

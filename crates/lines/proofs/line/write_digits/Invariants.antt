@@ -1,3 +1,4 @@
+-- `lines::line::write_digits` meets its contract. The loop's invariant: the digits from i on are written. The measure is i. Assumes nothing.
 use Rattle.lines.proofs.Digits.{Downward}
 use Rattle.lines.proofs.line.write_digits.Given as goal
 

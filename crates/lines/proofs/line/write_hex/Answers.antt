@@ -6,5 +6,4 @@ use Rattle.lines.proofs.line.write_hex.Goals as goal
 pub returns : goal.returns
 unfolding hex
 returns c =
-    let w = c in
-    record { out_after = rw (← w.bits_of.ensures) w.write_digits.ensures; value = refl }
+    record { out_after = rw (← c.bits_of.ensures) c.write_digits.ensures; value = refl }

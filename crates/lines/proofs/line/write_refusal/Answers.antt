@@ -15,5 +15,4 @@ write_counted-requires c = le_trans (counted_most 82 _ (omega (arith, c.ranges.n
 pub returns : goal.returns
 unfolding refusal_line
 returns c =
-    let w = c in
-    let p = line_written _ _ _ _ w.if-line-lt-LEAST_ROOM.false w.write_counted.ensures.line_after w.write_counted.ensures.value in record { value = p.0; line_after = p.1 }
+    let p = line_written _ _ _ _ c.if-line-lt-LEAST_ROOM.false c.write_counted.ensures.line_after c.write_counted.ensures.value in record { value = p.0; line_after = p.1 }

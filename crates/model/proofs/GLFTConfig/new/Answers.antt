@@ -30,8 +30,6 @@ returns-in-Passes c =
     let same : given (λ z. to_z w64 (of_z w64 z)) c.args.risk_aversion c.args.order_intensity_k c.args.intensity_scale_a c.args.max_inventory_lots c.args.lot_size c.args.terminal_time c.args.min_spread c.args.drift ≡ given (λ z. z) c.args.risk_aversion c.args.order_intensity_k c.args.intensity_scale_a c.args.max_inventory_lots c.args.lot_size c.args.terminal_time c.args.min_spread c.args.drift = let r = c.ranges in
     rw (to_z-of_z r.risk_aversion, to_z-of_z r.order_intensity_k, to_z-of_z r.intensity_scale_a, to_z-of_z r.lot_size, to_z-of_z r.min_spread, to_z-of_z r.drift) in
     let checked : c.check_numbers.result ≡ check_of (first_failing (config_checks (given (λ z. z) c.args.risk_aversion c.args.order_intensity_k c.args.intensity_scale_a c.args.max_inventory_lots c.args.lot_size c.args.terminal_time c.args.min_spread c.args.drift))) = rw (c.check_numbers.ensures, c.within_limits.ensures) (ap (λ (x : GLFTConfig). check_of (first_failing (config_checks x))) same) in
-    let k = c in
-    let s = k in
     rw (check_passes (first_failing (config_checks (given (λ z. z) c.args.risk_aversion c.args.order_intensity_k c.args.intensity_scale_a c.args.max_inventory_lots c.args.lot_size c.args.terminal_time c.args.min_spread c.args.drift))) (sym c.in-Passes.is ∙ checked)) (ap ConfigAnswer.Config same)
 
 pub returns-in-Refused : goal.returns-in-Refused
@@ -40,6 +38,4 @@ returns-in-Refused c =
     let same : given (λ z. to_z w64 (of_z w64 z)) c.args.risk_aversion c.args.order_intensity_k c.args.intensity_scale_a c.args.max_inventory_lots c.args.lot_size c.args.terminal_time c.args.min_spread c.args.drift ≡ given (λ z. z) c.args.risk_aversion c.args.order_intensity_k c.args.intensity_scale_a c.args.max_inventory_lots c.args.lot_size c.args.terminal_time c.args.min_spread c.args.drift = let r = c.ranges in
     rw (to_z-of_z r.risk_aversion, to_z-of_z r.order_intensity_k, to_z-of_z r.intensity_scale_a, to_z-of_z r.lot_size, to_z-of_z r.min_spread, to_z-of_z r.drift) in
     let checked : c.check_numbers.result ≡ check_of (first_failing (config_checks (given (λ z. z) c.args.risk_aversion c.args.order_intensity_k c.args.intensity_scale_a c.args.max_inventory_lots c.args.lot_size c.args.terminal_time c.args.min_spread c.args.drift))) = rw (c.check_numbers.ensures, c.within_limits.ensures) (ap (λ (x : GLFTConfig). check_of (first_failing (config_checks x))) same) in
-    let m = c in
-    let k = m in
-    rw (check_refused (first_failing (config_checks (given (λ z. z) c.args.risk_aversion c.args.order_intensity_k c.args.intensity_scale_a c.args.max_inventory_lots c.args.lot_size c.args.terminal_time c.args.min_spread c.args.drift))) _ (sym m.in-Refused.is ∙ checked))
+    rw (check_refused (first_failing (config_checks (given (λ z. z) c.args.risk_aversion c.args.order_intensity_k c.args.intensity_scale_a c.args.max_inventory_lots c.args.lot_size c.args.terminal_time c.args.min_spread c.args.drift))) _ (sym c.in-Refused.is ∙ checked))

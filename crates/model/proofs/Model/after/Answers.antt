@@ -6,8 +6,7 @@ use Rattle.model.proofs.Model.after.Goals as goal
 
 pub returns-in-Passes : goal.returns-in-Passes
 returns-in-Passes c =
-    let s = c in
-    rw (c.of_holding.ensures, c.in-Passes.is, to_z-of_z s.ranges.inventory, to_z-of_z s.ranges.volatility)
+    rw (c.of_holding.ensures, c.in-Passes.is, to_z-of_z c.ranges.inventory, to_z-of_z c.ranges.volatility)
 
 pub returns-in-Refused : goal.returns-in-Refused
 unfolding model_after model_if first_of verdict_of

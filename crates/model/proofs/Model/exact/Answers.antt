@@ -8,8 +8,6 @@ use Rattle.model.proofs.Model.exact.Goals as goal
 pub returns : goal.returns
 unfolding exact_model check_exact
 returns c =
-    let k = c in
-    let s = k in
-    let a = s.args in
-    rw (c.after.ensures, k.check_exact-check.ensures, to_z-of_z s.ranges.mid_price, to_z-of_z s.ranges.inventory, to_z-of_z s.ranges.volatility)
+    let a = c.args in
+    rw (c.after.ensures, c.check_exact-check.ensures, to_z-of_z c.ranges.mid_price, to_z-of_z c.ranges.inventory, to_z-of_z c.ranges.volatility)
     (after_checks (market_checks (time_ok a.current_time && model_limits a.mid_price a.inventory a.config a.volatility) a.mid_price a.config a.volatility) a.inventory a.config a.volatility second)

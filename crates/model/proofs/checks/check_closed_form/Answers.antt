@@ -15,15 +15,8 @@ pub returns : goal.returns
 unfolding check_closed_form driftless
 returns c =
     let drift-is : let x = c.args.config in eqb (of_z w64 x.drift) 0 ≡ driftless x = zero_bits c.args.config.drift c.struct_told-1.given.1.1.1.1.1.1.1.0.1 in
-    let r = c in
-    let p = r in
-    let o = p in
-    let n = o in
-    let t = n in
-    let l = t in
-    let s = l in
-    let a = s.args in
+    let a = c.args in
     let d = driftless a.config in
     let m = market_ok a.mid_price a.volatility in
-    rw (c.first_refusal-2.ensures, r.first_refusal.ensures, p.check_prices.ensures, o.one_check.ensures, drift-is, n.check_numbers.ensures, l.limits_fit-fit.ensures, to_z-of_z s.ranges.mid_price, to_z-of_z s.ranges.inventory, to_z-of_z s.ranges.volatility, one_told d drifting, one_told m market, joined_told ((d, drifting) ∷ []) ((m, market) ∷ []))
+    rw (c.first_refusal-2.ensures, c.first_refusal.ensures, c.check_prices.ensures, c.one_check.ensures, drift-is, c.check_numbers.ensures, c.limits_fit-fit.ensures, to_z-of_z c.ranges.mid_price, to_z-of_z c.ranges.inventory, to_z-of_z c.ranges.volatility, one_told d drifting, one_told m market, joined_told ((d, drifting) ∷ []) ((m, market) ∷ []))
     (joined_told (number_checks (model_limits a.mid_price a.inventory a.config a.volatility) a.config) ((d, drifting) ∷ (m, market) ∷ []))

@@ -11,10 +11,6 @@ use Rattle.model.proofs.checks.check_exact.Goals as goal
 pub returns : goal.returns
 unfolding check_exact
 returns c =
-    let p = c in
-    let n = p in
-    let l = n in
-    let s = l in
-    let a = s.args in
-    rw (c.first_refusal.ensures, p.check_prices.ensures, n.check_numbers.ensures, l.limits_fit.ensures, l.time_fits.ensures, to_z-of_z s.ranges.mid_price, to_z-of_z s.ranges.inventory, to_z-of_z s.ranges.volatility, one_told (market_ok a.mid_price a.volatility) market)
+    let a = c.args in
+    rw (c.first_refusal.ensures, c.check_prices.ensures, c.check_numbers.ensures, c.limits_fit.ensures, c.time_fits.ensures, to_z-of_z c.ranges.mid_price, to_z-of_z c.ranges.inventory, to_z-of_z c.ranges.volatility, one_told (market_ok a.mid_price a.volatility) market)
     (joined_told (number_checks (time_ok a.current_time && model_limits a.mid_price a.inventory a.config a.volatility) a.config) ((market_ok a.mid_price a.volatility, market) ∷ []))

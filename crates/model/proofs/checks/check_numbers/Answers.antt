@@ -7,8 +7,6 @@ use Rattle.model.proofs.checks.check_numbers.Goals as goal
 
 pub returns : goal.returns
 returns c =
-    let o = c in
-    let v = o in
-    let a = v.args in
-    rw (c.first_refusal.ensures, v.one_check.ensures, o.one_check-2.ensures, v.validate.ensures, one_told a.fit limits, one_told (config_ok a.config) configuration)
+    let a = c.args in
+    rw (c.first_refusal.ensures, c.one_check.ensures, c.one_check-2.ensures, c.validate.ensures, one_told a.fit limits, one_told (config_ok a.config) configuration)
     (joined_told ((a.fit, limits) ∷ []) ((config_ok a.config, configuration) ∷ []))

@@ -5,6 +5,4 @@ use Rattle.model.proofs.checks.check_prices.Goals as goal
 pub returns : goal.returns
 unfolding market_ok
 returns c =
-    let p = c in
-    let s = p in
-    rw (c.one_check.ensures, p.is_positive-2.ensures, p.is_positive.ensures, to_z-of_z s.ranges.mid_price, to_z-of_z s.ranges.volatility)
+    rw (c.one_check.ensures, c.is_positive-2.ensures, c.is_positive.ensures, to_z-of_z c.ranges.mid_price, to_z-of_z c.ranges.volatility)

@@ -6,12 +6,6 @@ use Rattle.model.proofs.config.within_limits.Goals as goal
 pub returns : goal.returns
 unfolding config_limits time_ok
 returns c =
-    let c6 = c in
-    let c5 = c6 in
-    let c4 = c5 in
-    let c3 = c4 in
-    let c2 = c3 in
-    let c1 = c2 in
-    let a = c1.args.c in
-    let t = c6.struct_told-6-1.given in
-    rw (c1.amount_fits.ensures, c2.amount_fits-2.ensures, c3.amount_fits-3.ensures, c4.amount_fits-4.ensures, c5.amount_fits-5.ensures, c6.amount_fits-6.ensures, kept a.risk_aversion t.0.1, kept a.order_intensity_k t.1.0.1, kept a.intensity_scale_a t.1.1.0.1, kept a.lot_size t.1.1.1.1.0.1, kept a.min_spread t.1.1.1.1.1.1.0.1, kept a.drift t.1.1.1.1.1.1.1.0.1)
+    let a = c.args.c in
+    let t = c.struct_told-6-1.given in
+    rw (c.amount_fits.ensures, c.amount_fits-2.ensures, c.amount_fits-3.ensures, c.amount_fits-4.ensures, c.amount_fits-5.ensures, c.amount_fits-6.ensures, kept a.risk_aversion t.0.1, kept a.order_intensity_k t.1.0.1, kept a.intensity_scale_a t.1.1.0.1, kept a.lot_size t.1.1.1.1.0.1, kept a.min_spread t.1.1.1.1.1.1.0.1, kept a.drift t.1.1.1.1.1.1.1.0.1)

@@ -5,8 +5,5 @@ use Rattle.model.proofs.parameters.limits_fit.Goals as goal
 pub returns : goal.returns
 unfolding model_limits
 returns c =
-    let c3 = c in
-    let c2 = c3 in
-    let c1 = c2 in
-    let r = c1.ranges in
-    rw (c1.amount_fits.ensures, c2.amount_fits-2.ensures, c3.amount_fits-3.ensures, c.within_limits.ensures, to_z-of_z r.mid, to_z-of_z r.inventory, to_z-of_z r.volatility)
+    let r = c.ranges in
+    rw (c.amount_fits.ensures, c.amount_fits-2.ensures, c.amount_fits-3.ensures, c.within_limits.ensures, to_z-of_z r.mid, to_z-of_z r.inventory, to_z-of_z r.volatility)

@@ -6,12 +6,6 @@ use Rattle.model.proofs.parameters.model_of.Goals as goal
 pub returns : goal.returns
 unfolding model_of
 returns c =
-    let c6 = c in
-    let c5 = c6 in
-    let c4 = c5 in
-    let c3 = c4 in
-    let c2 = c3 in
-    let c1 = c2 in
-    let a = c1.args.config in
-    let t = c6.struct_told-5-1.given in
-    rw (c.from_floats.ensures, c1.to_f64-sigma.ensures, c2.to_f64.ensures, c3.to_f64-2.ensures, c4.to_f64-3.ensures, c5.to_f64-4.ensures, c6.to_f64-5.ensures, to_z-of_z c1.ranges.volatility, kept a.order_intensity_k t.1.0.1, kept a.risk_aversion t.0.1, kept a.lot_size t.1.1.1.1.0.1, kept a.intensity_scale_a t.1.1.0.1, kept a.drift t.1.1.1.1.1.1.1.0.1, year_is)
+    let a = c.args.config in
+    let t = c.struct_told-5-1.given in
+    rw (c.from_floats.ensures, c.to_f64-sigma.ensures, c.to_f64.ensures, c.to_f64-2.ensures, c.to_f64-3.ensures, c.to_f64-4.ensures, c.to_f64-5.ensures, to_z-of_z c.ranges.volatility, kept a.order_intensity_k t.1.0.1, kept a.risk_aversion t.0.1, kept a.lot_size t.1.1.1.1.0.1, kept a.intensity_scale_a t.1.1.0.1, kept a.drift t.1.1.1.1.1.1.1.0.1, year_is)

@@ -16,7 +16,7 @@ holding_fits-requires c =
 pub lots_of-requires : goal.lots_of-requires
 lots_of-requires c =
     let lot-is : above0 c.args.config.lot_size ≡ c.is_positive.result = rw (c.is_positive.ensures, kept c.args.config.lot_size c.struct_told-1.given.1.1.1.1.0.1) in
-    let t = c in subst T (sym (lot-is ∙ t.if-is_positive.true)) tt
+    subst T (sym (lot-is ∙ c.if-is_positive.true)) tt
 
 pub returns-then-floats_fit : goal.returns-then-floats_fit
 unfolding model_after verdict_of first_failing first_of verdict model_if
@@ -25,10 +25,7 @@ returns-then-floats_fit c =
     let holding-is : let a = c.args in holding_ok a.inventory a.config ≡ c.holding_fits.result = rw (c.holding_fits.ensures, to_z-of_z c.ranges.inventory) in
     let made : let a = c.args in c.model_of-m.result ≡ model_of a.config a.volatility = rw (c.model_of-m.ensures, to_z-of_z c.ranges.volatility) in
     let floats-are : let a = c.args in model_ok (model_of a.config a.volatility) ≡ c.floats_fit.result = rw (c.floats_fit.ensures, made) in
-    let f = c in
-    let h = f in
-    let p = h in
-    rw (lot-is, p.if-is_positive.true, holding-is, f.if-holding_fits.true, floats-are, c.if-floats_fit.true, made, kept c.lots_of.result c.lots_of.type_inv, c.lots_of.ensures, to_z-of_z p.ranges.inventory)
+    rw (lot-is, c.if-is_positive.true, holding-is, c.if-holding_fits.true, floats-are, c.if-floats_fit.true, made, kept c.lots_of.result c.lots_of.type_inv, c.lots_of.ensures, to_z-of_z c.ranges.inventory)
 
 pub returns-then-holding_fits : goal.returns-then-holding_fits
 unfolding model_after verdict_of first_failing first_of verdict model_if
@@ -37,17 +34,14 @@ returns-then-holding_fits c =
     let holding-is : let a = c.args in holding_ok a.inventory a.config ≡ c.holding_fits.result = rw (c.holding_fits.ensures, to_z-of_z c.ranges.inventory) in
     let made : let a = c.args in c.model_of-m.result ≡ model_of a.config a.volatility = rw (c.model_of-m.ensures, to_z-of_z c.ranges.volatility) in
     let floats-are : let a = c.args in model_ok (model_of a.config a.volatility) ≡ c.floats_fit.result = rw (c.floats_fit.ensures, made) in
-    let f = c in
-    let h = f in
-    rw (lot-is, h.if-is_positive.true, holding-is, f.if-holding_fits.true, floats-are, c.if-floats_fit.false)
+    rw (lot-is, c.if-is_positive.true, holding-is, c.if-holding_fits.true, floats-are, c.if-floats_fit.false)
 
 pub returns-then-is_positive : goal.returns-then-is_positive
 unfolding model_after verdict_of first_failing first_of verdict model_if
 returns-then-is_positive c =
     let lot-is : above0 c.args.config.lot_size ≡ c.is_positive.result = rw (c.is_positive.ensures, kept c.args.config.lot_size c.struct_told-1.given.1.1.1.1.0.1) in
     let holding-is : let a = c.args in holding_ok a.inventory a.config ≡ c.holding_fits.result = rw (c.holding_fits.ensures, to_z-of_z c.ranges.inventory) in
-    let h = c in
-    rw (lot-is, h.if-is_positive.true, holding-is, c.if-holding_fits.false)
+    rw (lot-is, c.if-is_positive.true, holding-is, c.if-holding_fits.false)
 
 pub returns : goal.returns
 unfolding model_after verdict_of first_failing first_of verdict model_if

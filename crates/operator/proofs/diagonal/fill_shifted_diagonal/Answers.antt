@@ -51,15 +51,14 @@ loop-i-init c = (omega arith, omega arith, refl, first _ (omega arith), filled_z
 pub loop-i-preserved : goal.loop-i-preserved
 unfolding diagonal_at
 loop-i-preserved c =
-    let at-loop = c in
-    let b = at-loop.args.bound in
-    let i = at-loop.loop-i.invariant in (
+    let b = c.args.bound in
+    let i = c.loop-i.invariant in (
       i.0,
       omega arith,
       simp length-set i.2,
-      rw i.3 (next at-loop.loop-i.i b (omega arith) (omega arith)),
+      rw i.3 (next c.loop-i.i b (omega arith) (omega arith)),
       stored _ _ _ _ _ (omega arith) i.4 (rw i.3),
-      rw (i.5, c.is_finite-all.ensures, i.3) (every_suc at-loop.loop-i.i _),
+      rw (i.5, c.is_finite-all.ensures, i.3) (every_suc c.loop-i.i _),
     )
 
 -- the same test of what is stored

@@ -16,8 +16,7 @@ loop-i-init c = (c.if-diag-diag_s.false, omega arith, c.if-diag-diag_s.false, fi
 
 pub loop-i-preserved : goal.loop-i-preserved
 loop-i-preserved c =
-    let at-loop = c in
-    (at-loop.loop-i.invariant.0, omega arith, simp length-set at-loop.loop-i.invariant.2, stored _ _ _ _ _ (omega arith) at-loop.loop-i.invariant.3 refl)
+    (c.loop-i.invariant.0, omega arith, simp length-set c.loop-i.invariant.2, stored _ _ _ _ _ (omega arith) c.loop-i.invariant.3 refl)
 
 pub returns : goal.returns
 unfolding scaled_over

@@ -31,12 +31,9 @@ loop-i-init c =
 pub loop-i-preserved : goal.loop-i-preserved
 unfolding right_by
 loop-i-preserved c =
-    let at_right = c in
-    let at-past = at_right in
-    let at-loop = at-past in
-    let i = at-loop.loop-i.invariant in
-    let l = at-past.left_factor-lf.ensures in
-    let r = rw (at-past.past_last.ensures, l) at at_right.right_factor-rf.ensures in (
+    let i = c.loop-i.invariant in
+    let l = c.left_factor-lf.ensures in
+    let r = rw (c.past_last.ensures, l) at c.right_factor-rf.ensures in (
       i.0,
       i.1,
       omega arith,
@@ -44,7 +41,7 @@ loop-i-preserved c =
       simp length-set i.4,
       stored _ _ _ _ _ (omega arith) i.5 l,
       stored _ _ _ _ _ (omega arith) i.6 r,
-      rw (i.7, c.is_finite.ensures, c.is_finite-in-loop-i.ensures, l, r) (every_suc at-loop.loop-i.i _),
+      rw (i.7, c.is_finite.ensures, c.is_finite-in-loop-i.ensures, l, r) (every_suc c.loop-i.i _),
     )
 
 pub returns : goal.returns

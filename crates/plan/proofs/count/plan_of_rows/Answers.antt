@@ -76,7 +76,6 @@ returns-then-set_factors c =
     (blank_length _ _ c.zeros-left.ensures h ∙ sym offsets-n, blank_length _ _ c.zeros-right.ensures h ∙ sym offsets-n) in
     let left_is : let n = c.args.n in c.set_factors.new.left ≡ tab n (left_at (fill n 0ᶠ)) = rw (blank_part _ _ c.zeros-o.ensures c.requires.0, length-replicate c.args.n 0ᶠ) at (left_over_lem _ _ _ lengths.0 lengths.1 _ c.set_factors.ensures.left_after) in
     let right_is : let n = c.args.n in c.set_factors.new.right ≡ tab n (right_at n (fill n 0ᶠ)) = (rw (blank_part _ _ c.zeros-o.ensures c.requires.0, length-replicate c.args.n 0ᶠ) at (right_over_lem _ _ _ lengths.0 lengths.1 _ _ c.set_factors.ensures.right_after)) ∙ right_whole _ _ in
-    let s = c in
     let d = c.requires.1 in
     rw (c.ahead.ensures, planned_over _ _ _ _ _ _ (stored_length _ _ _ _ left_is ∙ sym d) (stored_length _ _ _ _ right_is ∙ sym d) _ c.plan_over.ensures, d)
     (sym (ahead_of_lem _ _ _ _ (stored_part _ _ _ _ left_is) (stored_part _ _ _ _ right_is)))
@@ -91,7 +90,6 @@ returns c =
     let right_is : let n = c.args.n in c.set_factors.new.right ≡ tab n (right_at n (fill n 0ᶠ)) = (rw (blank_part _ _ c.zeros-o.ensures c.requires.0, length-replicate c.args.n 0ᶠ) at (right_over_lem _ _ _ lengths.0 lengths.1 _ _ c.set_factors.ensures.right_after)) ∙ right_whole _ _ in
     let fine : c.set_factors.result ≡ both_fine (length offsets) c.set_factors.new.left c.set_factors.new.right = let n = c.args.n in
     factors_over offsets (take n c.zeros-left.result) (take n c.zeros-right.result) lengths.0 lengths.1 c.set_factors.new.left c.set_factors.new.right _ c.set_factors.ensures.value in
-    let s = c in
     let n = c.args.n in
     let e = rw (left_is, right_is, offsets-n) at (sym fine ∙ c.if-set_factors.false) in
     absurd (true≢false (sym (factors_fine n) ∙ e))

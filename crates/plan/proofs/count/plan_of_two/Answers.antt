@@ -9,15 +9,13 @@ norm_at_first-requires c = (bound_range _ c.requires.0).0
 
 pub returns-then-is_positive_finite : goal.returns-then-is_positive_finite
 returns-then-is_positive_finite c =
-    let test = c in
-    let norm = test.norm_at_first.ensures in
-    let p = test.requires in
+    let norm = c.norm_at_first.ensures in
+    let p = c.requires in
     rw (c.ahead.ensures, c.plan_for.ensures, norm)
-    (two_ahead _ p.0 p.1 p.2 p.3 (rw norm at (sym test.is_positive_finite.ensures ∙ c.if-is_positive_finite.true)))
+    (two_ahead _ p.0 p.1 p.2 p.3 (rw norm at (sym c.is_positive_finite.ensures ∙ c.if-is_positive_finite.true)))
 
 pub returns : goal.returns
 returns c =
-    let test = c in
-    let norm = test.norm_at_first.ensures in
-    let p = test.requires in
-    two_fail _ p.0 p.1 p.2 p.3 (rw norm at (sym test.is_positive_finite.ensures ∙ c.if-is_positive_finite.false))
+    let norm = c.norm_at_first.ensures in
+    let p = c.requires in
+    two_fail _ p.0 p.1 p.2 p.3 (rw norm at (sym c.is_positive_finite.ensures ∙ c.if-is_positive_finite.false))

@@ -1,4 +1,3 @@
--- The loop's invariant: `norm` is the largest of the first i row sums, from 0.0. Assumes nothing.
 use Rattle.std.proofs.Common.{◌≡◌, ℕ, List, length, sym, ap, ◌∙◌, arith}
 use lib.Ieee.{Float}
 use Rattle.elementary.specs.Float.{◌⊕◌, ◌⊗◌, 0ᶠ}
@@ -15,17 +14,15 @@ loop-i-init c = (omega arith, fold_zero _ _ _)
 
 pub loop-i-preserved : goal.loop-i-preserved
 loop-i-preserved c =
-    let size = c in
-    let at-loop = size in
-    let i = at-loop.loop-i.i in
-    let x = at-loop.args in
+    let i = c.loop-i.i in
+    let x = c.args in
     let f = row_sum x.diag_s.now x.eta x.left.now x.right.now in
-    let max : c.if-norm-sum.norm ≡ larger at-loop.loop-i.norm (size.magnitude.result ⊕ x.eta ⊗ (at x.left.now i ⊕ at x.right.now i)) =
+    let max : c.if-norm-sum.norm ≡ larger c.loop-i.norm (c.magnitude.result ⊕ x.eta ⊗ (at x.left.now i ⊕ at x.right.now i)) =
     elim c.if-norm-sum.branch [
       | then-norm-sum t ↦ t.norm-is ∙ larger_taken _ _ t.if-norm-sum.true
       | else-norm-sum t ↦ t.norm-is ∙ larger_left _ _ t.if-norm-sum.false
     ] in
-    (omega arith, max ∙ rw (at-loop.loop-i.invariant.1, size.magnitude.ensures) (sym (fold_suc larger 0ᶠ i f)))
+    (omega arith, max ∙ rw (c.loop-i.invariant.1, c.magnitude.ensures) (sym (fold_suc larger 0ᶠ i f)))
 
 -- the magnitudes as the definition stores them
 stored-sizes : (n : ℕ) (d : List Float) (eta : Float) (left right : List Float)

@@ -1,3 +1,4 @@
+-- The loop's invariant: `norm` is the largest of the first i row sums, from 0.0. Assumes nothing.
 use Rattle.std.proofs.Common.{◌≡◌, ℕ, ◌-◌, ◌≤◌, List, length}
 use lib.Ieee.{Float}
 use Rattle.elementary.specs.Float.{◌⊕◌, ◌⊗◌, 0ᶠ}

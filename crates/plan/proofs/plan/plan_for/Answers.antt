@@ -11,25 +11,22 @@ keeps size need b e h = rw e at h
 
 pub truncating_f64_to_u64-steps-requires : goal.truncating_f64_to_u64-steps-requires
 truncating_f64_to_u64-steps-requires c =
-    let start = c in
     let is = c.steps_needed-need.ensures in
     let kept = keeps _ _ _ is c.if-need-budget.true in
-    rw is (record { lower_bound = planned_low _ _ kept; upper_bound = planned_high _ _ kept start.ranges.budget.fits })
+    rw is (record { lower_bound = planned_low _ _ kept; upper_bound = planned_high _ _ kept c.ranges.budget.fits })
 
 pub overflow_cast-result : goal.overflow_cast-result
 overflow_cast-result c =
-    let start = c in
     let is = c.steps_needed-need.ensures in
     let kept = keeps _ _ _ is c.if-need-budget.true in
-    record { fits = rw (c.truncating_f64_to_u64-steps.ensures, is) (lt_of_le_of_lt (planned_within _ _ kept start.ranges.budget.fits) start.ranges.budget.fits) }
+    record { fits = rw (c.truncating_f64_to_u64-steps.ensures, is) (lt_of_le_of_lt (planned_within _ _ kept c.ranges.budget.fits) c.ranges.budget.fits) }
 
 pub returns-then-need-budget : goal.returns-then-need-budget
 unfolding plan_for plan_by
 returns-then-need-budget c =
-    let start = c in
     let is = c.steps_needed-need.ensures in
     let kept = keeps _ _ _ is c.if-need-budget.true in
-    rw (kept, c.truncating_f64_to_u64-steps.ensures, is, planned_same _ _ kept start.ranges.budget.fits)
+    rw (kept, c.truncating_f64_to_u64-steps.ensures, is, planned_same _ _ kept c.ranges.budget.fits)
 
 pub returns : goal.returns
 unfolding plan_for plan_by

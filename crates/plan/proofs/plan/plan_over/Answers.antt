@@ -18,14 +18,9 @@ norm_of-requires c = (c.if-left-diag_s.false, c.if-right-diag_s.false)
 pub returns-then-is_positive_finite : goal.returns-then-is_positive_finite
 unfolding plan_of plan_for
 returns-then-is_positive_finite c =
-    let then = c in
-    let test = then in
-    let sized = test in
-    rw (plan_agrees _ _ _ _ _ _ sized.if-left-diag_s.false sized.if-right-diag_s.false, ← test.norm_of.ensures, ← test.is_positive_finite.ensures, then.if-is_positive_finite.true) c.plan_for.ensures
+    rw (plan_agrees _ _ _ _ _ _ c.if-left-diag_s.false c.if-right-diag_s.false, ← c.norm_of.ensures, ← c.is_positive_finite.ensures, c.if-is_positive_finite.true) c.plan_for.ensures
 
 pub returns : goal.returns
 unfolding plan_of plan_by
 returns c =
-    let test = c in
-    let sized = test in
-    rw (plan_agrees _ _ _ _ _ _ sized.if-left-diag_s.false sized.if-right-diag_s.false, ← test.norm_of.ensures, ← test.is_positive_finite.ensures, c.if-is_positive_finite.false)
+    rw (plan_agrees _ _ _ _ _ _ c.if-left-diag_s.false c.if-right-diag_s.false, ← c.norm_of.ensures, ← c.is_positive_finite.ensures, c.if-is_positive_finite.false)

@@ -6,8 +6,7 @@ use Rattle.plan.proofs.slices.set_plan.Goals as goal
 pub returns-then-set_factors : goal.returns-then-set_factors
 unfolding plan_from
 returns-then-set_factors c =
-    let f = c in
-    let e = f.set_factors.ensures in
+    let e = c.set_factors.ensures in
     record { left_after = e.left_after; right_after = e.right_after; diag_after = c.scale_for.ensures; value = rw (← e.value, c.if-set_factors.true) c.plan_with-plan.ensures }
 
 pub returns : goal.returns

@@ -8,19 +8,13 @@ pub returns-then-side_positive-in_order : goal.returns-then-side_positive-in_ord
 unfolding judge judge_if
 returns-then-side_positive-in_order c =
     let within : let q = c.args.quotes in (each amount_ok q.bid && each amount_ok q.ask) ≡ (c.side_fits.result && c.side_fits-2.result) = rw (c.side_fits.ensures, c.side_fits-2.ensures) in
-    let o = c in
-    let p = o in
-    let t = p in
-    rw (within, t.if-side_fits.true, rw (p.side_positive.ensures, p.side_positive-then-side_fits.ensures, o.in_order.ensures) at c.if-side_positive-in_order.true)
+    rw (within, c.if-side_fits.true, rw (c.side_positive.ensures, c.side_positive-then-side_fits.ensures, c.in_order.ensures) at c.if-side_positive-in_order.true)
 
 pub returns-then-side_fits : goal.returns-then-side_fits
 unfolding judge judge_if
 returns-then-side_fits c =
     let within : let q = c.args.quotes in (each amount_ok q.bid && each amount_ok q.ask) ≡ (c.side_fits.result && c.side_fits-2.result) = rw (c.side_fits.ensures, c.side_fits-2.ensures) in
-    let o = c in
-    let p = o in
-    let t = p in
-    rw (within, t.if-side_fits.true, rw (p.side_positive.ensures, p.side_positive-then-side_fits.ensures, o.in_order.ensures) at c.if-side_positive-in_order.false)
+    rw (within, c.if-side_fits.true, rw (c.side_positive.ensures, c.side_positive-then-side_fits.ensures, c.in_order.ensures) at c.if-side_positive-in_order.false)
 
 pub returns : goal.returns
 unfolding judge judge_if

@@ -14,8 +14,7 @@ unfolding rounded
 returns-then-is_fine-2 c =
     let bid_is : fine c.args.bid ≡ c.is_fine.result = sym c.is_fine.ensures in
     let ask_is : fine c.args.ask ≡ c.is_fine-then-is_fine.result = sym c.is_fine-then-is_fine.ensures in
-    let t = c in
-    rw (bid_is, t.if-is_fine.true, ask_is, t.if-is_fine-2.true) c.round_finite.ensures
+    rw (bid_is, c.if-is_fine.true, ask_is, c.if-is_fine-2.true) c.round_finite.ensures
 
 pub returns-else-is_fine-2 : goal.returns-else-is_fine-2
 unfolding rounded rounded_if

@@ -27,15 +27,13 @@ pub returns-in-Count : goal.returns-in-Count
 unfolding side side_of held to_billionths fine
 returns-in-Count c =
     let finite-is : finite c.in-At.x ≡ true = rw c.in-At.is at c.requires in
-    let r = c in
-    rw (r.in-At.is, held-is, ← finite-is, ← r.to_billionths.ensures, c.in-Count.is) (search rules)
+    rw (c.in-At.is, held-is, ← finite-is, ← c.to_billionths.ensures, c.in-Count.is) (search rules)
 
 pub returns-in-Refused : goal.returns-in-Refused
 unfolding side side_of held to_billionths fine
 returns-in-Refused c =
     let finite-is : finite c.in-At.x ≡ true = rw c.in-At.is at c.requires in
-    let r = c in
-    rw (r.in-At.is, held-is, ← finite-is, ← r.to_billionths.ensures, c.in-Refused.is)
+    rw (c.in-At.is, held-is, ← finite-is, ← c.to_billionths.ensures, c.in-Refused.is)
 
 pub returns-in-Absent : goal.returns-in-Absent
 unfolding side side_of

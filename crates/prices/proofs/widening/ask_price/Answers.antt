@@ -19,8 +19,7 @@ overflow_add-result c =
     let distance_is : to_z w64 (of_z w64 distance) ≡ distance = search rules in
     let outward : ℤ = distance +ℤ c.args.w in
     let distance-ok : T (amount_ok distance) = rw c.in-At.is at c.requires.2 in
-    let outward-size : nat_abs outward ≤ 4 * amount_limit = let s = c in
-    omega (arith, amount_size distance distance-ok, s.requires.1, size_add distance s.args.w) in
+    let outward-size : nat_abs outward ≤ 4 * amount_limit = omega (arith, amount_size distance distance-ok, c.requires.1, size_add distance c.args.w) in
     let outward-fits : SFits w64 outward = size_fits outward (omega (arith, outward-size)) in
     rw (distance_is, to_z-of_z c.ranges.w) outward-fits
 
@@ -31,12 +30,10 @@ overflow_add-result-in-At c =
     let distance_is : to_z w64 (of_z w64 distance) ≡ distance = search rules in
     let outward : ℤ = distance +ℤ c.args.w in
     let distance-ok : T (amount_ok distance) = rw c.in-At.is at c.requires.2 in
-    let outward-size : nat_abs outward ≤ 4 * amount_limit = let s = c in
-    omega (arith, amount_size distance distance-ok, s.requires.1, size_add distance s.args.w) in
+    let outward-size : nat_abs outward ≤ 4 * amount_limit = omega (arith, amount_size distance distance-ok, c.requires.1, size_add distance c.args.w) in
     let outward-fits : SFits w64 outward = size_fits outward (omega (arith, outward-size)) in
     let price : ℤ = c.args.mid +ℤ outward in
-    let price-fits : SFits w64 price = let s = c in
-    size_fits price (omega (arith, amount_size s.args.mid s.requires.0, outward-size, size_add s.args.mid outward)) in
+    let price-fits : SFits w64 price = size_fits price (omega (arith, amount_size c.args.mid c.requires.0, outward-size, size_add c.args.mid outward)) in
     let f = c.ranges in
     rw (distance_is, to_z-of_z f.w, to_z-of_z outward-fits, to_z-of_z f.mid) price-fits
 
@@ -47,12 +44,10 @@ returns-in-At c =
     let distance_is : to_z w64 (of_z w64 distance) ≡ distance = search rules in
     let outward : ℤ = distance +ℤ c.args.w in
     let distance-ok : T (amount_ok distance) = rw c.in-At.is at c.requires.2 in
-    let outward-size : nat_abs outward ≤ 4 * amount_limit = let s = c in
-    omega (arith, amount_size distance distance-ok, s.requires.1, size_add distance s.args.w) in
+    let outward-size : nat_abs outward ≤ 4 * amount_limit = omega (arith, amount_size distance distance-ok, c.requires.1, size_add distance c.args.w) in
     let outward-fits : SFits w64 outward = size_fits outward (omega (arith, outward-size)) in
     let price : ℤ = c.args.mid +ℤ outward in
-    let price-fits : SFits w64 price = let s = c in
-    size_fits price (omega (arith, amount_size s.args.mid s.requires.0, outward-size, size_add s.args.mid outward)) in
+    let price-fits : SFits w64 price = size_fits price (omega (arith, amount_size c.args.mid c.requires.0, outward-size, size_add c.args.mid outward)) in
     let f = c.ranges in
     rw (c.in-At.is, distance_is, to_z-of_z f.w, to_z-of_z outward-fits, to_z-of_z f.mid, to_z-of_z price-fits)
 

@@ -44,16 +44,14 @@ overflow_add-result c =
 pub nonzero_div-result : goal.nonzero_div-result
 nonzero_div-result c =
     let sum_fits : (n : ℕ) → n ≤ 1 → SFits w64 (c.args.short +ℤ pos n) = λ n h. size_fits (c.args.short +ℤ pos n) (omega (arith, size_add c.args.short (pos n), c.requires)) in
-    let s = c in
-    rw (to_z-of_z s.ranges.short) (divides (s.args.short +ℤ pos _) (pos 2) (sum_fits _ (lit≤ tt)) (lit< tt) two-above)
+    rw (to_z-of_z c.ranges.short) (divides (c.args.short +ℤ pos _) (pos 2) (sum_fits _ (lit≤ tt)) (lit< tt) two-above)
 
 pub returns-then-short-gt0 : goal.returns-then-short-gt0
 returns-then-short-gt0 c =
     let sum_fits : (n : ℕ) → n ≤ 1 → SFits w64 (c.args.short +ℤ pos n) = λ n h. size_fits (c.args.short +ℤ pos n) (omega (arith, size_add c.args.short (pos n), c.requires)) in
     let half-fits : SFits w64 (half_up c.args.short) = size_fits (half_up c.args.short) (omega (arith, size_half c.args.short, c.requires)) in
     let half_is : quot_z (c.args.short +ℤ pos 1) (pos 2) ≡ half_up c.args.short = some c.args.short (rw (to_z-of_z c.ranges.short) at c.if-short-gt0.true) in
-    let s = c in
-    rw (to_z-of_z s.ranges.short) (half_back s.args.short _ (sum_fits _ (lit≤ tt)) half-fits half_is)
+    rw (to_z-of_z c.ranges.short) (half_back c.args.short _ (sum_fits _ (lit≤ tt)) half-fits half_is)
 
 pub returns : goal.returns
 returns c = none c.args.short (rw (to_z-of_z c.ranges.short) at c.if-short-gt0.false)

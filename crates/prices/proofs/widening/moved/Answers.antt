@@ -22,17 +22,13 @@ unfolding each
 moved_with-requires c =
     let bid_is : to_z w64 (of_z w64 c.in-At.b) ≡ c.in-At.b = search rules in
     let bid-ok : T (amount_ok c.in-At.b) = rw c.in-At.is at c.requires.1 in
-    let s = c in
-    rw (to_z-of_z s.ranges.least, bid_is) (s.requires.0, bid-ok, s.requires.2)
+    rw (to_z-of_z c.ranges.least, bid_is) (c.requires.0, bid-ok, c.requires.2)
 
 pub returns-in-At : goal.returns-in-At
 returns-in-At c =
-    let moved-fits : let s = c.args in SFits w64 (widening s.least s.bid s.ask) = let s = c in
-    size_fits (widening s.args.least s.args.bid s.args.ask) (omega (arith, size_widening s.args.least s.args.bid s.args.ask s.requires.0 s.requires.1 s.requires.2)) in
+    let moved-fits : let s = c.args in SFits w64 (widening s.least s.bid s.ask) = size_fits (widening c.args.least c.args.bid c.args.ask) (omega (arith, size_widening c.args.least c.args.bid c.args.ask c.requires.0 c.requires.1 c.requires.2)) in
     let bid_is : to_z w64 (of_z w64 c.in-At.b) ≡ c.in-At.b = search rules in
-    let moved-is : let s = c.args in c.moved_with.result ≡ widening s.least s.bid s.ask = let k = c in
-    let s = k in
-    c.moved_with.ensures ∙ same s.args.least _ k.in-At.b _ s.args.bid s.args.ask (to_z-of_z s.ranges.least) bid_is k.in-At.is in
+    let moved-is : let s = c.args in c.moved_with.result ≡ widening s.least s.bid s.ask = c.moved_with.ensures ∙ same c.args.least _ c.in-At.b _ c.args.bid c.args.ask (to_z-of_z c.ranges.least) bid_is c.in-At.is in
     rw moved-is (to_z-of_z moved-fits)
 
 pub returns-in-Absent : goal.returns-in-Absent

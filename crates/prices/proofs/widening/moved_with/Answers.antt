@@ -20,10 +20,9 @@ overflow_add-b c =
     let ask_is : to_z w64 (of_z w64 ask) ≡ ask = search rules in
     let spread : ℤ = c.args.b +ℤ ask in
     let ask-ok : T (amount_ok ask) = rw c.in-At.is at c.requires.2 in
-    let spread-size : nat_abs spread ≤ 2 * amount_limit = let s = c in
-    omega (arith, amount_size s.args.b s.requires.1, amount_size ask ask-ok, size_add s.args.b ask) in
+    let spread-size : nat_abs spread ≤ 2 * amount_limit = omega (arith, amount_size c.args.b c.requires.1, amount_size ask ask-ok, size_add c.args.b ask) in
     let spread-fits : SFits w64 spread = size_fits spread (omega (arith, spread-size)) in
-    let s = c in rw (to_z-of_z s.ranges.b, ask_is) spread-fits
+    rw (to_z-of_z c.ranges.b, ask_is) spread-fits
 
 pub overflow_sub-least : goal.overflow_sub-least
 unfolding each
@@ -32,15 +31,12 @@ overflow_sub-least c =
     let ask_is : to_z w64 (of_z w64 ask) ≡ ask = search rules in
     let spread : ℤ = c.args.b +ℤ ask in
     let ask-ok : T (amount_ok ask) = rw c.in-At.is at c.requires.2 in
-    let spread-size : nat_abs spread ≤ 2 * amount_limit = let s = c in
-    omega (arith, amount_size s.args.b s.requires.1, amount_size ask ask-ok, size_add s.args.b ask) in
+    let spread-size : nat_abs spread ≤ 2 * amount_limit = omega (arith, amount_size c.args.b c.requires.1, amount_size ask ask-ok, size_add c.args.b ask) in
     let spread-fits : SFits w64 spread = size_fits spread (omega (arith, spread-size)) in
     let short : ℤ = c.args.least -ℤ spread in
-    let short-size : nat_abs short ≤ 3 * amount_limit = let s = c in
-    omega (arith, amount_size s.args.least s.requires.0, spread-size, size_sub s.args.least spread) in
+    let short-size : nat_abs short ≤ 3 * amount_limit = omega (arith, amount_size c.args.least c.requires.0, spread-size, size_sub c.args.least spread) in
     let short-fits : SFits w64 short = size_fits short (omega (arith, short-size)) in
-    let s = c in
-    rw (to_z-of_z s.ranges.b, ask_is, to_z-of_z spread-fits, to_z-of_z s.ranges.least) short-fits
+    rw (to_z-of_z c.ranges.b, ask_is, to_z-of_z spread-fits, to_z-of_z c.ranges.least) short-fits
 
 pub half_shortfall-requires : goal.half_shortfall-requires
 unfolding each
@@ -50,14 +46,11 @@ half_shortfall-requires c =
     let spread : ℤ = c.args.b +ℤ ask in
     let short : ℤ = c.args.least -ℤ spread in
     let ask-ok : T (amount_ok ask) = rw c.in-At.is at c.requires.2 in
-    let spread-size : nat_abs spread ≤ 2 * amount_limit = let s = c in
-    omega (arith, amount_size s.args.b s.requires.1, amount_size ask ask-ok, size_add s.args.b ask) in
-    let short-size : nat_abs short ≤ 3 * amount_limit = let s = c in
-    omega (arith, amount_size s.args.least s.requires.0, spread-size, size_sub s.args.least spread) in
+    let spread-size : nat_abs spread ≤ 2 * amount_limit = omega (arith, amount_size c.args.b c.requires.1, amount_size ask ask-ok, size_add c.args.b ask) in
+    let short-size : nat_abs short ≤ 3 * amount_limit = omega (arith, amount_size c.args.least c.requires.0, spread-size, size_sub c.args.least spread) in
     let spread-fits : SFits w64 spread = size_fits spread (omega (arith, spread-size)) in
     let short-fits : SFits w64 short = size_fits short (omega (arith, short-size)) in
-    let s = c in
-    rw (to_z-of_z s.ranges.b, ask_is, to_z-of_z spread-fits, to_z-of_z s.ranges.least, to_z-of_z short-fits) short-size
+    rw (to_z-of_z c.ranges.b, ask_is, to_z-of_z spread-fits, to_z-of_z c.ranges.least, to_z-of_z short-fits) short-size
 
 pub returns-in-At : goal.returns-in-At
 unfolding widening each
@@ -66,17 +59,13 @@ returns-in-At c =
     let ask_is : to_z w64 (of_z w64 ask) ≡ ask = search rules in
     let spread : ℤ = c.args.b +ℤ ask in
     let ask-ok : T (amount_ok ask) = rw c.in-At.is at c.requires.2 in
-    let spread-size : nat_abs spread ≤ 2 * amount_limit = let s = c in
-    omega (arith, amount_size s.args.b s.requires.1, amount_size ask ask-ok, size_add s.args.b ask) in
+    let spread-size : nat_abs spread ≤ 2 * amount_limit = omega (arith, amount_size c.args.b c.requires.1, amount_size ask ask-ok, size_add c.args.b ask) in
     let spread-fits : SFits w64 spread = size_fits spread (omega (arith, spread-size)) in
     let short : ℤ = c.args.least -ℤ spread in
-    let short-size : nat_abs short ≤ 3 * amount_limit = let s = c in
-    omega (arith, amount_size s.args.least s.requires.0, spread-size, size_sub s.args.least spread) in
+    let short-size : nat_abs short ≤ 3 * amount_limit = omega (arith, amount_size c.args.least c.requires.0, spread-size, size_sub c.args.least spread) in
     let short-fits : SFits w64 short = size_fits short (omega (arith, short-size)) in
     let half-fits : SFits w64 (half_up short) = size_fits (half_up short) (omega (arith, short-size, size_half short)) in
-    let k = c in
-    let s = k in
-    rw (k.in-At.is, c.half_shortfall.ensures, to_z-of_z s.ranges.b, ask_is, to_z-of_z spread-fits, to_z-of_z s.ranges.least, to_z-of_z short-fits, to_z-of_z half-fits)
+    rw (c.in-At.is, c.half_shortfall.ensures, to_z-of_z c.ranges.b, ask_is, to_z-of_z spread-fits, to_z-of_z c.ranges.least, to_z-of_z short-fits, to_z-of_z half-fits)
 
 pub returns-in-Absent : goal.returns-in-Absent
 unfolding widening

@@ -10,41 +10,34 @@ use Rattle.prices.proofs.widening.price_sides.Goals as goal
 pub bid_price-requires : goal.bid_price-requires
 bid_price-requires c =
     let mid-is : amount_ok c.args.mid ≡ c.amount_fits.result = rw (c.amount_fits.ensures, to_z-of_z c.ranges.mid) in
-    let mid-ok : T (amount_ok c.args.mid) = let t = c in subst T (sym (mid-is ∙ t.if-amount_fits.true)) tt in
+    let mid-ok : T (amount_ok c.args.mid) = subst T (sym (mid-is ∙ c.if-amount_fits.true)) tt in
     let sides_are : let s = c.args in (each amount_ok s.bid && each amount_ok s.ask) ≡ (c.side_fits.result && c.side_fits-then-amount_fits.result) = rw (c.side_fits.ensures, c.side_fits-then-amount_fits.ensures) in
     let sides-ok : let s = c.args in T (each amount_ok s.bid) × T (each amount_ok s.ask) = let s = c.args in
     and_yes (each amount_ok s.bid) (each amount_ok s.ask) (subst T (sym (sides_are ∙ c.if-side_fits.true)) tt) in
-    let s = c in
-    rw (to_z-of_z s.ranges.mid) (mid-ok, omega arith, sides-ok.0)
+    rw (to_z-of_z c.ranges.mid) (mid-ok, omega arith, sides-ok.0)
 
 pub ask_price-requires : goal.ask_price-requires
 ask_price-requires c =
     let mid-is : amount_ok c.args.mid ≡ c.amount_fits.result = rw (c.amount_fits.ensures, to_z-of_z c.ranges.mid) in
-    let mid-ok : T (amount_ok c.args.mid) = let t = c in subst T (sym (mid-is ∙ t.if-amount_fits.true)) tt in
+    let mid-ok : T (amount_ok c.args.mid) = subst T (sym (mid-is ∙ c.if-amount_fits.true)) tt in
     let sides_are : let s = c.args in (each amount_ok s.bid && each amount_ok s.ask) ≡ (c.side_fits.result && c.side_fits-then-amount_fits.result) = rw (c.side_fits.ensures, c.side_fits-then-amount_fits.ensures) in
     let sides-ok : let s = c.args in T (each amount_ok s.bid) × T (each amount_ok s.ask) = let s = c.args in
     and_yes (each amount_ok s.bid) (each amount_ok s.ask) (subst T (sym (sides_are ∙ c.if-side_fits.true)) tt) in
-    let t = c in
-    let s = t in
-    rw (to_z-of_z s.ranges.mid) (mid-ok, omega arith, sides-ok.1)
+    rw (to_z-of_z c.ranges.mid) (mid-ok, omega arith, sides-ok.1)
 
 pub returns-then-side_fits : goal.returns-then-side_fits
 unfolding price_sides widen_if priced
 returns-then-side_fits c =
     let mid-is : amount_ok c.args.mid ≡ c.amount_fits.result = rw (c.amount_fits.ensures, to_z-of_z c.ranges.mid) in
     let sides_are : let s = c.args in (each amount_ok s.bid && each amount_ok s.ask) ≡ (c.side_fits.result && c.side_fits-then-amount_fits.result) = rw (c.side_fits.ensures, c.side_fits-then-amount_fits.ensures) in
-    let t = c in
-    let u = t in
-    let s = u in
-    rw (mid-is, u.if-amount_fits.true, sides_are, t.if-side_fits.true, c.bid_price.ensures, c.ask_price.ensures, to_z-of_z s.ranges.mid)
+    rw (mid-is, c.if-amount_fits.true, sides_are, c.if-side_fits.true, c.bid_price.ensures, c.ask_price.ensures, to_z-of_z c.ranges.mid)
 
 pub returns-then-amount_fits : goal.returns-then-amount_fits
 unfolding price_sides widen_if
 returns-then-amount_fits c =
     let mid-is : amount_ok c.args.mid ≡ c.amount_fits.result = rw (c.amount_fits.ensures, to_z-of_z c.ranges.mid) in
     let sides_are : let s = c.args in (each amount_ok s.bid && each amount_ok s.ask) ≡ (c.side_fits.result && c.side_fits-then-amount_fits.result) = rw (c.side_fits.ensures, c.side_fits-then-amount_fits.ensures) in
-    let t = c in
-    rw (mid-is, t.if-amount_fits.true, sides_are, c.if-side_fits.false)
+    rw (mid-is, c.if-amount_fits.true, sides_are, c.if-side_fits.false)
 
 pub returns : goal.returns
 unfolding price_sides widen_if

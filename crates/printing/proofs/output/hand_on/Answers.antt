@@ -11,8 +11,7 @@ returns-in-Err c = tt
 
 pub overflow_add-result : goal.overflow_add-result
 overflow_add-result c =
-    let s = c in
-    let m = next_most s.args.kind s.args.s.now s.args.done.count s.args.text.now s.requires in
+    let m = next_most c.args.kind c.args.s.now c.args.done.count c.args.text.now c.requires in
     record { fits = omega arith }
 
 pub returns : goal.returns

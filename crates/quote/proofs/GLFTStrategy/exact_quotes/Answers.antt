@@ -9,29 +9,20 @@ pub exact_of-requires : goal.exact_of-requires
 exact_of-requires c =
     let model_is : let a = c.args in exact_model a.mid_price a.inventory a.config a.volatility a.current_time ≡ c.exact.result = let r = c.ranges in
     rw (c.exact.ensures, to_z-of_z r.mid_price, to_z-of_z r.inventory, to_z-of_z r.volatility) in
-    let m = c in
-    let n = m in
-    let s = n in
-    let a = s.args in
-    rw (to_z-of_z s.ranges.mid_price, kept a.config.min_spread n.struct_told-1.given.1.1.1.1.1.1.0.1)
-    (exact_amounts a.mid_price a.inventory a.config a.volatility a.current_time _ _ (model_is ∙ m.in-Model.is))
+    let a = c.args in
+    rw (to_z-of_z c.ranges.mid_price, kept a.config.min_spread c.struct_told-1.given.1.1.1.1.1.1.0.1)
+    (exact_amounts a.mid_price a.inventory a.config a.volatility a.current_time _ _ (model_is ∙ c.in-Model.is))
 
 pub returns-in-Model : goal.returns-in-Model
 unfolding exact_quotes exact_answer exact_from
 returns-in-Model c =
     let model_is : let a = c.args in exact_model a.mid_price a.inventory a.config a.volatility a.current_time ≡ c.exact.result = let r = c.ranges in
     rw (c.exact.ensures, to_z-of_z r.mid_price, to_z-of_z r.inventory, to_z-of_z r.volatility) in
-    let t = c in
-    let m = t in
-    let n = m in
-    let s = n in
-    rw (c.exact_of.ensures, model_is, m.in-Model.is, t.seconds_to_terminal-tau.ensures, to_z-of_z s.ranges.mid_price, kept s.args.config.min_spread n.struct_told-1.given.1.1.1.1.1.1.0.1, kept m.in-Model.q t.in-Model.known_told-1-own.given.1.0.1)
+    rw (c.exact_of.ensures, model_is, c.in-Model.is, c.seconds_to_terminal-tau.ensures, to_z-of_z c.ranges.mid_price, kept c.args.config.min_spread c.struct_told-1.given.1.1.1.1.1.1.0.1, kept c.in-Model.q c.in-Model.known_told-1-own.given.1.0.1)
 
 pub returns-in-Refused : goal.returns-in-Refused
 unfolding exact_quotes exact_answer exact_from exact_by
 returns-in-Refused c =
     let model_is : let a = c.args in exact_model a.mid_price a.inventory a.config a.volatility a.current_time ≡ c.exact.result = let r = c.ranges in
     rw (c.exact.ensures, to_z-of_z r.mid_price, to_z-of_z r.inventory, to_z-of_z r.volatility) in
-    let m = c in
-    let n = m in
-    rw (model_is, m.in-Refused.is)
+    rw (model_is, c.in-Refused.is)

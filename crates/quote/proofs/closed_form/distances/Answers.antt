@@ -19,18 +19,10 @@ returns-then-is_fine c =
     let slope-is : c.slope_of-c.result ≡ slope c.args.m = c.slope_of-c.ensures in
     let positive_is : positive (slope c.args.m) ≡ c.is_positive_finite.result = rw (c.is_positive_finite.ensures, slope-is) in
     let bound-is : let b = c.args.m.q_max in to_z w64 b ≡ pos b = to_z_pos w64 (omega (arith, c.struct_known-1.given.1.1.1.1.1.1.1.1.0)) in
-    let bid_is : let a = c.args in bid_form a.m a.q ≡ c.bid_of-bid.result = let k = c in
-    let p = k in
-    rw (c.bid_of-bid.ensures, c.nearest_i64_to_f64-qf.ensures, slope-is, bound-is, to_z-of_z p.ranges.q) in
+    let bid_is : let a = c.args in bid_form a.m a.q ≡ c.bid_of-bid.result = rw (c.bid_of-bid.ensures, c.nearest_i64_to_f64-qf.ensures, slope-is, bound-is, to_z-of_z c.ranges.q) in
     let minus-fits : SFits w64 (pos 0 -ℤ pos c.args.m.q_max) = omega (arith, minus_mag c.args.m.q_max, c.struct_known-1.given.1.1.1.1.1.1.1.1.0) in
-    let ask_is : let a = c.args in ask_form a.m a.q ≡ c.ask_of-ask.result = let f = c in
-    let k = f in
-    let p = k in
-    rw (c.ask_of-ask.ensures, f.nearest_i64_to_f64-qf.ensures, slope-is, bound-is, to_z-of_z p.ranges.q, to_z-of_z minus-fits, +ℤ_idl (neg_ℤ (pos p.args.m.q_max))) in
-    let f = c in
-    let a = f in
-    let k = a in
-    rw (positive_is, k.if-is_positive_finite.true, bid_is, ask_is, ← f.is_fine.ensures, ← c.is_fine-then-is_positive_finite.ensures, c.if-is_fine.true)
+    let ask_is : let a = c.args in ask_form a.m a.q ≡ c.ask_of-ask.result = rw (c.ask_of-ask.ensures, c.nearest_i64_to_f64-qf.ensures, slope-is, bound-is, to_z-of_z c.ranges.q, to_z-of_z minus-fits, +ℤ_idl (neg_ℤ (pos c.args.m.q_max))) in
+    rw (positive_is, c.if-is_positive_finite.true, bid_is, ask_is, ← c.is_fine.ensures, ← c.is_fine-then-is_positive_finite.ensures, c.if-is_fine.true)
 
 pub returns-else-is_fine : goal.returns-else-is_fine
 unfolding closed_form_distances form_if sides bid_form ask_form
@@ -38,18 +30,10 @@ returns-else-is_fine c =
     let slope-is : c.slope_of-c.result ≡ slope c.args.m = c.slope_of-c.ensures in
     let positive_is : positive (slope c.args.m) ≡ c.is_positive_finite.result = rw (c.is_positive_finite.ensures, slope-is) in
     let bound-is : let b = c.args.m.q_max in to_z w64 b ≡ pos b = to_z_pos w64 (omega (arith, c.struct_known-1.given.1.1.1.1.1.1.1.1.0)) in
-    let bid_is : let a = c.args in bid_form a.m a.q ≡ c.bid_of-bid.result = let k = c in
-    let p = k in
-    rw (c.bid_of-bid.ensures, c.nearest_i64_to_f64-qf.ensures, slope-is, bound-is, to_z-of_z p.ranges.q) in
+    let bid_is : let a = c.args in bid_form a.m a.q ≡ c.bid_of-bid.result = rw (c.bid_of-bid.ensures, c.nearest_i64_to_f64-qf.ensures, slope-is, bound-is, to_z-of_z c.ranges.q) in
     let minus-fits : SFits w64 (pos 0 -ℤ pos c.args.m.q_max) = omega (arith, minus_mag c.args.m.q_max, c.struct_known-1.given.1.1.1.1.1.1.1.1.0) in
-    let ask_is : let a = c.args in ask_form a.m a.q ≡ c.ask_of-ask.result = let f = c in
-    let k = f in
-    let p = k in
-    rw (c.ask_of-ask.ensures, f.nearest_i64_to_f64-qf.ensures, slope-is, bound-is, to_z-of_z p.ranges.q, to_z-of_z minus-fits, +ℤ_idl (neg_ℤ (pos p.args.m.q_max))) in
-    let f = c in
-    let a = f in
-    let k = a in
-    rw (positive_is, k.if-is_positive_finite.true, bid_is, ask_is, ← f.is_fine.ensures, ← c.is_fine-then-is_positive_finite.ensures, c.if-is_fine.false)
+    let ask_is : let a = c.args in ask_form a.m a.q ≡ c.ask_of-ask.result = rw (c.ask_of-ask.ensures, c.nearest_i64_to_f64-qf.ensures, slope-is, bound-is, to_z-of_z c.ranges.q, to_z-of_z minus-fits, +ℤ_idl (neg_ℤ (pos c.args.m.q_max))) in
+    rw (positive_is, c.if-is_positive_finite.true, bid_is, ask_is, ← c.is_fine.ensures, ← c.is_fine-then-is_positive_finite.ensures, c.if-is_fine.false)
 
 pub returns-else-is_positive_finite : goal.returns-else-is_positive_finite
 unfolding closed_form_distances form_if

@@ -10,17 +10,11 @@ unfolding desk_plan plan_from
 returns-in-Model c =
     let model_is : let a = c.args in exact_model a.mid_price a.inventory a.config a.volatility a.current_time ≡ c.exact.result = let r = c.ranges in
     rw (c.exact.ensures, to_z-of_z r.mid_price, to_z-of_z r.inventory, to_z-of_z r.volatility) in
-    let i = c in
-    let t = i in
-    let m = t in
-    let n = m in
-    rw (c.step_count.ensures, i.run_input.ensures, model_is, m.in-Model.is, t.seconds_to_terminal-tau.ensures, kept m.in-Model.q t.in-Model.known_told-1-own.given.1.0.1)
+    rw (c.step_count.ensures, c.run_input.ensures, model_is, c.in-Model.is, c.seconds_to_terminal-tau.ensures, kept c.in-Model.q c.in-Model.known_told-1-own.given.1.0.1)
 
 pub returns-in-Refused : goal.returns-in-Refused
 unfolding desk_plan plan_from
 returns-in-Refused c =
     let model_is : let a = c.args in exact_model a.mid_price a.inventory a.config a.volatility a.current_time ≡ c.exact.result = let r = c.ranges in
     rw (c.exact.ensures, to_z-of_z r.mid_price, to_z-of_z r.inventory, to_z-of_z r.volatility) in
-    let m = c in
-    let n = m in
-    rw (model_is, m.in-Refused.is)
+    rw (model_is, c.in-Refused.is)

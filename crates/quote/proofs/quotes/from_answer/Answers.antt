@@ -5,9 +5,7 @@ use Rattle.quote.proofs.quotes.from_answer.Goals as goal
 pub returns-in-Distances : goal.returns-in-Distances
 unfolding exact_by
 returns-in-Distances c =
-    let b = c in
-    let s = b in
-    rw (b.in-Distances.is, c.with_steps.ensures, b.build_quotes.ensures, to_z-of_z s.ranges.mid, to_z-of_z s.ranges.least)
+    rw (c.in-Distances.is, c.with_steps.ensures, c.build_quotes.ensures, to_z-of_z c.ranges.mid, to_z-of_z c.ranges.least)
 
 pub returns-in-OverCap : goal.returns-in-OverCap
 unfolding exact_by

@@ -15,9 +15,8 @@ unfolding from_if quotes_by_answer
 returns-then-amount_fits-2 c =
     let mid-is : amount_ok c.args.mid_price ≡ c.amount_fits.result = rw (c.amount_fits.ensures, to_z-of_z c.ranges.mid_price) in
     let least-is : amount_ok c.args.min_spread ≡ c.amount_fits-then-amount_fits.result = rw (c.amount_fits-then-amount_fits.ensures, to_z-of_z c.ranges.min_spread) in
-    let t = c in
-    let r = t.ranges in
-    rw (mid-is, t.if-amount_fits.true, least-is, t.if-amount_fits-2.true, c.from_answer.ensures, to_z-of_z r.mid_price, to_z-of_z r.min_spread)
+    let r = c.ranges in
+    rw (mid-is, c.if-amount_fits.true, least-is, c.if-amount_fits-2.true, c.from_answer.ensures, to_z-of_z r.mid_price, to_z-of_z r.min_spread)
 
 pub returns-else-amount_fits-2 : goal.returns-else-amount_fits-2
 unfolding from_if quotes_by_answer

@@ -1,4 +1,3 @@
--- `record::record::place_after` meets its contract. The loop's invariant: i numbers are passed. The measure is what is left of n. Assumes nothing.
 use Prim.Native.Nat.{◌-◌}
 use Rattle.record.specs.Inner.{NumberIs}
 use Rattle.record.proofs.Reading.{passed_none, passed_more, answer_refused, answer_taken}
@@ -13,16 +12,14 @@ read_number-requires c = c.loop-i.invariant.1.within
 pub returns-in-Refused : goal.returns-in-Refused
 unfolding NumberIs
 returns-in-Refused c =
-    let k = c in
-    let r = rw c.in-Refused.is at k.read_number.ensures in
-    answer_refused _ _ _ _ _ _ k.loop-i.invariant.1 _ k.loop-i-test.true r.0
+    let r = rw c.in-Refused.is at c.read_number.ensures in
+    answer_refused _ _ _ _ _ _ c.loop-i.invariant.1 _ c.loop-i-test.true r.0
 
 pub loop-i-preserved : goal.loop-i-preserved
 unfolding NumberIs
 loop-i-preserved c =
-    let k = c in
-    let r = rw c.in-Value.is at k.read_number.ensures in
-    (_, passed_more _ _ _ _ _ _ _ _ k.loop-i.invariant.1 k.loop-i-test.true r.0 r.1)
+    let r = rw c.in-Value.is at c.read_number.ensures in
+    (_, passed_more _ _ _ _ _ _ _ _ c.loop-i.invariant.1 c.loop-i-test.true r.0 r.1)
 
 pub returns : goal.returns
 returns c = answer_taken _ _ _ _ _ _ c.loop-i.invariant.1 c.loop-i-test.false

@@ -1,3 +1,4 @@
+-- `record::record::place_after` meets its contract. The loop's invariant: i numbers are passed. The measure is what is left of n. Assumes nothing.
 use Prim.Native.Nat.{◌-◌, ℕ}
 use mathlib.Core.List.{List}
 use Rattle.record.proofs.Reading.{Passed}

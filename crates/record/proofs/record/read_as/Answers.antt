@@ -14,17 +14,14 @@ read_taken flat s at v r next e k = rw (e, k)
 
 pub returns-in-Taken : goal.returns-in-Taken
 returns-in-Taken c =
-    let parts : let a = c.args in let v = c.take_numbers.new.out in (r : List ℕ) × (numbers fields (drop a.at a.sheet.now) ≡ taken v r) × (c.in-Taken.next ≡ length a.sheet.now - length r) = let w = c in
-    let d = w.place_in-start.ensures.1 in
-    let e = rw d at w.take_numbers.ensures in
+    let parts : let a = c.args in let v = c.take_numbers.new.out in (r : List ℕ) × (numbers fields (drop a.at a.sheet.now) ≡ taken v r) × (c.in-Taken.next ≡ length a.sheet.now - length r) = let d = c.place_in-start.ensures.1 in
+    let e = rw d at c.take_numbers.ensures in
     taken_parts _ _ _ _ (sym c.in-Taken.is ∙ e.value) e.stored in
-    let n = c in
     let p = parts in
-    rw (read_taken _ _ _ _ _ _ p.1 p.2, ← n.numbers_of.ensures, c.record_of_numbers.ensures)
+    rw (read_taken _ _ _ _ _ _ p.1 p.2, ← c.numbers_of.ensures, c.record_of_numbers.ensures)
 
 pub returns-in-Refused : goal.returns-in-Refused
 unfolding read_as record_from held_as
 returns-in-Refused c =
-    let w = c in
-    let d = w.place_in-start.ensures.1 in
-    rw (refused_parts _ _ _ (sym c.in-Refused.is ∙ rw d at w.take_numbers.ensures.value))
+    let d = c.place_in-start.ensures.1 in
+    rw (refused_parts _ _ _ (sym c.in-Refused.is ∙ rw d at c.take_numbers.ensures.value))

@@ -1,4 +1,3 @@
--- `record::record::read_number` meets its contract. The loop's invariant: the groups passed make the value. The measure is what is left of the most groups. Assumes nothing.
 use mathlib.Core.Path.{refl}
 use Prim.Native.Nat.{◌+◌, ◌-◌, ◌*◌, ◌^◌, ◌<◌}
 use native.Mathlib.Omega.{arith}
@@ -19,50 +18,42 @@ returns-then-i-s c =
 pub returns-then-groups-b : goal.returns-then-groups-b
 unfolding NumberIs
 returns-then-groups-b c =
-    let k = c in
-    (group_zero _ _ _ _ _ k.loop-groups.invariant k.loop-groups-test.true _ k.if-i-s.false refl c.if-b-lt128.true c.if-groups-b.true, omega arith)
+    (group_zero _ _ _ _ _ c.loop-groups.invariant c.loop-groups-test.true _ c.if-i-s.false refl c.if-b-lt128.true c.if-groups-b.true, omega arith)
 
 pub overflow_mul-result : goal.overflow_mul-result
 overflow_mul-result c =
-    let last_fits : c.loop-groups.value + c.wide.result * c.loop-groups.unit < 128 ^ most_groups = let k = c in
-    rw c.wide.ensures (group_fits _ _ _ _ _ k.loop-groups.invariant k.loop-groups-test.true _ (omega (arith, c.if-b-lt128.true))) in
+    let last_fits : c.loop-groups.value + c.wide.result * c.loop-groups.unit < 128 ^ most_groups = rw c.wide.ensures (group_fits _ _ _ _ _ c.loop-groups.invariant c.loop-groups-test.true _ (omega (arith, c.if-b-lt128.true))) in
     record { fits = omega (arith, last_fits) }
 
 pub overflow_add-result : goal.overflow_add-result
 overflow_add-result c =
-    let last_fits : c.loop-groups.value + c.wide.result * c.loop-groups.unit < 128 ^ most_groups = let k = c in
-    rw c.wide.ensures (group_fits _ _ _ _ _ k.loop-groups.invariant k.loop-groups-test.true _ (omega (arith, c.if-b-lt128.true))) in
+    let last_fits : c.loop-groups.value + c.wide.result * c.loop-groups.unit < 128 ^ most_groups = rw c.wide.ensures (group_fits _ _ _ _ _ c.loop-groups.invariant c.loop-groups-test.true _ (omega (arith, c.if-b-lt128.true))) in
     record { fits = omega (arith, last_fits) }
 
 pub returns-then-b-lt128 : goal.returns-then-b-lt128
 unfolding NumberIs
 returns-then-b-lt128 c =
-    let k = c in
     rw c.wide.ensures
-    (group_last _ _ _ _ _ k.loop-groups.invariant k.loop-groups-test.true _ k.if-i-s.false refl c.if-b-lt128.true c.if-groups-b.false, omega arith)
+    (group_last _ _ _ _ _ c.loop-groups.invariant c.loop-groups-test.true _ c.if-i-s.false refl c.if-b-lt128.true c.if-groups-b.false, omega arith)
 
 pub overflow_mul-value : goal.overflow_mul-value
 overflow_mul-value c =
-    let more-fits : c.loop-groups.value + c.wide-in-loop-groups.result * c.loop-groups.unit < 128 ^ most_groups = let k = c in
-    rw c.wide-in-loop-groups.ensures (group_fits _ _ _ _ _ k.loop-groups.invariant k.loop-groups-test.true _ (omega arith)) in
+    let more-fits : c.loop-groups.value + c.wide-in-loop-groups.result * c.loop-groups.unit < 128 ^ most_groups = rw c.wide-in-loop-groups.ensures (group_fits _ _ _ _ _ c.loop-groups.invariant c.loop-groups-test.true _ (omega arith)) in
     record { fits = omega (arith, more-fits) }
 
 pub overflow_add-value : goal.overflow_add-value
 overflow_add-value c =
-    let more-fits : c.loop-groups.value + c.wide-in-loop-groups.result * c.loop-groups.unit < 128 ^ most_groups = let k = c in
-    rw c.wide-in-loop-groups.ensures (group_fits _ _ _ _ _ k.loop-groups.invariant k.loop-groups-test.true _ (omega arith)) in
+    let more-fits : c.loop-groups.value + c.wide-in-loop-groups.result * c.loop-groups.unit < 128 ^ most_groups = rw c.wide-in-loop-groups.ensures (group_fits _ _ _ _ _ c.loop-groups.invariant c.loop-groups-test.true _ (omega arith)) in
     record { fits = omega (arith, more-fits) }
 
 pub overflow_mul-unit : goal.overflow_mul-unit
 overflow_mul-unit c =
-    let k = c in
-    omega (arith, unit_fits _ _ _ _ _ k.loop-groups.invariant k.loop-groups-test.true)
+    omega (arith, unit_fits _ _ _ _ _ c.loop-groups.invariant c.loop-groups-test.true)
 
 pub loop-groups-preserved : goal.loop-groups-preserved
 loop-groups-preserved c =
-    let k = c in
     rw c.wide-in-loop-groups.ensures
-    (group_more _ _ _ _ _ k.loop-groups.invariant k.loop-groups-test.true _ k.if-i-s.false refl c.if-b-lt128.false)
+    (group_more _ _ _ _ _ c.loop-groups.invariant c.loop-groups-test.true _ c.if-i-s.false refl c.if-b-lt128.false)
 
 pub returns : goal.returns
 unfolding NumberIs

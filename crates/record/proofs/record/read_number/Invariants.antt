@@ -1,3 +1,4 @@
+-- `record::record::read_number` meets its contract. The loop's invariant: the groups passed make the value. The measure is what is left of the most groups. Assumes nothing.
 use Prim.Native.Nat.{◌-◌}
 use Rattle.record.specs.Record.{most_groups}
 use Rattle.record.proofs.Reading.{Grouped}

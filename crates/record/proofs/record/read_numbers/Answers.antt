@@ -19,16 +19,12 @@ left_refused n x k out₀ e = rw (refused_parts n x k e)
 
 pub returns-in-Taken : goal.returns-in-Taken
 returns-in-Taken c =
-    let w = c in
-    let t = w in
-    let p = t in
-    let d = p.place_in-start.ensures.1 in
-    let e = rw d at w.take_numbers.ensures in
-    record { value = e.value; out_after = left-taken _ _ _ _ _ (sym t.in-Taken.is ∙ rw d at p.place_after.ensures) e.stored }
+    let d = c.place_in-start.ensures.1 in
+    let e = rw d at c.take_numbers.ensures in
+    record { value = e.value; out_after = left-taken _ _ _ _ _ (sym c.in-Taken.is ∙ rw d at c.place_after.ensures) e.stored }
 
 pub returns-in-Refused : goal.returns-in-Refused
 returns-in-Refused c =
-    let p = c in
-    let d = p.place_in-start.ensures.1 in
-    let e = sym c.in-Refused.is ∙ rw d at p.place_after.ensures in
+    let d = c.place_in-start.ensures.1 in
+    let e = sym c.in-Refused.is ∙ rw d at c.place_after.ensures in
     record { value = e; out_after = left_refused _ _ _ _ e }

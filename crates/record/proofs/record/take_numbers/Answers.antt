@@ -1,4 +1,3 @@
--- `record::record::take_numbers` meets its contract. The loop's invariant: the numbers passed are the first of the slice. The measure is what is left of its length. Assumes nothing.
 use mathlib.Core.Path.{refl, sym, ◌∙◌}
 use Prim.Native.Nat.{◌-◌}
 use native.Mathlib.Numerals.{add-one}
@@ -20,19 +19,17 @@ shape_of-out-in-Refused c = c.loop-i.invariant.1
 pub returns-in-Refused : goal.returns-in-Refused
 unfolding NumberIs Stored
 returns-in-Refused c =
-    let k = c in
-    let l = k.loop-i in
-    let r = rw c.in-Refused.is at k.read_number.ensures in
-    let h = rw l.invariant.1 at k.loop-i-test.true in
+    let l = c.loop-i in
+    let r = rw c.in-Refused.is at c.read_number.ensures in
+    let h = rw l.invariant.1 at c.loop-i-test.true in
     record { value = answer_refused _ _ _ _ _ _ l.invariant.0 _ h r.0; stored = rw (passed_refused _ _ _ _ _ _ l.invariant.0 _ h r.0) tt }
 
 pub loop-i-preserved : goal.loop-i-preserved
 unfolding NumberIs
 loop-i-preserved c =
-    let k = c in
-    let l = k.loop-i in
-    let r = rw c.in-Value.is at k.read_number.ensures in
-    let h = k.loop-i-test.true in
+    let l = c.loop-i in
+    let r = rw c.in-Value.is at c.read_number.ensures in
+    let h = c.loop-i-test.true in
     (rw (add-one l.i, take-suc-set l.out l.i _ h) (rw (add-one l.i) at (passed_more _ _ _ _ _ _ _ _ l.invariant.0 (rw l.invariant.1 at h) r.0 r.1)), length-set l.out l.i _ ∙ l.invariant.1)
 
 pub shape_of-out : goal.shape_of-out

@@ -1,3 +1,4 @@
+-- `record::record::take_numbers` meets its contract. The loop's invariant: the numbers passed are the first of the slice. The measure is what is left of its length. Assumes nothing.
 use mathlib.Core.Path.{◌≡◌}
 use Prim.Native.Nat.{◌-◌}
 use lib.ListN.{length, take}

@@ -11,7 +11,6 @@ use Rattle.record.proofs.save.can_save.Goals as goal
 pub returns : goal.returns
 unfolding save_ok record_ok time_ok
 returns c =
-    let l = c in
-    let r = l.args.r in
-    let g = l.struct_told-3-1.given in
-    rw (l.limits_fit.ensures, l.config_of.ensures, c.none_below.ensures, kept r.mid_price g.0.1, kept r.inventory g.1.0.1, kept r.volatility g.1.1.0.1, le-leb r.max_inventory_lots most_bound (omega (arith, c.struct_known-1.given.1.1.1.1.1.1.0)), and-true)
+    let r = c.args.r in
+    let g = c.struct_told-3-1.given in
+    rw (c.limits_fit.ensures, c.config_of.ensures, c.none_below.ensures, kept r.mid_price g.0.1, kept r.inventory g.1.0.1, kept r.volatility g.1.1.0.1, le-leb r.max_inventory_lots most_bound (omega (arith, c.struct_known-1.given.1.1.1.1.1.1.0)), and-true)

@@ -12,63 +12,60 @@ unfolding numbers_of
 overflow_cast-result c =
     let held : Bounds (numbers_of c.args.r) = limits_kept c.args.r c.requires in
     let above : NotBelow c.args.r = not_below c.args.r c.requires in
-    let s = c in casts s.args.r.mid_price above.mid held.mid
+    casts c.args.r.mid_price above.mid held.mid
 
 pub stored_of-requires : goal.stored_of-requires
 unfolding amount_ok
 stored_of-requires c =
-    let s = c in
-    let k = holding_kept s.args.r s.requires in
-    rw (same_bits s.args.r.inventory k) (le→leb (nat_abs s.args.r.inventory) amount_limit k)
+    let k = holding_kept c.args.r c.requires in
+    rw (same_bits c.args.r.inventory k) (le→leb (nat_abs c.args.r.inventory) amount_limit k)
 
 pub overflow_cast-result-2 : goal.overflow_cast-result-2
 unfolding numbers_of
 overflow_cast-result-2 c =
     let held : Bounds (numbers_of c.args.r) = limits_kept c.args.r c.requires in
     let above : NotBelow c.args.r = not_below c.args.r c.requires in
-    let s = c in casts s.args.r.volatility above.volatility held.volatility
+    casts c.args.r.volatility above.volatility held.volatility
 
 pub overflow_cast-result-3 : goal.overflow_cast-result-3
 unfolding numbers_of
 overflow_cast-result-3 c =
     let held : Bounds (numbers_of c.args.r) = limits_kept c.args.r c.requires in
     let above : NotBelow c.args.r = not_below c.args.r c.requires in
-    let s = c in casts s.args.r.risk_aversion above.risk held.risk
+    casts c.args.r.risk_aversion above.risk held.risk
 
 pub overflow_cast-result-4 : goal.overflow_cast-result-4
 unfolding numbers_of
 overflow_cast-result-4 c =
     let held : Bounds (numbers_of c.args.r) = limits_kept c.args.r c.requires in
     let above : NotBelow c.args.r = not_below c.args.r c.requires in
-    let s = c in casts s.args.r.order_intensity_k above.k held.k
+    casts c.args.r.order_intensity_k above.k held.k
 
 pub overflow_cast-result-5 : goal.overflow_cast-result-5
 unfolding numbers_of
 overflow_cast-result-5 c =
     let held : Bounds (numbers_of c.args.r) = limits_kept c.args.r c.requires in
     let above : NotBelow c.args.r = not_below c.args.r c.requires in
-    let s = c in casts s.args.r.intensity_scale_a above.scale held.scale
+    casts c.args.r.intensity_scale_a above.scale held.scale
 
 pub overflow_cast-result-7 : goal.overflow_cast-result-7
 unfolding numbers_of
 overflow_cast-result-7 c =
     let held : Bounds (numbers_of c.args.r) = limits_kept c.args.r c.requires in
     let above : NotBelow c.args.r = not_below c.args.r c.requires in
-    let s = c in casts s.args.r.lot_size above.lot held.lot
+    casts c.args.r.lot_size above.lot held.lot
 
 pub overflow_cast-result-8 : goal.overflow_cast-result-8
 unfolding numbers_of
 overflow_cast-result-8 c =
     let held : Bounds (numbers_of c.args.r) = limits_kept c.args.r c.requires in
     let above : NotBelow c.args.r = not_below c.args.r c.requires in
-    let s = c in casts s.args.r.min_spread above.spread held.spread
+    casts c.args.r.min_spread above.spread held.spread
 
 pub returns : goal.returns
 unfolding numbers_of
 returns c =
     let held : Bounds (numbers_of c.args.r) = limits_kept c.args.r c.requires in
-    let h = c in
-    let s = h in
-    let r = s.args.r in
+    let r = c.args.r in
     let k = held in
-    rw (same_bits r.mid_price k.mid, h.stored_of.ensures, same_bits r.inventory (holding_kept r s.requires), same_bits r.volatility k.volatility, same_bits r.risk_aversion k.risk, same_bits r.order_intensity_k k.k, same_bits r.intensity_scale_a k.scale, same_bits r.lot_size k.lot, same_bits r.min_spread k.spread)
+    rw (same_bits r.mid_price k.mid, c.stored_of.ensures, same_bits r.inventory (holding_kept r c.requires), same_bits r.volatility k.volatility, same_bits r.risk_aversion k.risk, same_bits r.order_intensity_k k.k, same_bits r.intensity_scale_a k.scale, same_bits r.lot_size k.lot, same_bits r.min_spread k.spread)

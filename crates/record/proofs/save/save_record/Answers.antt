@@ -22,24 +22,18 @@ pub write_numbers-requires : goal.write_numbers-requires
 unfolding record_bytes
 write_numbers-requires c =
     let can : T (save_ok c.args.r) = subst T (sym c.if-can_save.true ∙ c.can_save.ensures) tt in
-    let n = c in
-    let k = n in
-    rw n.numbers_of-v.ensures (record { v_len = numbers_eleven _; v_in_bounds = omega (arith, bytes_fit _ can) })
+    rw c.numbers_of-v.ensures (record { eleven = numbers_eleven _; room = omega (arith, bytes_fit _ can) })
 
 pub returns-then-can_save : goal.returns-then-can_save
 unfolding record_bytes
 returns-then-can_save c =
-    let w = c in
-    let n = w in
-    let e = n in
-    let a = e.args in
-    let k = saved_whole a.r a.out.now e.if-out-lt-RECORD_ROOM.false (sym n.can_save.ensures ∙ n.if-can_save.true) in
-    let i = n.numbers_of-v.ensures in
-    record { value = ap SaveAnswer.Saved (rw i at w.write_numbers.ensures.value) ∙ sym k.0; out_after = rw i at w.write_numbers.ensures.out_after ∙ sym k.1 }
+    let a = c.args in
+    let k = saved_whole a.r a.out.now c.if-out-lt-RECORD_ROOM.false (sym c.can_save.ensures ∙ c.if-can_save.true) in
+    let i = c.numbers_of-v.ensures in
+    record { value = ap SaveAnswer.Saved (rw i at c.write_numbers.ensures.value) ∙ sym k.0; out_after = rw i at c.write_numbers.ensures.out_after ∙ sym k.1 }
 
 pub returns : goal.returns
 returns c =
-    let e = c in
-    let a = e.args in
-    let k = saved_none a.r a.out.now e.if-out-lt-RECORD_ROOM.false (sym c.can_save.ensures ∙ c.if-can_save.false) in
+    let a = c.args in
+    let k = saved_none a.r a.out.now c.if-out-lt-RECORD_ROOM.false (sym c.can_save.ensures ∙ c.if-can_save.false) in
     record { value = sym k.0; out_after = sym k.1 }

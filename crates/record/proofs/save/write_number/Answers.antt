@@ -1,4 +1,3 @@
--- `record::save::write_number` meets its contract. The loop's invariant: the groups written and those of the rest are the number's. The measure is the rest. Assumes nothing.
 use mathlib.Core.Path.{◌∙◌}
 use native.Mathlib.Omega.{arith}
 use lib.ListN.{length-set}

@@ -1,3 +1,4 @@
+-- `record::save::write_number` meets its contract. The loop's invariant: the groups written and those of the rest are the number's. The measure is the rest. Assumes nothing.
 use Rattle.record.proofs.Groups.{Grouping}
 use Rattle.record.proofs.save.write_number.Given as goal
 

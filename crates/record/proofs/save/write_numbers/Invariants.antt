@@ -1,3 +1,4 @@
+-- `record::save::write_numbers` meets its contract. The loop's invariant: the first i numbers are written. The measure is what is left of eleven. Assumes nothing.
 use Prim.Native.Nat.{◌-◌}
 use Rattle.record.proofs.Saving.{Saving}
 use Rattle.record.proofs.save.write_numbers.Given as goal

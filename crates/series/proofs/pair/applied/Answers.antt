@@ -6,5 +6,4 @@ use Rattle.series.proofs.pair.applied.Goals as goal
 pub returns : goal.returns
 unfolding from before slice_row beside_at beside_of
 returns c =
-    let t = c in
-    rw (t.times-upper.ensures, t.times-either.ensures)
+    rw (c.times-upper.ensures, c.times-either.ensures)

@@ -23,8 +23,7 @@ loop-order-preserved c =
 pub returns : goal.returns
 unfolding series_over
 returns c =
-    let l = c in
-    let i = l.loop-order.invariant in
-    let op = l.args.op in
-    sym (ended true false (operator_of op) op.eta_dt l.loop-order.order l.loop-order.s.settled _ c.loop-order-test.false) ∙ i.2
-    ∙ ap (λ (s : SliceSum). more_terms 99 s.settled true false (operator_of op) op.eta_dt 2 s) l.first_pair-s.ensures
+    let i = c.loop-order.invariant in
+    let op = c.args.op in
+    sym (ended true false (operator_of op) op.eta_dt c.loop-order.order c.loop-order.s.settled _ c.loop-order-test.false) ∙ i.2
+    ∙ ap (λ (s : SliceSum). more_terms 99 s.settled true false (operator_of op) op.eta_dt 2 s) c.first_pair-s.ensures

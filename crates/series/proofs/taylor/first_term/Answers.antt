@@ -19,14 +19,12 @@ loop-i-init c = (omega arith, omega arith, omega arith, before_first _ 0 refl, f
 
 pub loop-i-preserved : goal.loop-i-preserved
 loop-i-preserved c =
-    let l = c in
-    let s = l in
-    let a = s.args in
+    let a = c.args in
     let v = a.v.now in
-    let k = l.loop-i.i in
-    let i = l.loop-i.invariant in
-    let here : at l.loop-i.v k ≡ at v k = ap (λ (m : List Float). at m k) i.5 ∙ at_filled _ v k k (le_refl k) in
-    let above : at l.loop-i.v (k + 1) ≡ at v (k + 1) = ap (λ (m : List Float). at m (k + 1)) i.5 ∙ at_filled _ v k (k + 1) (omega arith) in
+    let k = c.loop-i.i in
+    let i = c.loop-i.invariant in
+    let here : at c.loop-i.v k ≡ at v k = ap (λ (m : List Float). at m k) i.5 ∙ at_filled _ v k k (le_refl k) in
+    let above : at c.loop-i.v (k + 1) ≡ at v (k + 1) = ap (λ (m : List Float). at m (k + 1)) i.5 ∙ at_filled _ v k (k + 1) (omega arith) in
     let t : c.row_at-t.result ≡ row a.half v a.diag.now a.eta_dt a.left.now a.right.now k =
     row_through a.half false _ a.eta_dt v k _ _ _ (omega arith) i.3 refl (never_plain (ltb 0 k)) (rw (here, above) at c.row_at-t.ensures) in
     let up : k ≡ k + 1 - 1 = omega arith in (
@@ -49,15 +47,12 @@ shape_of-out c = simp length-set (omega arith)
 
 pub returns : goal.returns
 returns c =
-    let q = c in
-    let l = q in
-    let s = l in
-    let a = s.args in
+    let a = c.args in
     let v = a.v.now in
-    let k = l.loop-i.i in
-    let i = l.loop-i.invariant in
-    let here : at l.loop-i.v k ≡ at v k = ap (λ (m : List Float). at m k) i.5 ∙ at_filled _ v k k (le_refl k) in
-    let t : q.last_row-t.result ≡ row a.half v a.diag.now a.eta_dt a.left.now a.right.now k =
-    row_last a.half false _ a.eta_dt v k _ _ (omega arith) i.3 (rw here at q.last_row-t.ensures) in
+    let k = c.loop-i.i in
+    let i = c.loop-i.invariant in
+    let here : at c.loop-i.v k ≡ at v k = ap (λ (m : List Float). at m k) i.5 ∙ at_filled _ v k k (le_refl k) in
+    let t : c.last_row-t.result ≡ row a.half v a.diag.now a.eta_dt a.left.now a.right.now k =
+    row_last a.half false _ a.eta_dt v k _ _ (omega arith) i.3 (rw here at c.last_row-t.ensures) in
     first_made a.half false _ a.eta_dt v _ _ _ (stored_last _ _ _ k k (length v) _ (omega arith) refl (omega arith) i.4 t) (stored_last _ v _ k k (length v) _ (omega arith) refl refl i.5 (rw (here, t)))
     (c.has_converged.ensures ∙ converged_at _ _ _ _ (simp length-set i.1))

@@ -17,24 +17,21 @@ use Rattle.series.proofs.taylor.next_term.Goals as goal
 
 pub loop-i-init : goal.loop-i-init
 loop-i-init c =
-    let s = c in
-    let p = s.requires in
-    let x = s.args.x.now in
-    let some : 0 < length x = le_trans (lit≤ tt) p.in_bounds in
-    (le_refl 1, p.in_bounds, refl, p.sizes.term_n, before_later x 1 (le_refl 1), later_one _ x some, later_one _ s.args.v.now (rw p.sizes.term_n some))
+    let p = c.requires in
+    let x = c.args.x.now in
+    let some : 0 < length x = le_trans (lit≤ tt) p.two_rows in
+    (le_refl 1, p.two_rows, refl, p.sizes.term_n, before_later x 1 (le_refl 1), later_one _ x some, later_one _ c.args.v.now (rw p.sizes.term_n some))
 
 pub loop-i-preserved : goal.loop-i-preserved
 loop-i-preserved c =
-    let l = c in
-    let s = l in
-    let a = s.args in
+    let a = c.args in
     let x = a.x.now in
-    let k = l.loop-i.i in
-    let i = l.loop-i.invariant in
-    let here : at l.loop-i.x k ≡ at x k = ap (λ (m : List Float). at m k) i.5 ∙ at_filled _ x k k (le_refl k) in
-    let above : at l.loop-i.x (k + 1) ≡ at x (k + 1) = ap (λ (m : List Float). at m (k + 1)) i.5 ∙ at_filled _ x k (k + 1) (omega arith) in
-    let sum : at l.loop-i.v k ≡ at a.v.now k = ap (λ (m : List Float). at m k) i.6 ∙ at_filled _ _ k k (le_refl k) in
-    let t : a.eta_dt ⊗ c.beside-beside.result ⊖ at a.diag.now k ⊗ at l.loop-i.x k ≡ row a.half a.plain x a.diag.now a.eta_dt a.left.now a.right.now k =
+    let k = c.loop-i.i in
+    let i = c.loop-i.invariant in
+    let here : at c.loop-i.x k ≡ at x k = ap (λ (m : List Float). at m k) i.5 ∙ at_filled _ x k k (le_refl k) in
+    let above : at c.loop-i.x (k + 1) ≡ at x (k + 1) = ap (λ (m : List Float). at m (k + 1)) i.5 ∙ at_filled _ x k (k + 1) (omega arith) in
+    let sum : at c.loop-i.v k ≡ at a.v.now k = ap (λ (m : List Float). at m k) i.6 ∙ at_filled _ _ k k (le_refl k) in
+    let t : a.eta_dt ⊗ c.beside-beside.result ⊖ at a.diag.now k ⊗ at c.loop-i.x k ≡ row a.half a.plain x a.diag.now a.eta_dt a.left.now a.right.now k =
     row_inner a.half a.plain _ a.eta_dt x k _ _ _ _ i.0 (omega arith) i.4 above c.beside-beside.ensures (ap (λ (z : Float). a.eta_dt ⊗ c.beside-beside.result ⊖ at a.diag.now k ⊗ z) here) in
     let up : k ≡ k + 1 - 1 = omega arith in (
       omega arith,
@@ -66,25 +63,22 @@ shape_of-v c = simp length-set (omega arith)
 
 pub returns : goal.returns
 returns c =
-    let q = c in
-    let l = q in
-    let s = l in
-    let a = s.args in
-    let p = s.requires in
+    let a = c.args in
+    let p = c.requires in
     let x = a.x.now in
     let v = a.v.now in
     let n = length x in
-    let k = l.loop-i.i in
-    let i = l.loop-i.invariant in
+    let k = c.loop-i.i in
+    let i = c.loop-i.invariant in
     let inv = 1ᶠ ⊘ whole (pos a.order) in
     let f = entry a.half a.plain x a.diag.now a.eta_dt a.left.now a.right.now inv in
-    let some : 0 < n = le_trans (lit≤ tt) p.in_bounds in
-    let here : at l.loop-i.x k ≡ at x k = ap (λ (m : List Float). at m k) i.5 ∙ at_filled _ x k k (le_refl k) in
-    let sum : at l.loop-i.v k ≡ at v k = ap (λ (m : List Float). at m k) i.6 ∙ at_filled _ _ k k (le_refl k) in
-    let first : l.row_at.result ≡ row a.half a.plain x a.diag.now a.eta_dt a.left.now a.right.now 0 =
-    row_through a.half a.plain _ a.eta_dt x 0 _ _ _ p.in_bounds (before_first x 0 refl) refl refl l.row_at.ensures in
-    let last : q.last_row.result ≡ row a.half a.plain x a.diag.now a.eta_dt a.left.now a.right.now k =
-    row_last a.half a.plain _ a.eta_dt x k _ _ (omega arith) i.4 (rw here at q.last_row.ensures) in
+    let some : 0 < n = le_trans (lit≤ tt) p.two_rows in
+    let here : at c.loop-i.x k ≡ at x k = ap (λ (m : List Float). at m k) i.5 ∙ at_filled _ x k k (le_refl k) in
+    let sum : at c.loop-i.v k ≡ at v k = ap (λ (m : List Float). at m k) i.6 ∙ at_filled _ _ k k (le_refl k) in
+    let first : c.row_at.result ≡ row a.half a.plain x a.diag.now a.eta_dt a.left.now a.right.now 0 =
+    row_through a.half a.plain _ a.eta_dt x 0 _ _ _ p.two_rows (before_first x 0 refl) refl refl c.row_at.ensures in
+    let last : c.last_row.result ≡ row a.half a.plain x a.diag.now a.eta_dt a.left.now a.right.now k =
+    row_last a.half a.plain _ a.eta_dt x k _ _ (omega arith) i.4 (rw here at c.last_row.ensures) in
     let terms = stored_last (later f x) x _ k k n _ (omega arith) refl refl i.5 (ap (λ (y : Float). y ⊗ inv) last ∙ later_is f x k i.0) in
     let sums = stored_last (later (λ j. at v j ⊕ f j) v) v _ k k n _ (omega arith) refl p.sizes.term_n i.6 (ap₂ (λ (y z : Float). y ⊕ z ⊗ inv) sum last ∙ later_is (λ j. at v j ⊕ f j) v k i.0) in
     term_made a.half a.plain _ a.eta_dt a.order x v _ _ _

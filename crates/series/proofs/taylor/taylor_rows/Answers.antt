@@ -8,23 +8,21 @@ use Rattle.series.proofs.Slices.{one_more, ended, goes_on}
 use Rattle.series.proofs.taylor.taylor_rows.Goals as goal
 
 pub first_term-settled-requires : goal.first_term-settled-requires
-first_term-settled-requires c = record { in_bounds = c.requires.in_bounds; sizes = c.requires.sizes }
+first_term-settled-requires c = record { two_rows = c.requires.two_rows; sizes = c.requires.sizes }
 
 pub loop-order-init : goal.loop-order-init
 loop-order-init c =
     let f = c.first_term-settled in
-    let s = c in
-    let long = f.auto.out ∙ s.requires.sizes.term_n in
+    let long = f.auto.out ∙ c.requires.sizes.term_n in
     (omega arith, omega arith, refl, long ∙ sym f.auto.v, refl)
 
 pub next_term-settled-requires : goal.next_term-settled-requires
 next_term-settled-requires c =
-    let l = c in
-    let i = l.loop-order.invariant in
-    let k = l.first_term-settled.auto.v in
-    let p = l.requires in
+    let i = c.loop-order.invariant in
+    let k = c.first_term-settled.auto.v in
+    let p = c.requires in
     let z = p.sizes in
-    rw (i.3 ∙ k) (record { in_bounds = p.in_bounds; sizes = record { diag_n = z.diag_n; left_n = z.left_n; right_n = z.right_n; term_n = i.2 ∙ k } })
+    rw (i.3 ∙ k) (record { two_rows = p.two_rows; sizes = record { diag_n = z.diag_n; left_n = z.left_n; right_n = z.right_n; term_n = i.2 ∙ k } })
 
 pub loop-order-smaller : goal.loop-order-smaller
 loop-order-smaller c =
@@ -46,18 +44,17 @@ loop-order-preserved c =
     )
 
 pub shape_of-v : goal.shape_of-v
-shape_of-v c = let l = c in l.loop-order.invariant.2 ∙ l.first_term-settled.auto.v
+shape_of-v c = c.loop-order.invariant.2 ∙ c.first_term-settled.auto.v
 
 pub shape_of-term : goal.shape_of-term
-shape_of-term c = let l = c in l.loop-order.invariant.3 ∙ l.first_term-settled.auto.v ∙ sym l.requires.sizes.term_n
+shape_of-term c = c.loop-order.invariant.3 ∙ c.first_term-settled.auto.v ∙ sym c.requires.sizes.term_n
 
 pub returns : goal.returns
 unfolding series_over
 returns c =
-    let l = c in
-    let i = l.loop-order.invariant in
-    let f = l.first_term-settled in
-    let a = l.args in
+    let i = c.loop-order.invariant in
+    let f = c.first_term-settled in
+    let a = c.args in
     let p = operator_over (length a.v.now) a.diag.now a.left.now a.right.now in
     let first = ap (λ (s : SliceSum). more_terms 99 s.settled a.half a.plain p a.eta_dt 2 s) f.ensures in
-    sym (ended a.half a.plain p a.eta_dt l.loop-order.order l.loop-order.settled _ c.loop-order-test.false) ∙ (rw f.auto.v at i.4) ∙ first
+    sym (ended a.half a.plain p a.eta_dt c.loop-order.order c.loop-order.settled _ c.loop-order-test.false) ∙ (rw f.auto.v at i.4) ∙ first

@@ -16,17 +16,15 @@ pub taylor_pair-requires : goal.taylor_pair-requires
 taylor_pair-requires c =
     let fitting : let a = c.args in step_fits a.v.now a.diag.now a.left.now a.right.now a.term.now ≡ true = sym c.step_fits.ensures ∙ c.if-not-step_fits.false in
     let sizes : let a = c.args in (2 ≤ length a.v.now) × Sizes (length a.v.now) a.diag.now a.left.now a.right.now a.term.now = let a = c.args in step_sizes a.v.now a.diag.now a.left.now a.right.now a.term.now fitting in
-    let e = c in
     let z = sizes.1 in
-    let two : length e.args.v.now ≡ 2 = c.if-v-eq2.true in
+    let two : length c.args.v.now ≡ 2 = c.if-v-eq2.true in
     (two, z.diag_n ∙ two, z.left_n ∙ two, z.right_n ∙ two, z.term_n ∙ two)
 
 pub returns-then-v-eq2 : goal.returns-then-v-eq2
 unfolding step_if
 returns-then-v-eq2 c =
     let fitting : let a = c.args in step_fits a.v.now a.diag.now a.left.now a.right.now a.term.now ≡ true = sym c.step_fits.ensures ∙ c.if-not-step_fits.false in
-    let e = c in
-    let a = e.args in
+    let a = c.args in
     let two : length a.v.now ≡ 2 = c.if-v-eq2.true in
     let half : a.half ≡ true = c.if-half.true in
     rw (fitting, half, two) (c.taylor_pair.ensures ∙ same_series a.diag.now a.left.now a.right.now a.eta_dt a.plain a.v.now)
@@ -36,7 +34,7 @@ taylor_rows-requires c =
     let p = let fitting : let a = c.args in step_fits a.v.now a.diag.now a.left.now a.right.now a.term.now ≡ true = sym c.step_fits.ensures ∙ c.if-not-step_fits.false in
     let sizes : let a = c.args in (2 ≤ length a.v.now) × Sizes (length a.v.now) a.diag.now a.left.now a.right.now a.term.now = let a = c.args in step_sizes a.v.now a.diag.now a.left.now a.right.now a.term.now fitting in
     sizes in
-    record { in_bounds = p.0; sizes = p.1 }
+    record { two_rows = p.0; sizes = p.1 }
 
 pub returns : goal.returns
 unfolding step_if

@@ -1,4 +1,3 @@
--- `sheet::fill::fill_texts` meets its contract. The loop's invariant: the bytes passed are the texts so far. The measure is what is left of the sheet, which each text makes less. Assumes nothing.
 use mathlib.Core.Path.{sym, ◌∙◌}
 use Prim.Native.Nat.{◌+◌, ◌-◌, ◌<◌, ◌≤◌}
 use native.Mathlib.Omega.{arith}
@@ -16,9 +15,8 @@ returns-then-out-lt-LEAST_ROOM c =
 
 pub returns-then-out-room : goal.returns-then-out-room
 returns-then-out-room c =
-    let e = c in
-    let a = e.args in
-    let p = short_fill a.kind a.sheet.now a.at a.out.now e.if-out-lt-LEAST_ROOM.false (omega (arith, c.if-out-room.true, c.room_of-room.ensures)) in record { value = p.0; out_after = p.1 }
+    let a = c.args in
+    let p = short_fill a.kind a.sheet.now a.at a.out.now c.if-out-lt-LEAST_ROOM.false (omega (arith, c.if-out-room.true, c.room_of-room.ensures)) in record { value = p.0; out_after = p.1 }
 
 pub loop-out-init : goal.loop-out-init
 loop-out-init c = filling_none _ _ _ _
@@ -38,41 +36,32 @@ slice_bounds-next_text-start c =
 
 pub shape_of-out-in_default : goal.shape_of-out-in_default
 shape_of-out-in_default c =
-    let w = c in
-    let l = w.loop-out in
-    same_len_mid l.n (length l.out - l.n) l.out w.next_text.new.out w.next_text.auto.out ∙ filling_length _ _ _ _ _ _ _ l.invariant
+    let l = c.loop-out in
+    same_len_mid l.n (length l.out - l.n) l.out c.next_text.new.out c.next_text.auto.out ∙ filling_length _ _ _ _ _ _ _ l.invariant
 
 pub returns-in_default : goal.returns-in_default
 returns-in_default c =
     let room : room_of c.args.kind ≤ length c.loop-out.out - c.loop-out.n = omega (arith, c.loop-out-test, c.room_of-room.ensures) in
     let rooms : let a = c.args in (least_room ≤ length a.out.now) × (room_of a.kind ≤ length a.out.now) = (c.if-out-lt-LEAST_ROOM.false, omega (arith, c.if-out-room.false, c.room_of-room.ensures)) in
-    let w = c in
-    let l = w in
     let h = rooms in
-    let p = filling_end _ _ _ _ _ _ _ l.loop-out.invariant _ _ h.0 h.1 room c.in_default.not-Written w.next_text.ensures.value w.next_text.ensures.out_after in record { value = p.0; out_after = p.1 }
+    let p = filling_end _ _ _ _ _ _ _ c.loop-out.invariant _ _ h.0 h.1 room c.in_default.not-Written c.next_text.ensures.value c.next_text.ensures.out_after in record { value = p.0; out_after = p.1 }
 
 pub overflow_add-n : goal.overflow_add-n
 overflow_add-n c =
     let room : room_of c.args.kind ≤ length c.loop-out.out - c.loop-out.n = omega (arith, c.loop-out-test, c.room_of-room.ensures) in
-    let more : let w = c in let l = w in let a = l.args in (l.loop-out.n + c.in-Written.k ≤ length a.out.now) × (l.loop-out.next < c.in-Written.place) × (c.in-Written.place ≤ length a.sheet.now) × Filling a.kind a.sheet.now a.at a.out.now (put_mid l.loop-out.n (length l.loop-out.out - l.loop-out.n) l.loop-out.out w.next_text.new.out) (l.loop-out.n + c.in-Written.k) c.in-Written.place = let w = c in
-    let l = w in
-    text_added _ _ _ _ _ _ _ l.loop-out.invariant _ _ _ _ room (sym c.in-Written.is ∙ w.next_text.ensures.value) w.next_text.ensures.out_after in
+    let more : let a = c.args in (c.loop-out.n + c.in-Written.k ≤ length a.out.now) × (c.loop-out.next < c.in-Written.place) × (c.in-Written.place ≤ length a.sheet.now) × Filling a.kind a.sheet.now a.at a.out.now (put_mid c.loop-out.n (length c.loop-out.out - c.loop-out.n) c.loop-out.out c.next_text.new.out) (c.loop-out.n + c.in-Written.k) c.in-Written.place = text_added _ _ _ _ _ _ _ c.loop-out.invariant _ _ _ _ room (sym c.in-Written.is ∙ c.next_text.ensures.value) c.next_text.ensures.out_after in
     omega (arith, more.0)
 
 pub loop-out-smaller : goal.loop-out-smaller
 loop-out-smaller c =
     let room : room_of c.args.kind ≤ length c.loop-out.out - c.loop-out.n = omega (arith, c.loop-out-test, c.room_of-room.ensures) in
-    let more : let w = c in let l = w in let a = l.args in (l.loop-out.n + c.in-Written.k ≤ length a.out.now) × (l.loop-out.next < c.in-Written.place) × (c.in-Written.place ≤ length a.sheet.now) × Filling a.kind a.sheet.now a.at a.out.now (put_mid l.loop-out.n (length l.loop-out.out - l.loop-out.n) l.loop-out.out w.next_text.new.out) (l.loop-out.n + c.in-Written.k) c.in-Written.place = let w = c in
-    let l = w in
-    text_added _ _ _ _ _ _ _ l.loop-out.invariant _ _ _ _ room (sym c.in-Written.is ∙ w.next_text.ensures.value) w.next_text.ensures.out_after in
+    let more : let a = c.args in (c.loop-out.n + c.in-Written.k ≤ length a.out.now) × (c.loop-out.next < c.in-Written.place) × (c.in-Written.place ≤ length a.sheet.now) × Filling a.kind a.sheet.now a.at a.out.now (put_mid c.loop-out.n (length c.loop-out.out - c.loop-out.n) c.loop-out.out c.next_text.new.out) (c.loop-out.n + c.in-Written.k) c.in-Written.place = text_added _ _ _ _ _ _ _ c.loop-out.invariant _ _ _ _ room (sym c.in-Written.is ∙ c.next_text.ensures.value) c.next_text.ensures.out_after in
     let m = more in omega (arith, m.1, m.2)
 
 pub loop-out-preserved : goal.loop-out-preserved
 loop-out-preserved c =
     let room : room_of c.args.kind ≤ length c.loop-out.out - c.loop-out.n = omega (arith, c.loop-out-test, c.room_of-room.ensures) in
-    let more : let w = c in let l = w in let a = l.args in (l.loop-out.n + c.in-Written.k ≤ length a.out.now) × (l.loop-out.next < c.in-Written.place) × (c.in-Written.place ≤ length a.sheet.now) × Filling a.kind a.sheet.now a.at a.out.now (put_mid l.loop-out.n (length l.loop-out.out - l.loop-out.n) l.loop-out.out w.next_text.new.out) (l.loop-out.n + c.in-Written.k) c.in-Written.place = let w = c in
-    let l = w in
-    text_added _ _ _ _ _ _ _ l.loop-out.invariant _ _ _ _ room (sym c.in-Written.is ∙ w.next_text.ensures.value) w.next_text.ensures.out_after in
+    let more : let a = c.args in (c.loop-out.n + c.in-Written.k ≤ length a.out.now) × (c.loop-out.next < c.in-Written.place) × (c.in-Written.place ≤ length a.sheet.now) × Filling a.kind a.sheet.now a.at a.out.now (put_mid c.loop-out.n (length c.loop-out.out - c.loop-out.n) c.loop-out.out c.next_text.new.out) (c.loop-out.n + c.in-Written.k) c.in-Written.place = text_added _ _ _ _ _ _ _ c.loop-out.invariant _ _ _ _ room (sym c.in-Written.is ∙ c.next_text.ensures.value) c.next_text.ensures.out_after in
     more.3
 
 pub shape_of-out : goal.shape_of-out
@@ -81,6 +70,5 @@ shape_of-out c = filling_length _ _ _ _ _ _ _ c.loop-out.invariant
 pub returns : goal.returns
 returns c =
     let rooms : let a = c.args in (least_room ≤ length a.out.now) × (room_of a.kind ≤ length a.out.now) = (c.if-out-lt-LEAST_ROOM.false, omega (arith, c.if-out-room.false, c.room_of-room.ensures)) in
-    let l = c in
     let h = rooms in
-    let p = filling_full _ _ _ _ _ _ _ l.loop-out.invariant h.0 h.1 (omega (arith, c.loop-out-test, l.room_of-room.ensures)) in record { value = p.0; out_after = p.1 }
+    let p = filling_full _ _ _ _ _ _ _ c.loop-out.invariant h.0 h.1 (omega (arith, c.loop-out-test, c.room_of-room.ensures)) in record { value = p.0; out_after = p.1 }

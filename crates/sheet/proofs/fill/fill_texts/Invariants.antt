@@ -1,3 +1,4 @@
+-- `sheet::fill::fill_texts` meets its contract. The loop's invariant: the bytes passed are the texts so far. The measure is what is left of the sheet, which each text makes less. Assumes nothing.
 use Prim.Native.Nat.{◌-◌}
 use lib.ListN.{length}
 use Rattle.sheet.proofs.Filling.{Filling}

@@ -1,4 +1,4 @@
--- `sheet::plan::write_record_plan` meets its contract: the plan is the definition's. Assumes nothing.
+-- `sheet::horizon::write_record_plan` meets its contract: the plan is the definition's. Assumes nothing.
 use mathlib.Core.Path.{◌≡◌}
 use Rattle.amounts.proofs.Limits.{kept}
 use Rattle.sheet.specs.Horizon.{plan_of, record_plan}

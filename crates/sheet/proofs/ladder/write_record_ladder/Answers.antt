@@ -21,8 +21,7 @@ returns-then-number-eq-SMALL_LADDER_BUFFER c =
     let g = c.struct_told-2-1.given in
     (rw (c.config_of.ensures, kept r.mid_price g.0.1, kept r.volatility g.1.1.0.1) at c.write_ladder.ensures.value, rw (c.config_of.ensures, kept r.mid_price g.0.1, kept r.volatility g.1.1.0.1) at c.write_ladder.ensures.out_after) in
     let unchanged : (n : ℕ) → c.write_ladder.result ≡ LadderAnswer.Refused n → let a = c.args in (c.write_ladder.new.out ≡ a.out.now) × (record_ladder (length a.out.now) a.r ≡ refused_by (eqb n small_ladder_buffer) n) = λ n e. let o = answered in left_refused _ _ _ n (sym e ∙ o.0) o.1 in
-    let k = c in
-    let u = unchanged _ k.in-Refused.is in
+    let u = unchanged _ c.in-Refused.is in
     rw (u.1, eq-eqb _ small_ladder_buffer c.if-number-eq-SMALL_LADDER_BUFFER.true) (record { value = refl; out_after = u.0 })
 
 pub returns-in-Written : goal.returns-in-Written
@@ -31,7 +30,6 @@ returns-in-Written c =
     let answered : let a = c.args in let r = a.r in (c.write_ladder.result ≡ laddered r.mid_price (config_of r) r.volatility r.current_time a.out.now) × (c.write_ladder.new.out ≡ laddered_in r.mid_price (config_of r) r.volatility r.current_time a.out.now) = let r = c.args.r in
     let g = c.struct_told-2-1.given in
     (rw (c.config_of.ensures, kept r.mid_price g.0.1, kept r.volatility g.1.1.0.1) at c.write_ladder.ensures.value, rw (c.config_of.ensures, kept r.mid_price g.0.1, kept r.volatility g.1.1.0.1) at c.write_ladder.ensures.out_after) in
-    let w = c in
     let o = answered in
     let p = text_written _ _ _ _ (sym c.in-Written.is ∙ o.0) o.1 in record { value = p.0; out_after = p.1 }
 
@@ -42,10 +40,5 @@ returns-else-number-eq-SMALL_LADDER_BUFFER c =
     let g = c.struct_told-2-1.given in
     (rw (c.config_of.ensures, kept r.mid_price g.0.1, kept r.volatility g.1.1.0.1) at c.write_ladder.ensures.value, rw (c.config_of.ensures, kept r.mid_price g.0.1, kept r.volatility g.1.1.0.1) at c.write_ladder.ensures.out_after) in
     let unchanged : (n : ℕ) → c.write_ladder.result ≡ LadderAnswer.Refused n → let a = c.args in (c.write_ladder.new.out ≡ a.out.now) × (record_ladder (length a.out.now) a.r ≡ refused_by (eqb n small_ladder_buffer) n) = λ n e. let o = answered in left_refused _ _ _ n (sym e ∙ o.0) o.1 in
-    let w = c in
-    let e = w in
-    let k = e in
-    let l = k in
-    let s = l in
-    let u = unchanged _ k.in-Refused.is in
-    rw (u.1, ne_eqb _ small_ladder_buffer e.if-number-eq-SMALL_LADDER_BUFFER.false, ← line_is (refusal_line k.in-Refused.number) s.args.out.now s.requires) (let p = rw u.0 at w.write_refusal.ensures in record { value = p.value; out_after = p.line_after })
+    let u = unchanged _ c.in-Refused.is in
+    rw (u.1, ne_eqb _ small_ladder_buffer c.if-number-eq-SMALL_LADDER_BUFFER.false, ← line_is (refusal_line c.in-Refused.number) c.args.out.now c.requires) (let p = rw u.0 at c.write_refusal.ensures in record { value = p.value; out_after = p.line_after })

@@ -7,12 +7,10 @@ use Rattle.table.proofs.rows.answer_of_row.Goals as goal
 
 pub overflow_cast-table : goal.overflow_cast-table
 overflow_cast-table c =
-    let s = c in
-    let t = s.args.table.now in
-    rw (first_is t s.args.r _ c.row_at-at.ensures s.requires.0 s.requires.1) (omega (arith, (row_passed t s.args.r s.requires.2).steps))
+    let t = c.args.table.now in
+    rw (first_is t c.args.r _ c.row_at-at.ensures c.requires.0 c.requires.1) (omega (arith, (row_passed t c.args.r c.requires.2).steps))
 
 pub returns : goal.returns
 returns c =
-    let s = c in
-    let a = s.args in
-    rw (c.answer_in_bits.ensures, to_z-of_z s.ranges.q) (row_read a.table.now a.r _ c.row_at-at.ensures s.requires.0 s.requires.1 a.k a.base a.q)
+    let a = c.args in
+    rw (c.answer_in_bits.ensures, to_z-of_z c.ranges.q) (row_read a.table.now a.r _ c.row_at-at.ensures c.requires.0 c.requires.1 a.k a.base a.q)

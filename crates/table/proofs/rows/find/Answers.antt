@@ -1,4 +1,3 @@
--- `table::rows::find` meets its contract. The loop's invariant: the first row that agrees is the first from row r on. Assumes nothing.
 use mathlib.Core.Path.{sym, ◌∙◌}
 use Prim.Native.Nat.{◌-◌}
 use native.Mathlib.Omega.{arith}

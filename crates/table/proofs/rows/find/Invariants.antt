@@ -1,3 +1,4 @@
+-- `table::rows::find` meets its contract. The loop's invariant: the first row that agrees is the first from row r on. Assumes nothing.
 use mathlib.Core.Path.{◌≡◌}
 use Prim.Native.Nat.{◌-◌, ◌≤◌}
 use Rattle.table.specs.Table.{agrees, first_from, found}

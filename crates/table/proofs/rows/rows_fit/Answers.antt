@@ -1,4 +1,3 @@
--- `table::rows::rows_fit` meets its contract. The loop's invariant: each row so far passes. Assumes nothing.
 use mathlib.Core.Path.{sym, ◌∙◌}
 use mathlib.Core.Bool.{true}
 use Prim.Native.Nat.{◌-◌}

@@ -1,3 +1,4 @@
+-- `table::rows::rows_fit` meets its contract. The loop's invariant: each row so far passes. Assumes nothing.
 use mathlib.Core.Path.{◌≡◌}
 use mathlib.Core.Bool.{true}
 use Prim.Native.Nat.{◌-◌, ◌≤◌}

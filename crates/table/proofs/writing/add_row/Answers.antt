@@ -17,6 +17,5 @@ shape_of-table c = c.table-1.given.1 ∙ simp length-set
 
 pub returns : goal.returns
 returns c =
-    let s = c in
     let w = c.write_row in
-    row_put s.args.input s.args.steps (lent s.args.n s.args.w.now s.args.o.now) s.args.table.now w.new.row _ _ _ c.row_at-at.ensures c.one_more.ensures c.row_after.ensures s.requires.2 s.requires.3 w.ensures
+    row_put c.args.input c.args.steps (lent c.args.n c.args.w.now c.args.o.now) c.args.table.now w.new.row _ _ _ c.row_at-at.ensures c.one_more.ensures c.row_after.ensures c.requires.2 c.requires.3 w.ensures

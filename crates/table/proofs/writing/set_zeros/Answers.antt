@@ -1,4 +1,3 @@
--- `table::writing::set_zeros` meets its contract. The loop's invariant: the first i numbers are 0. Assumes nothing.
 use Prim.Native.Nat.{◌-◌}
 use Rattle.table.proofs.Stores.{stored_all, zeros_none, zeros_more}
 use Rattle.table.proofs.writing.set_zeros.Goals as goal

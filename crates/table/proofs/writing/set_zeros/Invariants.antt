@@ -1,3 +1,4 @@
+-- `table::writing::set_zeros` meets its contract. The loop's invariant: the first i numbers are 0. Assumes nothing.
 use Prim.Native.Nat.{◌-◌}
 use lib.ListN.{length, replicate}
 use Rattle.table.proofs.Stores.{Stored}

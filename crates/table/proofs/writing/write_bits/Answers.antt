@@ -1,4 +1,3 @@
--- `table::writing::write_bits` meets its contract. The loop's invariant: the first i numbers are the bits of the first i floats. Assumes nothing.
 use Prim.Native.Nat.{◌-◌}
 use native.Mathlib.Omega.{arith}
 use lib.ListN.{length-map}

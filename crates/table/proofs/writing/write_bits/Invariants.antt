@@ -1,3 +1,4 @@
+-- `table::writing::write_bits` meets its contract. The loop's invariant: the first i numbers are the bits of the first i floats. Assumes nothing.
 use mathlib.Core.List.{map}
 use Prim.Native.Nat.{◌-◌}
 use lib.ListN.{length}

@@ -25,5 +25,4 @@ shape_of-row c = c.row-2-1.given.1 ∙ c.row-1.given.1 ∙ simp length-set
 
 pub returns : goal.returns
 returns c =
-    let s = c in
-    row_made s.args.input s.args.steps s.args.n s.args.w.now s.args.o.now s.args.row.now c.write_bits.new.out c.write_bits-2.new.out _ _ _ _ s.requires.0 s.requires.1 c.write_bits.ensures c.write_bits-2.ensures c.bits_of.ensures c.bits_of-2.ensures c.bits_of-3.ensures c.bits_of-4.ensures
+    row_made c.args.input c.args.steps c.args.n c.args.w.now c.args.o.now c.args.row.now c.write_bits.new.out c.write_bits-2.new.out _ _ _ _ c.requires.0 c.requires.1 c.write_bits.ensures c.write_bits-2.ensures c.bits_of.ensures c.bits_of-2.ensures c.bits_of-3.ensures c.bits_of-4.ensures

@@ -1,3 +1,4 @@
+-- The loop's invariant: its end is within both lists. The numbers left are the measure. Assumes nothing.
 use Prim.Native.Nat.{◌-◌, ◌≤◌}
 use lib.ListN.{length}
 use Rattle.tablerun.proofs.numbers.are_same.Given as goal

@@ -1,3 +1,4 @@
+-- The loop's invariant: its end is within both lists, and `to` keeps its length. The numbers left are the measure. Assumes nothing.
 use Prim.Native.Nat.{◌-◌, ◌≤◌}
 use mathlib.Core.Path.{◌≡◌}
 use lib.ListN.{length}

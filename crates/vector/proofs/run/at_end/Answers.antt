@@ -23,8 +23,7 @@ slice_bounds-fill_ones-end c = sym (blank_length _ _ c.zeros-w.ensures c.require
 
 pub returns : goal.returns
 returns c =
-    let z = c in
-    let n = z.args.n in
-    let few = z.requires in
-    let ones : c.fill_ones.new.w ≡ fill n 1ᶠ = c.fill_ones.ensures ∙ ap (λ (k : ℕ). fill k 1ᶠ) (blank_length n _ z.zeros-w.ensures few) in
-    vector_is n _ _ (back n _ _ (blank_padded n _ z.zeros-w.ensures few) (length-replicate n 0ᶠ) _ ∙ ap (padded n) ones) (blank_padded n _ c.zeros.ensures few)
+    let n = c.args.n in
+    let few = c.requires in
+    let ones : c.fill_ones.new.w ≡ fill n 1ᶠ = c.fill_ones.ensures ∙ ap (λ (k : ℕ). fill k 1ᶠ) (blank_length n _ c.zeros-w.ensures few) in
+    vector_is n _ _ (back n _ _ (blank_padded n _ c.zeros-w.ensures few) (length-replicate n 0ᶠ) _ ∙ ap (padded n) ones) (blank_padded n _ c.zeros.ensures few)

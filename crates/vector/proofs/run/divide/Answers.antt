@@ -1,4 +1,3 @@
--- The loop's invariant: the first i weights are divided, and `calm` says that none of them calls for rebalancing. Assumes nothing.
 use mathlib.Core.Path.{◌≡◌, refl, sym, ap, ◌∙◌}
 use native.Mathlib.Nat.{le_refl}
 use native.Mathlib.Omega.{arith}
@@ -19,12 +18,11 @@ loop-i-init c = (omega arith, refl, filled_zero _ _, every_zero _)
 
 pub loop-i-preserved : goal.loop-i-preserved
 loop-i-preserved c =
-    let at-loop = c in
-    let i = at-loop.loop-i.i in
-    let inv = at-loop.loop-i.invariant in
-    let x = at-loop.args in
+    let i = c.loop-i.i in
+    let inv = c.loop-i.invariant in
+    let x = c.args in
     let f = quotient x.w.now x.max in
-    let old : at at-loop.loop-i.w i ⊘ x.max ≡ f i = rw inv.2 (ap (λ (y : Float). y ⊘ x.max) (at_filled f x.w.now i i (le_refl i))) in
+    let old : at c.loop-i.w i ⊘ x.max ≡ f i = rw inv.2 (ap (λ (y : Float). y ⊘ x.max) (at_filled f x.w.now i i (le_refl i))) in
     (omega arith, simp length-set inv.1, stored f x.w.now _ i _ (omega arith) inv.2 old, rw (inv.3, c.must_rebalance.ensures, old) (every_suc i _))
 
 pub returns : goal.returns

@@ -24,13 +24,12 @@ loop-i-init c = let x = c.args.x.now in (omega arith, omega arith, refl, filled_
 
 pub loop-i-preserved : goal.loop-i-preserved
 loop-i-preserved c =
-    let l = c in
-    let a = l.args in
+    let a = c.args in
     let x = a.x.now in
-    let i = l.loop-i.i in
-    let v = l.loop-i.invariant in
+    let i = c.loop-i.i in
+    let v = c.loop-i.invariant in
     let far = length x - 1 - i in
-    let same : at l.loop-i.x far ≡ at x far = ap (λ (m : List Float). at m far) v.3 ∙ at_filled_before (entry x a.n) x i far (omega arith) ∙ sym (kept x a.n far (omega arith)) in
+    let same : at c.loop-i.x far ≡ at x far = ap (λ (m : List Float). at m far) v.3 ∙ at_filled_before (entry x a.n) x i far (omega arith) ∙ sym (kept x a.n far (omega arith)) in
     (omega arith, omega arith, simp length-set v.2, stored (entry x a.n) x _ i _ (omega arith) v.3 (same ∙ taken x a.n i v.0))
 
 pub returns : goal.returns

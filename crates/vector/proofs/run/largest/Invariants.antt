@@ -1,3 +1,4 @@
+-- The loop's invariant: the larger of both is the largest of the first i weights, from 0.0, and both flags say whether these are above zero. Assumes nothing.
 use mathlib.Core.Path.{◌≡◌}
 use Prim.Native.Nat.{◌-◌, ◌≤◌}
 use mathlib.Core.Bool.{◌&&◌}

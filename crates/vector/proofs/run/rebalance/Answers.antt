@@ -1,4 +1,3 @@
--- The loop's invariant: the first i weights have gone into their offsets, and `all` says whether they were finite and positive. Assumes nothing.
 use mathlib.Core.Path.{◌≡◌, refl, sym, ap, ◌∙◌}
 use native.Mathlib.Nat.{le_refl}
 use native.Mathlib.Omega.{arith}
@@ -14,12 +13,11 @@ loop-i-init c = (omega arith, refl, omega arith, filled_zero _ _, filled_zero _ 
 
 pub loop-i-preserved : goal.loop-i-preserved
 loop-i-preserved c =
-    let at-loop = c in
-    let i = at-loop.loop-i.i in
-    let inv = at-loop.loop-i.invariant in
-    let x = at-loop.args in
-    let w-old : at at-loop.loop-i.w i ≡ at x.w.now i = ap (λ (l : List Float). at l i) inv.3 ∙ at_filled _ _ i i (le_refl i) in
-    let o-old : at at-loop.loop-i.o i ≡ at x.o.now i = ap (λ (l : List Float). at l i) inv.4 ∙ at_filled _ _ i i (le_refl i) in (
+    let i = c.loop-i.i in
+    let inv = c.loop-i.invariant in
+    let x = c.args in
+    let w-old : at c.loop-i.w i ≡ at x.w.now i = ap (λ (l : List Float). at l i) inv.3 ∙ at_filled _ _ i i (le_refl i) in
+    let o-old : at c.loop-i.o i ≡ at x.o.now i = ap (λ (l : List Float). at l i) inv.4 ∙ at_filled _ _ i i (le_refl i) in (
       omega arith,
       simp length-set inv.1,
       simp length-set inv.2,

@@ -1,3 +1,4 @@
+-- The loop's invariant: the first i weights have gone into their offsets, and `all` says whether they were finite and positive. Assumes nothing.
 use mathlib.Core.Path.{◌≡◌}
 use Prim.Native.Nat.{ℕ, ◌-◌, ◌≤◌}
 use mathlib.Core.List.{List}

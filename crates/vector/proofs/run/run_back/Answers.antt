@@ -30,138 +30,134 @@ not_done n (failed s) q w o v h k e = rw (h, e)
 
 pub slice_bounds-w-end : goal.slice_bounds-w-end
 slice_bounds-w-end c =
-    let weights : c.args.v.w ≡ padded c.args.n (fill c.args.n 1ᶠ) = own_w _ _ _ _ c.requires.le_n.4 in
+    let weights : c.args.v.w ≡ padded c.args.n (fill c.args.n 1ᶠ) = own_w _ _ _ _ c.requires.start.4 in
     let ones : length (fill c.args.n 1ᶠ) ≡ c.args.n = length-replicate c.args.n 1ᶠ in
-    let s = c in lent_room _ _ _ weights ones
+    lent_room _ _ _ weights ones
 
 pub slice_bounds-run_rows-end : goal.slice_bounds-run_rows-end
 slice_bounds-run_rows-end c =
-    let weights : c.args.v.w ≡ padded c.args.n (fill c.args.n 1ᶠ) = own_w _ _ _ _ c.requires.le_n.4 in
+    let weights : c.args.v.w ≡ padded c.args.n (fill c.args.n 1ᶠ) = own_w _ _ _ _ c.requires.start.4 in
     let ones : length (fill c.args.n 1ᶠ) ≡ c.args.n = length-replicate c.args.n 1ᶠ in
-    let s = c in sym (length_lent _ _ _ weights ones)
+    sym (length_lent _ _ _ weights ones)
 
 pub slice_bounds-o-end : goal.slice_bounds-o-end
 slice_bounds-o-end c =
-    let offsets : c.args.v.log_offset ≡ padded c.args.n (fill c.args.n 0ᶠ) = own_o _ _ _ _ c.requires.le_n.4 in
+    let offsets : c.args.v.log_offset ≡ padded c.args.n (fill c.args.n 0ᶠ) = own_o _ _ _ _ c.requires.start.4 in
     let zeros : length (fill c.args.n 0ᶠ) ≡ c.args.n = length-replicate c.args.n 0ᶠ in
-    let s = c in lent_room _ _ _ offsets zeros
+    lent_room _ _ _ offsets zeros
 
 pub slice_bounds-run_rows-end-2 : goal.slice_bounds-run_rows-end-2
 slice_bounds-run_rows-end-2 c =
-    let offsets : c.args.v.log_offset ≡ padded c.args.n (fill c.args.n 0ᶠ) = own_o _ _ _ _ c.requires.le_n.4 in
+    let offsets : c.args.v.log_offset ≡ padded c.args.n (fill c.args.n 0ᶠ) = own_o _ _ _ _ c.requires.start.4 in
     let zeros : length (fill c.args.n 0ᶠ) ≡ c.args.n = length-replicate c.args.n 0ᶠ in
-    let s = c in sym (length_lent _ _ _ offsets zeros)
+    sym (length_lent _ _ _ offsets zeros)
 
 pub run_rows-outcome-requires : goal.run_rows-outcome-requires
 run_rows-outcome-requires c =
-    let weights : c.args.v.w ≡ padded c.args.n (fill c.args.n 1ᶠ) = own_w _ _ _ _ c.requires.le_n.4 in
-    let offsets : c.args.v.log_offset ≡ padded c.args.n (fill c.args.n 0ᶠ) = own_o _ _ _ _ c.requires.le_n.4 in
+    let weights : c.args.v.w ≡ padded c.args.n (fill c.args.n 1ᶠ) = own_w _ _ _ _ c.requires.start.4 in
+    let offsets : c.args.v.log_offset ≡ padded c.args.n (fill c.args.n 0ᶠ) = own_o _ _ _ _ c.requires.start.4 in
     let ones : length (fill c.args.n 1ᶠ) ≡ c.args.n = length-replicate c.args.n 1ᶠ in
     let zeros : length (fill c.args.n 0ᶠ) ≡ c.args.n = length-replicate c.args.n 0ᶠ in
-    let s = c in
-    let p = s.requires.le_n in
-    record { le_n = (p.0, p.1, p.2, p.3, lent _ _ _ weights ones, lent _ _ _ offsets zeros); rows_stand = s.requires.rows_stand }
+    let p = c.requires.start in
+    record { start = (p.0, p.1, p.2, p.3, lent _ _ _ weights ones, lent _ _ _ offsets zeros); rows_stand = c.requires.rows_stand }
 
 pub slice_bounds-w-end-in-Done : goal.slice_bounds-w-end-in-Done
 slice_bounds-w-end-in-Done c =
     let half : Bool = c.args.half in
     let first : ℕ = c.args.n in
-    let weights : c.args.v.w ≡ padded c.args.n (fill c.args.n 1ᶠ) = own_w _ _ _ _ c.requires.le_n.4 in
+    let weights : c.args.v.w ≡ padded c.args.n (fill c.args.n 1ᶠ) = own_w _ _ _ _ c.requires.start.4 in
     let ones : length (fill c.args.n 1ᶠ) ≡ c.args.n = length-replicate c.args.n 1ᶠ in
     let weights-back : c.run_rows-outcome.new.w ++ drop first c.args.v.w ≡ padded first c.run_rows-outcome.new.w = back _ _ _ weights ones _ in
     let weights-long : length c.run_rows-outcome.new.w ≡ first = c.run_rows-outcome.auto.w ∙ length_lent _ _ _ weights ones in
-    let some : 1 ≤ first = omega (arith, c.requires.le_n.0) in
+    let some : 1 ≤ first = omega (arith, c.requires.start.0) in
     let sized : full_size half first ≡ rows c.args.input.bound = c.requires.rows_stand.sized in
-    let within : rows c.args.input.bound ≤ room = omega (arith, c.requires.le_n.2) in
-    let p = c in out_room half _ _ _ weights-back weights-long some _ sized within
+    let within : rows c.args.input.bound ≤ room = omega (arith, c.requires.start.2) in
+    out_room half _ _ _ weights-back weights-long some _ sized within
 
 pub slice_bounds-fill_mirror-end : goal.slice_bounds-fill_mirror-end
 slice_bounds-fill_mirror-end c =
     let half : Bool = c.args.half in
     let first : ℕ = c.args.n in
-    let weights : c.args.v.w ≡ padded c.args.n (fill c.args.n 1ᶠ) = own_w _ _ _ _ c.requires.le_n.4 in
+    let weights : c.args.v.w ≡ padded c.args.n (fill c.args.n 1ᶠ) = own_w _ _ _ _ c.requires.start.4 in
     let ones : length (fill c.args.n 1ᶠ) ≡ c.args.n = length-replicate c.args.n 1ᶠ in
     let weights-back : c.run_rows-outcome.new.w ++ drop first c.args.v.w ≡ padded first c.run_rows-outcome.new.w = back _ _ _ weights ones _ in
     let weights-long : length c.run_rows-outcome.new.w ≡ first = c.run_rows-outcome.auto.w ∙ length_lent _ _ _ weights ones in
-    let some : 1 ≤ first = omega (arith, c.requires.le_n.0) in
+    let some : 1 ≤ first = omega (arith, c.requires.start.0) in
     let sized : full_size half first ≡ rows c.args.input.bound = c.requires.rows_stand.sized in
-    let within : rows c.args.input.bound ≤ room = omega (arith, c.requires.le_n.2) in
-    let p = c in sym (out_length half _ _ _ weights-back weights-long some _ sized within)
+    let within : rows c.args.input.bound ≤ room = omega (arith, c.requires.start.2) in
+    sym (out_length half _ _ _ weights-back weights-long some _ sized within)
 
 pub fill_mirror-requires : goal.fill_mirror-requires
 fill_mirror-requires c =
     let half : Bool = c.args.half in
     let first : ℕ = c.args.n in
-    let weights : c.args.v.w ≡ padded c.args.n (fill c.args.n 1ᶠ) = own_w _ _ _ _ c.requires.le_n.4 in
+    let weights : c.args.v.w ≡ padded c.args.n (fill c.args.n 1ᶠ) = own_w _ _ _ _ c.requires.start.4 in
     let ones : length (fill c.args.n 1ᶠ) ≡ c.args.n = length-replicate c.args.n 1ᶠ in
     let weights-back : c.run_rows-outcome.new.w ++ drop first c.args.v.w ≡ padded first c.run_rows-outcome.new.w = back _ _ _ weights ones _ in
     let weights-long : length c.run_rows-outcome.new.w ≡ first = c.run_rows-outcome.auto.w ∙ length_lent _ _ _ weights ones in
-    let some : 1 ≤ first = omega (arith, c.requires.le_n.0) in
+    let some : 1 ≤ first = omega (arith, c.requires.start.0) in
     let sized : full_size half first ≡ rows c.args.input.bound = c.requires.rows_stand.sized in
-    let within : rows c.args.input.bound ≤ room = omega (arith, c.requires.le_n.2) in
-    let p = c in out_asks half _ _ _ weights-back weights-long some _ sized within
+    let within : rows c.args.input.bound ≤ room = omega (arith, c.requires.start.2) in
+    out_asks half _ _ _ weights-back weights-long some _ sized within
 
 pub slice_bounds-o-end-in-Done : goal.slice_bounds-o-end-in-Done
 slice_bounds-o-end-in-Done c =
     let half : Bool = c.args.half in
     let first : ℕ = c.args.n in
-    let offsets : c.args.v.log_offset ≡ padded c.args.n (fill c.args.n 0ᶠ) = own_o _ _ _ _ c.requires.le_n.4 in
+    let offsets : c.args.v.log_offset ≡ padded c.args.n (fill c.args.n 0ᶠ) = own_o _ _ _ _ c.requires.start.4 in
     let zeros : length (fill c.args.n 0ᶠ) ≡ c.args.n = length-replicate c.args.n 0ᶠ in
     let offsets-back : c.run_rows-outcome.new.o ++ drop first c.args.v.log_offset ≡ padded first c.run_rows-outcome.new.o = back _ _ _ offsets zeros _ in
     let offsets-long : length c.run_rows-outcome.new.o ≡ first = c.run_rows-outcome.auto.o ∙ length_lent _ _ _ offsets zeros in
-    let some : 1 ≤ first = omega (arith, c.requires.le_n.0) in
+    let some : 1 ≤ first = omega (arith, c.requires.start.0) in
     let sized : full_size half first ≡ rows c.args.input.bound = c.requires.rows_stand.sized in
-    let within : rows c.args.input.bound ≤ room = omega (arith, c.requires.le_n.2) in
-    let p = c in out_room half _ _ _ offsets-back offsets-long some _ sized within
+    let within : rows c.args.input.bound ≤ room = omega (arith, c.requires.start.2) in
+    out_room half _ _ _ offsets-back offsets-long some _ sized within
 
 pub slice_bounds-fill_mirror-end-in-Done : goal.slice_bounds-fill_mirror-end-in-Done
 slice_bounds-fill_mirror-end-in-Done c =
     let half : Bool = c.args.half in
     let first : ℕ = c.args.n in
-    let offsets : c.args.v.log_offset ≡ padded c.args.n (fill c.args.n 0ᶠ) = own_o _ _ _ _ c.requires.le_n.4 in
+    let offsets : c.args.v.log_offset ≡ padded c.args.n (fill c.args.n 0ᶠ) = own_o _ _ _ _ c.requires.start.4 in
     let zeros : length (fill c.args.n 0ᶠ) ≡ c.args.n = length-replicate c.args.n 0ᶠ in
     let offsets-back : c.run_rows-outcome.new.o ++ drop first c.args.v.log_offset ≡ padded first c.run_rows-outcome.new.o = back _ _ _ offsets zeros _ in
     let offsets-long : length c.run_rows-outcome.new.o ≡ first = c.run_rows-outcome.auto.o ∙ length_lent _ _ _ offsets zeros in
-    let some : 1 ≤ first = omega (arith, c.requires.le_n.0) in
+    let some : 1 ≤ first = omega (arith, c.requires.start.0) in
     let sized : full_size half first ≡ rows c.args.input.bound = c.requires.rows_stand.sized in
-    let within : rows c.args.input.bound ≤ room = omega (arith, c.requires.le_n.2) in
-    let p = c in sym (out_length half _ _ _ offsets-back offsets-long some _ sized within)
+    let within : rows c.args.input.bound ≤ room = omega (arith, c.requires.start.2) in
+    sym (out_length half _ _ _ offsets-back offsets-long some _ sized within)
 
 pub fill_mirror-requires-in-Done : goal.fill_mirror-requires-in-Done
 fill_mirror-requires-in-Done c =
     let half : Bool = c.args.half in
     let first : ℕ = c.args.n in
-    let offsets : c.args.v.log_offset ≡ padded c.args.n (fill c.args.n 0ᶠ) = own_o _ _ _ _ c.requires.le_n.4 in
+    let offsets : c.args.v.log_offset ≡ padded c.args.n (fill c.args.n 0ᶠ) = own_o _ _ _ _ c.requires.start.4 in
     let zeros : length (fill c.args.n 0ᶠ) ≡ c.args.n = length-replicate c.args.n 0ᶠ in
     let offsets-back : c.run_rows-outcome.new.o ++ drop first c.args.v.log_offset ≡ padded first c.run_rows-outcome.new.o = back _ _ _ offsets zeros _ in
     let offsets-long : length c.run_rows-outcome.new.o ≡ first = c.run_rows-outcome.auto.o ∙ length_lent _ _ _ offsets zeros in
-    let some : 1 ≤ first = omega (arith, c.requires.le_n.0) in
+    let some : 1 ≤ first = omega (arith, c.requires.start.0) in
     let sized : full_size half first ≡ rows c.args.input.bound = c.requires.rows_stand.sized in
-    let within : rows c.args.input.bound ≤ room = omega (arith, c.requires.le_n.2) in
-    let p = c in out_asks half _ _ _ offsets-back offsets-long some _ sized within
+    let within : rows c.args.input.bound ≤ room = omega (arith, c.requires.start.2) in
+    out_asks half _ _ _ offsets-back offsets-long some _ sized within
 
 pub returns-in-Done : goal.returns-in-Done
 returns-in-Done c =
     let half : Bool = c.args.half in
     let first : ℕ = c.args.n in
-    let weights : c.args.v.w ≡ padded c.args.n (fill c.args.n 1ᶠ) = own_w _ _ _ _ c.requires.le_n.4 in
+    let weights : c.args.v.w ≡ padded c.args.n (fill c.args.n 1ᶠ) = own_w _ _ _ _ c.requires.start.4 in
     let ones : length (fill c.args.n 1ᶠ) ≡ c.args.n = length-replicate c.args.n 1ᶠ in
     let weights-back : c.run_rows-outcome.new.w ++ drop first c.args.v.w ≡ padded first c.run_rows-outcome.new.w = back _ _ _ weights ones _ in
-    let offsets : c.args.v.log_offset ≡ padded c.args.n (fill c.args.n 0ᶠ) = own_o _ _ _ _ c.requires.le_n.4 in
+    let offsets : c.args.v.log_offset ≡ padded c.args.n (fill c.args.n 0ᶠ) = own_o _ _ _ _ c.requires.start.4 in
     let zeros : length (fill c.args.n 0ᶠ) ≡ c.args.n = length-replicate c.args.n 0ᶠ in
     let offsets-back : c.run_rows-outcome.new.o ++ drop first c.args.v.log_offset ≡ padded first c.run_rows-outcome.new.o = back _ _ _ offsets zeros _ in
     let weights-long : length c.run_rows-outcome.new.w ≡ first = c.run_rows-outcome.auto.w ∙ length_lent _ _ _ weights ones in
     let offsets-long : length c.run_rows-outcome.new.o ≡ first = c.run_rows-outcome.auto.o ∙ length_lent _ _ _ offsets zeros in
-    let some : 1 ≤ first = omega (arith, c.requires.le_n.0) in
+    let some : 1 ≤ first = omega (arith, c.requires.start.0) in
     let sized : full_size half first ≡ rows c.args.input.bound = c.requires.rows_stand.sized in
-    let within : rows c.args.input.bound ≤ room = omega (arith, c.requires.le_n.2) in
-    let p = c in
-    done _ _ _ _ _ _ _ _ p.run_rows-outcome.ensures c.in-Done.is
+    let within : rows c.args.input.bound ≤ room = omega (arith, c.requires.start.2) in
+    done _ _ _ _ _ _ _ _ c.run_rows-outcome.ensures c.in-Done.is
     (out_is half _ _ _ weights-back weights-long some _ sized within _ c.fill_mirror.ensures)
     (out_is half _ _ _ offsets-back offsets-long some _ sized within _ c.fill_mirror-in-Done.ensures)
 
 pub returns : goal.returns
 returns c =
-    let m = c in
-    let p = m in
-    not_done _ _ _ _ _ _ p.run_rows-outcome.ensures c.in_default.not-Done c.blank.ensures
+    not_done _ _ _ _ _ _ c.run_rows-outcome.ensures c.in_default.not-Done c.blank.ensures

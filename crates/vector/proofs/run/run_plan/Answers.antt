@@ -42,7 +42,7 @@ slice_bounds-plan_steps-end c =
     let places : ℕ = c.args.n in
     let diag-back : length c.set_plan-planned.new.diag ≡ places = c.set_plan-planned.auto.diag ∙ blank_length _ _ c.zeros-diag.ensures c.requires.1 in
     let diag-is : take places (c.set_plan-planned.new.diag ++ drop places c.zeros-diag.result) ≡ c.set_plan-planned.new.diag = part_back _ c.set_plan-planned.new.diag _ diag-back in
-    let s = c in sym (ap length diag-is ∙ diag-back)
+    sym (ap length diag-is ∙ diag-back)
 
 pub slice_bounds-left-end-2 : goal.slice_bounds-left-end-2
 slice_bounds-left-end-2 c =
@@ -56,7 +56,7 @@ slice_bounds-plan_steps-end-2 c =
     let places : ℕ = c.args.n in
     let left_back : length c.set_plan-planned.new.left ≡ places = c.set_plan-planned.auto.left ∙ blank_length _ _ c.zeros-left.ensures c.requires.1 in
     let left_is : take places (c.set_plan-planned.new.left ++ drop places c.zeros-left.result) ≡ c.set_plan-planned.new.left = part_back _ c.set_plan-planned.new.left _ left_back in
-    let s = c in sym (ap length left_is ∙ left_back)
+    sym (ap length left_is ∙ left_back)
 
 pub slice_bounds-right-end-2 : goal.slice_bounds-right-end-2
 slice_bounds-right-end-2 c =
@@ -70,7 +70,7 @@ slice_bounds-plan_steps-end-3 c =
     let places : ℕ = c.args.n in
     let right-back : length c.set_plan-planned.new.right ≡ places = c.set_plan-planned.auto.right ∙ blank_length _ _ c.zeros-right.ensures c.requires.1 in
     let right_is : take places (c.set_plan-planned.new.right ++ drop places c.zeros-right.result) ≡ c.set_plan-planned.new.right = part_back _ c.set_plan-planned.new.right _ right-back in
-    let s = c in sym (ap length right_is ∙ right-back)
+    sym (ap length right_is ∙ right-back)
 
 pub slice_bounds-term-end : goal.slice_bounds-term-end
 slice_bounds-term-end c = blank_room _ _ c.zeros-term.ensures c.requires.1
@@ -98,10 +98,9 @@ plan_steps-requires c =
     let l = lengths in
     let s = c.set_plan-planned.ensures in
     centred_slices _ _ _ _ _ _ _ _ _ _ p.0 p.5 p.3 p.4 l.1 l.2 l.0 _ _ _ _ s.left_after s.right_after s.diag_after s.value in
-    let s = c in
-    let p = s.requires in
+    let p = c.requires in
     rw p.2 (record {
-      in_bounds = (p.0, p.3, (begun _ c.pace_of-first.ensures).stands.within, rw (left_is, right_is) centred);
+      start = (p.0, p.3, (begun _ c.pace_of-first.ensures).stands.within, rw (left_is, right_is) centred);
       sizes = record {
         diag_n = ap length diag-is ∙ diag-back;
         left_n = ap length left_is ∙ left_back;
@@ -132,6 +131,5 @@ returns c =
     let begun : (q : Pace) → q ≡ told a.budget a.rest c.set_plan-planned.result
     → BegunIs (full_fixed h places a.diag_s.now a.eta) a.budget a.rest (full h places a.o.now) (full_factors h places c.set_plan-planned.new.left c.set_plan-planned.new.right) (full_factors h places c.set_plan-planned.new.right c.set_plan-planned.new.left) (full h places c.set_plan-planned.new.diag) q =
     λ q e. let f = c.set_plan-planned.ensures in begun_slices _ _ _ _ _ _ _ _ _ _ c.requires.0 c.requires.5 c.requires.3 c.requires.4 lengths.1 lengths.2 lengths.0 _ _ _ _ f.left_after f.right_after f.diag_after f.value q e in
-    let s = c in
-    let p = s.requires in
+    let p = c.requires in
     planned _ _ _ _ _ _ _ _ _ _ _ _ _ _ p.6 (begun _ c.pace_of-first.ensures) (rw (p.2, diag-is, left_is, right_is) at c.plan_steps.ensures)

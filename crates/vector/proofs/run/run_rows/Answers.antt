@@ -15,52 +15,47 @@ use Rattle.vector.proofs.run.run_rows.Goals as goal
 
 pub slice_bounds-diag_s-end : goal.slice_bounds-diag_s-end
 slice_bounds-diag_s-end c =
-    let few : c.args.n ≤ room = omega (arith, c.requires.le_n.1, c.requires.le_n.2) in
+    let few : c.args.n ≤ room = omega (arith, c.requires.start.1, c.requires.start.2) in
     blank_room _ _ c.zeros-diag_s.ensures few
 
 pub slice_bounds-fill_shifted_diagonal-end : goal.slice_bounds-fill_shifted_diagonal-end
 slice_bounds-fill_shifted_diagonal-end c =
-    let few : c.args.n ≤ room = omega (arith, c.requires.le_n.1, c.requires.le_n.2) in
+    let few : c.args.n ≤ room = omega (arith, c.requires.start.1, c.requires.start.2) in
     sym (blank_length _ _ c.zeros-diag_s.ensures few)
 
 pub slice_bounds-diag_s-end-then-fill_shifted_diagonal : goal.slice_bounds-diag_s-end-then-fill_shifted_diagonal
 slice_bounds-diag_s-end-then-fill_shifted_diagonal c =
-    let few : c.args.n ≤ room = omega (arith, c.requires.le_n.1, c.requires.le_n.2) in
+    let few : c.args.n ≤ room = omega (arith, c.requires.start.1, c.requires.start.2) in
     let length-of : let n = c.args.n in length (take n c.zeros-diag_s.result) ≡ n = blank_length _ _ c.zeros-diag_s.ensures few in
-    let diagonal : let a = c.args in c.fill_shifted_diagonal.new.diag ≡ tab a.n (diagonal_at a.input.bound a.input.alpha a.input.beta a.input.eta) = diagonal_over_lem _ _ _ _ _ _ _ length-of c.requires.le_n.1 c.fill_shifted_diagonal.ensures.diag_after in
+    let diagonal : let a = c.args in c.fill_shifted_diagonal.new.diag ≡ tab a.n (diagonal_at a.input.bound a.input.alpha a.input.beta a.input.eta) = diagonal_over_lem _ _ _ _ _ _ _ length-of c.requires.start.1 c.fill_shifted_diagonal.ensures.diag_after in
     stored_room _ _ _ _ diagonal
 
 pub slice_bounds-run_plans-end : goal.slice_bounds-run_plans-end
 slice_bounds-run_plans-end c =
-    let few : c.args.n ≤ room = omega (arith, c.requires.le_n.1, c.requires.le_n.2) in
+    let few : c.args.n ≤ room = omega (arith, c.requires.start.1, c.requires.start.2) in
     let length-of : let n = c.args.n in length (take n c.zeros-diag_s.result) ≡ n = blank_length _ _ c.zeros-diag_s.ensures few in
-    let diagonal : let a = c.args in c.fill_shifted_diagonal.new.diag ≡ tab a.n (diagonal_at a.input.bound a.input.alpha a.input.beta a.input.eta) = diagonal_over_lem _ _ _ _ _ _ _ length-of c.requires.le_n.1 c.fill_shifted_diagonal.ensures.diag_after in
+    let diagonal : let a = c.args in c.fill_shifted_diagonal.new.diag ≡ tab a.n (diagonal_at a.input.bound a.input.alpha a.input.beta a.input.eta) = diagonal_over_lem _ _ _ _ _ _ _ length-of c.requires.start.1 c.fill_shifted_diagonal.ensures.diag_after in
     sym (stored_length _ _ _ _ diagonal)
 
 pub run_plans-requires : goal.run_plans-requires
 run_plans-requires c =
-    let few : c.args.n ≤ room = omega (arith, c.requires.le_n.1, c.requires.le_n.2) in
+    let few : c.args.n ≤ room = omega (arith, c.requires.start.1, c.requires.start.2) in
     let length-of : let n = c.args.n in length (take n c.zeros-diag_s.result) ≡ n = blank_length _ _ c.zeros-diag_s.ensures few in
-    let diagonal : let a = c.args in c.fill_shifted_diagonal.new.diag ≡ tab a.n (diagonal_at a.input.bound a.input.alpha a.input.beta a.input.eta) = diagonal_over_lem _ _ _ _ _ _ _ length-of c.requires.le_n.1 c.fill_shifted_diagonal.ensures.diag_after in
-    let s = c in
-    (s.requires.le_n.0, few, s.requires.le_n.4, ap length s.requires.le_n.5 ∙ length-replicate _ 0ᶠ, stored_length _ _ _ _ diagonal)
+    let diagonal : let a = c.args in c.fill_shifted_diagonal.new.diag ≡ tab a.n (diagonal_at a.input.bound a.input.alpha a.input.beta a.input.eta) = diagonal_over_lem _ _ _ _ _ _ _ length-of c.requires.start.1 c.fill_shifted_diagonal.ensures.diag_after in
+    (c.requires.start.0, few, c.requires.start.4, ap length c.requires.start.5 ∙ length-replicate _ 0ᶠ, stored_length _ _ _ _ diagonal)
 
 pub returns-then-fill_shifted_diagonal : goal.returns-then-fill_shifted_diagonal
 returns-then-fill_shifted_diagonal c =
-    let few : c.args.n ≤ room = omega (arith, c.requires.le_n.1, c.requires.le_n.2) in
+    let few : c.args.n ≤ room = omega (arith, c.requires.start.1, c.requires.start.2) in
     let length-of : let n = c.args.n in length (take n c.zeros-diag_s.result) ≡ n = blank_length _ _ c.zeros-diag_s.ensures few in
-    let diagonal : let a = c.args in c.fill_shifted_diagonal.new.diag ≡ tab a.n (diagonal_at a.input.bound a.input.alpha a.input.beta a.input.eta) = diagonal_over_lem _ _ _ _ _ _ _ length-of c.requires.le_n.1 c.fill_shifted_diagonal.ensures.diag_after in
-    let fine : let a = c.args in c.fill_shifted_diagonal.result ≡ every a.n (λ i. finite (at (tab a.n (diagonal_at a.input.bound a.input.alpha a.input.beta a.input.eta)) i)) = diagonal_fine _ _ _ _ _ _ _ length-of c.requires.le_n.1 c.fill_shifted_diagonal.ensures.diag_after _ c.fill_shifted_diagonal.ensures.value in
-    let p = c in
-    let f = p in
-    let s = p in
-    run_full s.args.half _ _ (omega (arith, s.requires.le_n.0)) s.requires.rows_stand s.requires.le_n.3 _ _ _ _ _ (stored_part _ _ _ _ diagonal) s.requires.le_n.5 (sym fine ∙ p.if-fill_shifted_diagonal.true) p.run_plans.ensures
+    let diagonal : let a = c.args in c.fill_shifted_diagonal.new.diag ≡ tab a.n (diagonal_at a.input.bound a.input.alpha a.input.beta a.input.eta) = diagonal_over_lem _ _ _ _ _ _ _ length-of c.requires.start.1 c.fill_shifted_diagonal.ensures.diag_after in
+    let fine : let a = c.args in c.fill_shifted_diagonal.result ≡ every a.n (λ i. finite (at (tab a.n (diagonal_at a.input.bound a.input.alpha a.input.beta a.input.eta)) i)) = diagonal_fine _ _ _ _ _ _ _ length-of c.requires.start.1 c.fill_shifted_diagonal.ensures.diag_after _ c.fill_shifted_diagonal.ensures.value in
+    run_full c.args.half _ _ (omega (arith, c.requires.start.0)) c.requires.rows_stand c.requires.start.3 _ _ _ _ _ (stored_part _ _ _ _ diagonal) c.requires.start.5 (sym fine ∙ c.if-fill_shifted_diagonal.true) c.run_plans.ensures
 
 pub returns : goal.returns
 unfolding EndIs
 returns c =
-    let few : c.args.n ≤ room = omega (arith, c.requires.le_n.1, c.requires.le_n.2) in
+    let few : c.args.n ≤ room = omega (arith, c.requires.start.1, c.requires.start.2) in
     let length-of : let n = c.args.n in length (take n c.zeros-diag_s.result) ≡ n = blank_length _ _ c.zeros-diag_s.ensures few in
-    let fine : let a = c.args in c.fill_shifted_diagonal.result ≡ every a.n (λ i. finite (at (tab a.n (diagonal_at a.input.bound a.input.alpha a.input.beta a.input.eta)) i)) = diagonal_fine _ _ _ _ _ _ _ length-of c.requires.le_n.1 c.fill_shifted_diagonal.ensures.diag_after _ c.fill_shifted_diagonal.ensures.value in
-    let s = c in
-    rw (run_full_refused s.args.half _ _ (omega (arith, s.requires.le_n.0)) s.requires.rows_stand s.requires.le_n.3 (sym fine ∙ c.if-fill_shifted_diagonal.false)) refl
+    let fine : let a = c.args in c.fill_shifted_diagonal.result ≡ every a.n (λ i. finite (at (tab a.n (diagonal_at a.input.bound a.input.alpha a.input.beta a.input.eta)) i)) = diagonal_fine _ _ _ _ _ _ _ length-of c.requires.start.1 c.fill_shifted_diagonal.ensures.diag_after _ c.fill_shifted_diagonal.ensures.value in
+    rw (run_full_refused c.args.half _ _ (omega (arith, c.requires.start.0)) c.requires.rows_stand c.requires.start.3 (sym fine ∙ c.if-fill_shifted_diagonal.false)) refl
