@@ -1,4 +1,5 @@
 -- A float's count of billionths: of a positive one by its digits and its exponent's field, of a negative one by its opposite. Assumes nothing.
+use Rattle.std.specs.Prelude.{Result, Ok, Err}
 use Rattle.std.proofs.Common.{◌≡◌, ℕ, zero, suc, ◌+◌, ◌-◌, ◌*◌, ◌/◌, ◌%◌, ◌^◌, ◌<◌, ◌≤◌, Bool, true, false, T, ltb, ℤ, pos, negsuc, ◌-ℤ◌, neg_ℤ, nat_abs, sym, refl, ap, ◌∙◌, subst, le_trans, le_of_eq, lt_of_lt_of_le, lt_of_le_of_lt, mul-le-mul_right, mul_assoc, mul-lt-mul_of_pos_right, mul-pos, le-div_iff_mul-le, mul_right_comm, le_of_mul-le-mul_right, arith, lit<, lit≤, leb→le, pow_pos, pow-add, shl_exact, w64, SFits, ltb-false, ltb-true, le-leb}
 use native.Mathlib.Nat.{eq_of_mul-eq-mul_right}
 use borrow.Author.Tests.{lt-leb}
@@ -17,9 +18,9 @@ use Rattle.amounts.specs.Refusals.{beyond}
 use Rattle.amounts.specs.Amounts.{billion, amount_limit, amount_ok}
 use Rattle.amounts.specs.Rounding.{billionths, count_if}
 use Rattle.amounts.specs.Inner.{size_by, count_of}
-use Rattle.amounts.specs.declared.rounding.Billionths.{Billionths}
-use Rattle.amounts.specs.declared.rounding.Billionths.TheVariants.{Count, Refused}
 use Rattle.amounts.proofs.Signed.{nat_abs_neg}
+use Rattle.elementary.specs.declared.Refusal.{Refusal}
+use Rattle.elementary.specs.Checks.{by}
 
 -- ---- equal fractions have the same billionths
 same : (t : Bool) (a b c d : ℕ) → 0 < b → 0 < d → a * d ≡ c * b → next t (a * billion) b ≡ next t (c * billion) d
@@ -164,17 +165,17 @@ neither (fin false (suc m) e) h k = absurd (omega (arith, ltb-false 0 (suc m) (s
 neither (fin true (suc m) e) h k = absurd (omega (arith, ltb-false 0 (suc m) (sym (positive_is (fin false (suc m) e)) ∙ k)))
 
 -- ---- the answers
-pub is_count : (z : ℤ) → nat_abs z ≤ amount_limit → count_of z ≡ Count z
+pub is_count : (z : ℤ) → nat_abs z ≤ amount_limit → count_of z ≡ Ok z
 unfolding count_of count_if amount_ok
 is_count z l = rw (le-leb (nat_abs z) amount_limit l)
 
-pub is_beyond : (z : ℤ) → amount_limit < nat_abs z → count_of z ≡ Refused beyond
+pub is_beyond : (z : ℤ) → amount_limit < nat_abs z → count_of z ≡ Err (by beyond)
 unfolding count_of count_if amount_ok
 is_beyond z l = rw (lt-leb (nat_abs z) amount_limit l)
 
-abbrev pub opposite : Billionths → Billionths
-opposite (Count z) = Count (neg_ℤ z)
-opposite (Refused r) = Refused r
+abbrev pub opposite : Result ℤ Refusal → Result ℤ Refusal
+opposite (Ok z) = Ok (neg_ℤ z)
+opposite (Err r) = Err r
 
 pub is_opposite : (z : ℤ) → opposite (count_of z) ≡ count_of (neg_ℤ z)
 unfolding count_of count_if amount_ok
@@ -185,11 +186,11 @@ is_opposite z = rw (nat_abs_neg z) (go (amount_ok z))
     go false = refl
 
 -- a count is within the limit, so that an i64 holds its opposite
-abbrev Within : Billionths → Type 0
-Within (Count z) = nat_abs z ≤ amount_limit
-Within (Refused r) = 0 ≤ amount_limit
+abbrev Within : Result ℤ Refusal → Type 0
+Within (Ok z) = nat_abs z ≤ amount_limit
+Within (Err r) = 0 ≤ amount_limit
 
-pub count_within : (z n : ℤ) → Count n ≡ count_of z → nat_abs n ≤ amount_limit
+pub count_within : (z n : ℤ) → Ok n ≡ count_of z → nat_abs n ≤ amount_limit
 unfolding count_of count_if amount_ok
 count_within z n h = subst Within (sym h) (go (amount_ok z) (leb→le (nat_abs z) amount_limit))
   where

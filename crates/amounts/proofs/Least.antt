@@ -1,4 +1,5 @@
 -- A distance's count is the least whole number of billionths that is not below it. Assumes nothing.
+use Rattle.std.specs.Prelude.{Err}
 use Rattle.std.proofs.Common.{◌≡◌, ℕ, ◌+◌, ◌*◌, ◌<◌, ◌≤◌, Bool, true, false, ◌⊎◌, ℤ, pos, ◌*ℤ◌, neg_ℤ, ◌≤ℤ◌, refl, ap, inl, inr, lt_of_mul-lt-mul_right, le_of_mul-le-mul_right, arith}
 use lib.Signed.{≤ℤ_refl}
 use lib.Ieee.{nan, inf, fin, up, down}
@@ -10,8 +11,9 @@ use Rattle.series.specs.Refusals.{numerical}
 use Rattle.amounts.specs.Refusals.{beyond}
 use Rattle.amounts.specs.Amounts.{billion, amount_ok}
 use Rattle.amounts.specs.Rounding.{billionths, count_if, to_billionths, exactly, AtMost, RoundingIsRight, WholeStays, CountRefusals}
-use Rattle.amounts.specs.declared.rounding.Billionths.TheVariants.{Refused}
 use Rattle.amounts.proofs.Differences.{over, under, over_neg, under_neg, over_times, under_times, le_parts, parts_le, le_antisym}
+use Rattle.elementary.specs.Checks.{by}
+use Rattle.elementary.proofs.Checks.{same_number}
 
 -- ---- from natural numbers to a float's count: e is the distance over d, k its count
 module _ (e k : ℤ) (d : ℕ) where
@@ -64,10 +66,10 @@ whole_stays s m e z h =
     le_antisym k z (least s m e z (rw h (≤ℤ_refl (z *ℤ pos d)))) (times_le z k d (down_pos e) (rw h at (at_most s m e)))
 
 -- ---- the entry's refusals
-count_refused : (f w : Bool) (z : ℤ) (n : ℕ) → count_if f w z ≡ Refused n → ((n ≡ numerical) × (f ≡ false)) ⊎ ((n ≡ beyond) × (f ≡ true) × (w ≡ false))
+count_refused : (f w : Bool) (z : ℤ) (n : ℕ) → count_if f w z ≡ Err (by n) → ((n ≡ numerical) × (f ≡ false)) ⊎ ((n ≡ beyond) × (f ≡ true) × (w ≡ false))
 unfolding count_if
-count_refused false w z n e = inl (cc, refl)
-count_refused true false z n e = inr (cc, refl, refl)
+count_refused false w z n e = inl (same_number (let y : by n ≡ by numerical = cc in y), refl)
+count_refused true false z n e = inr (same_number (let y : by n ≡ by beyond = cc in y), refl, refl)
 count_refused true true z n e = let y : ◌≡◌ {A = ℕ} 0 1 = cc in absurd (omega arith)
 
 pub count_refusals : CountRefusals

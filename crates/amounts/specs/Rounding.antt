@@ -1,13 +1,13 @@
 -- Change request 5, in place of document 01's rounding in module 5: a distance that is no whole number of billionths goes up to the next one. Definitions only.
-use Rattle.std.specs.Prelude.{◌≡◌, ℕ, ◌+◌, ◌-◌, ◌*◌, ◌/◌, Bool, true, false, T, ◌⊎◌, ◌↔◌, ℤ, pos, ◌*ℤ◌, neg_ℤ, ◌≤ℤ◌, Float}
+use Rattle.std.specs.Prelude.{◌≡◌, ℕ, ◌+◌, ◌-◌, ◌*◌, ◌/◌, Bool, true, false, T, ◌⊎◌, ◌↔◌, ℤ, pos, ◌*ℤ◌, neg_ℤ, ◌≤ℤ◌, Float, Result, Ok, Err}
 use Rattle.std.specs.Float.{nan, inf, fin}
 use Rattle.std.specs.Float.Ieee.{up, down}
 use Rattle.elementary.specs.Float.{finite}
 use Rattle.series.specs.Refusals.{numerical}
 use Rattle.amounts.specs.Refusals.{beyond}
 use Rattle.amounts.specs.Amounts.{billion, amount_ok}
-use Rattle.amounts.specs.declared.rounding.Billionths.{Billionths}
-use Rattle.amounts.specs.declared.rounding.Billionths.TheVariants.{Count, Refused}
+use Rattle.elementary.specs.declared.Refusal.{Refusal}
+use Rattle.elementary.specs.Checks.{by}
 
 -- a finite distance in billionths, toward plus infinity: above zero rounded up, below zero cut; what is not finite has none, and 0 stands for it
 unfoldable pub billionths : Float → ℤ
@@ -17,12 +17,12 @@ billionths (fin false m e) = pos ((m * up e * billion + (down e - 1)) / down e)
 billionths (fin true m e) = neg_ℤ (pos (m * up e * billion / down e))
 
 -- ---- the entry: is the distance finite, or 11; is its count within the limit, or 13
-unfoldable pub count_if : Bool → Bool → ℤ → Billionths
-count_if false w z = Refused numerical
-count_if true false z = Refused beyond
-count_if true true z = Count z
+unfoldable pub count_if : Bool → Bool → ℤ → Result ℤ Refusal
+count_if false w z = Err (by numerical)
+count_if true false z = Err (by beyond)
+count_if true true z = Ok z
 
-unfoldable pub to_billionths : Float → Billionths
+unfoldable pub to_billionths : Float → Result ℤ Refusal
 to_billionths d = count_if (finite d) (amount_ok (billionths d)) (billionths d)
 
 -- ==== statements
@@ -48,4 +48,4 @@ WholeStays = (s : Bool) (m : ℕ) (e z : ℤ) → exactly s m e ≡ z *ℤ pos (
 -- 11 just where the distance is not finite, 13 just where it is and its count is beyond the limit
 abbrev pub CountRefusals : Type 0
 CountRefusals = (d : Float) (n : ℕ)
-    → (to_billionths d ≡ Refused n) ↔ (((n ≡ numerical) × (finite d ≡ false)) ⊎ ((n ≡ beyond) × (finite d ≡ true) × (amount_ok (billionths d) ≡ false)))
+    → (to_billionths d ≡ Err (by n)) ↔ (((n ≡ numerical) × (finite d ≡ false)) ⊎ ((n ≡ beyond) × (finite d ≡ true) × (amount_ok (billionths d) ≡ false)))

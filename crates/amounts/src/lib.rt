@@ -8,7 +8,7 @@ mod rounding;
 ghost use Rattle.std.specs.Prelude.{◌≡◌, unsigned_abs};
 ghost use Rattle.amounts.specs.Amounts.{amount_ok, time_ok, above0, to_float, tau_of};
 
-pub use rounding::{Billionths, to_billionths};
+pub use rounding::to_billionths;
 
 // The billionths of a unit.
 pub const BILLION: u64 = 1000000000;

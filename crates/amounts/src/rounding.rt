@@ -9,6 +9,7 @@ ghost use Rattle.amounts.specs.Rounding.{billionths, to_billionths};
 ghost use Rattle.amounts.specs.Inner.{size_by, count_of};
 
 use crate::{BILLION, MAX_AMOUNT, refusals};
+use elementary::Refusal;
 
 // 2^52, the weight of a significand's leading digit.
 const HIDDEN: u64 = 4503599627370496;
@@ -21,13 +22,6 @@ const LEAST: f64 = 9.313225746154785e-10;
 
 // 2^30. What is not below has more billionths than the amount limit.
 const MOST: f64 = 1073741824.0;
-
-// A count of billionths within the amount limit, or a refusal's number.
-#[derive(Clone, Copy)]
-pub enum Billionths {
-    Count(i64),
-    Refused(u8),
-}
 
 // A number of two words, high * 2^23 + low.
 #[derive(Clone, Copy)]
@@ -84,38 +78,36 @@ fn counted(x: f64, cut: bool) -> u64
 
 // The billionths of a positive number, cut or rounded up: refused by 13 where they are beyond the
 // limit.
-fn sized(x: f64, cut: bool) -> Billionths
+fn sized(x: f64, cut: bool) -> Result<i64, Refusal>
     requires { T (positive x) }
     ensures { result ≡ count_of (pos (size_by cut x)) }
 {
     if x < LEAST {
         if cut {
-            return Billionths::Count(0);
+            return Ok(0);
         }
-        return Billionths::Count(1);
+        return Ok(1);
     }
     if x < MOST {
         let n = counted(x, cut);
         if n <= MAX_AMOUNT as u64 {
-            return Billionths::Count(n as i64);
+            return Ok(n as i64);
         }
     }
-    Billionths::Refused(refusals::BEYOND)
+    Err(refusals::BEYOND)
 }
 
 // The count of a negative number, whose opposite is cut.
-fn below_zero(x: f64) -> Billionths
+fn below_zero(x: f64) -> Result<i64, Refusal>
     requires { T (positive (neg x)) }
     ensures { result ≡ count_of (billionths x) }
 {
-    match sized(-x, true) {
-        Billionths::Count(n) => Billionths::Count(0 - n),
-        Billionths::Refused(number) => Billionths::Refused(number),
-    }
+    let n = sized(-x, true)?;
+    Ok(-n)
 }
 
 // The count of a finite distance. Of what is not finite it is 0.
-fn count_of(d: f64) -> Billionths
+fn count_of(d: f64) -> Result<i64, Refusal>
     ensures { result ≡ count_of (billionths d) }
 {
     if elementary::is_positive_finite(d) {
@@ -124,16 +116,16 @@ fn count_of(d: f64) -> Billionths
     if elementary::is_positive_finite(-d) {
         return below_zero(d);
     }
-    Billionths::Count(0)
+    Ok(0)
 }
 
 // The count of a distance: refused by 11 where it is not finite, by 13 where the count is beyond the
 // limit.
-pub fn to_billionths(d: f64) -> Billionths
+pub fn to_billionths(d: f64) -> Result<i64, Refusal>
     ensures { result ≡ to_billionths d }
 {
     if elementary::is_finite(d) {
         return count_of(d);
     }
-    Billionths::Refused(series::refusals::NUMERICAL)
+    Err(series::refusals::NUMERICAL)
 }

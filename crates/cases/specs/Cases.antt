@@ -1,5 +1,5 @@
 -- The M cases of document 01, and those of change request 7, as one table: a question and its reply a row. Definitions only.
-use Rattle.std.specs.Prelude.{◌≡◌, ℕ, ◌-◌, ◌*◌, List, ◌∷◌, ◌++◌, map, [], ℤ, pos, neg_ℤ, Float}
+use Rattle.std.specs.Prelude.{◌≡◌, ℕ, ◌-◌, ◌*◌, List, ◌∷◌, ◌++◌, map, [], ℤ, pos, neg_ℤ, Float, Option, Some, None, Result, Ok, Err}
 use Rattle.elementary.specs.Float.{◌⊕◌, ◌⊘◌, hex, whole, 0ᶠ, ½ᶠ, 1ᶠ, 2ᶠ}
 use Rattle.elementary.specs.Elementary.{LN2}
 use Rattle.series.specs.Refusals.{numerical}
@@ -7,8 +7,6 @@ use Rattle.operator.specs.Vectors.{fill}
 use Rattle.plan.specs.Plan.{Fixed, Turn, going, ended, vector, over_cap, failed, cap, norm, first_turn, fixed}
 use Rattle.plan.specs.declared.RunInput.{RunInput}
 use Rattle.distances.specs.FloatEntry.{float_entry}
-use Rattle.distances.specs.declared.Distance.{Distance}
-use Rattle.distances.specs.declared.Distance.TheVariants as Distance
 use Rattle.vector.specs.declared.ValueVector.{ValueVector}
 use Rattle.distances.specs.declared.Answer.{Answer}
 use Rattle.distances.specs.declared.Answer.TheVariants as Answer
@@ -18,18 +16,11 @@ use Rattle.amounts.specs.Amounts.{tau_of, billion}
 use Rattle.model.specs.Configuration.{new_config}
 use Rattle.quote.specs.Quotes.{exact_quotes, optimal_quotes, closed_form_quotes}
 use Rattle.model.specs.declared.GLFTConfig.{GLFTConfig}
-use Rattle.model.specs.declared.ConfigAnswer.{ConfigAnswer}
-use Rattle.model.specs.declared.ConfigAnswer.TheVariants as ConfigAnswer
-use Rattle.model.specs.declared.ModelAnswer.{ModelAnswer}
-use Rattle.model.specs.declared.ModelAnswer.TheVariants as ModelAnswer
-use Rattle.prices.specs.declared.Price.{Price}
-use Rattle.prices.specs.declared.Price.TheVariants as Price
 use Rattle.quote.specs.declared.ExactQuotes.{ExactQuotes}
 use Rattle.quote.specs.declared.ExactQuotes.TheVariants as ExactQuotes
-use Rattle.quote.specs.declared.OptimalQuotes.{OptimalQuotes}
-use Rattle.quote.specs.declared.OptimalQuotes.TheVariants as OptimalQuotes
-use Rattle.quote.specs.declared.ClosedFormQuotes.{ClosedFormQuotes}
-use Rattle.quote.specs.declared.ClosedFormQuotes.TheVariants as ClosedFormQuotes
+use Rattle.elementary.specs.declared.Refusal.{Refusal}
+use Rattle.prices.specs.declared.GlftQuotes.{GlftQuotes}
+use Rattle.model.specs.declared.Model.{Model}
 
 -- ---- what a desk types
 pub record Case : Type 0 where
@@ -118,47 +109,47 @@ pub data Reply : Type 0 where
   passes : Reply
   refused : ℕ → Reply
   -- bid, ask and steps
-  quotes : Price → Price → ℕ → Reply
+  quotes : Option ℤ → Option ℤ → ℕ → Reply
   -- weights, offsets, n, steps, the base distance, and the distances of bid and ask
-  reckoned : List Float → List Float → ℕ → ℕ → Float → Distance → Distance → Reply
+  reckoned : List Float → List Float → ℕ → ℕ → Float → Option Float → Option Float → Reply
   -- the norm, the steps and their length
   planned : Float → ℕ → Float → Reply
   -- steps needed, budget left and steps spent
   over_the_cap : Float → ℕ → ℕ → Reply
 
-unfoldable pub of_config : ConfigAnswer → Reply
-of_config (ConfigAnswer.Config c) = passes
-of_config (ConfigAnswer.Refused r) = refused r
+unfoldable pub of_config : Result GLFTConfig Refusal → Reply
+of_config (Ok c) = passes
+of_config (Err r) = refused r.0
 
-unfoldable pub of_model : ModelAnswer → Reply
-of_model (ModelAnswer.Model m q) = passes
-of_model (ModelAnswer.Refused r) = refused r
+unfoldable pub of_model : Result (Model × ℤ) Refusal → Reply
+of_model (Ok (m, q)) = passes
+of_model (Err r) = refused r.0
 
 unfoldable pub of_exact : ExactQuotes → Reply
 of_exact (ExactQuotes.Quotes q s) = quotes q.bid q.ask s
 of_exact (ExactQuotes.OverStepCap need b s) = over_the_cap need b s
-of_exact (ExactQuotes.Refused r) = refused r
+of_exact (ExactQuotes.Refused r) = refused r.0
 
-unfoldable pub of_optimal : OptimalQuotes → Reply
-of_optimal (OptimalQuotes.Quotes q s) = quotes q.bid q.ask s
-of_optimal (OptimalQuotes.Refused r) = refused r
+unfoldable pub of_optimal : Result (GlftQuotes × ℕ) Refusal → Reply
+of_optimal (Ok (q, s)) = quotes q.bid q.ask s
+of_optimal (Err r) = refused r.0
 
 -- the closed form has no steps
-unfoldable pub of_closed : ClosedFormQuotes → Reply
-of_closed (ClosedFormQuotes.Quotes q) = quotes q.bid q.ask 0
-of_closed (ClosedFormQuotes.Refused r) = refused r
+unfoldable pub of_closed : Result GlftQuotes Refusal → Reply
+of_closed (Ok q) = quotes q.bid q.ask 0
+of_closed (Err r) = refused r.0
 
 unfoldable pub of_answer : Float → ValueVector → Answer → Reply
 of_answer base v (Answer.Distances b a s) = reckoned v.w v.log_offset v.n s base b a
 of_answer base v (Answer.OverCap need b s) = over_the_cap need b s
-of_answer base v (Answer.Refused r) = refused r
+of_answer base v (Answer.Refused r) = refused r.0
 
 unfoldable pub of_floats : Float → FloatAnswer → Reply
 of_floats base f = of_answer base f.vector f.answer
 
-unfoldable pub reckoned_from : ModelAnswer → Float → Reply
-reckoned_from (ModelAnswer.Model m q) tau = of_floats m.base (float_entry m.k m.base (input_of m tau) q)
-reckoned_from (ModelAnswer.Refused r) tau = refused r
+unfoldable pub reckoned_from : Result (Model × ℤ) Refusal → Float → Reply
+reckoned_from (Ok (m, q)) tau = of_floats m.base (float_entry m.k m.base (input_of m tau) q)
+reckoned_from (Err r) tau = refused r.0
 
 -- a plan ends no run with a vector: the second clause is never met
 unfoldable pub of_turn : Fixed → Turn → Reply
@@ -240,11 +231,11 @@ configuration_cases =
     ++ ask entries (with_spread over) (refused 2)
 
 -- a price by its billionths, and none
-abbrev pub price : ℕ → Price
-price n = Price.At (pos n)
+abbrev pub price : ℕ → Option ℤ
+price n = Some (pos n)
 
-abbrev pub no_price : Price
-no_price = Price.Absent
+abbrev pub no_price : Option ℤ
+no_price = None
 
 -- glft.rs, holding
 unfoldable pub holding_cases : List Row
@@ -255,14 +246,14 @@ holding_cases =
     ++ ask exacts (with_holding (neg_ℤ (units 1))) (quotes (price 99_306_852_819) no_price 0)
 
 -- n weights of 1.0 and n offsets of 0.0 in arrays of 401, and 0 steps
-abbrev pub at_end : ℕ → Float → Distance → Distance → Reply
+abbrev pub at_end : ℕ → Float → Option Float → Option Float → Reply
 at_end n base bid ask = reckoned (fill n 1ᶠ ++ fill (401 - n) 0ᶠ) (fill 401 0ᶠ) n 0 base bid ask
 
-abbrev pub by : Float → Distance
-by d = Distance.At d
+abbrev pub by : Float → Option Float
+by d = Some d
 
-abbrev pub no_side : Distance
-no_side = Distance.Absent
+abbrev pub no_side : Option Float
+no_side = None
 
 -- glft.rs, value vector. The current time at the terminal time and past it, or tau not above zero: for every model and holding this is AtTheEnd, among the
 -- promises of `distances`. The default's base distance is LN2. A tau of 5500 has no mark, and stands beside the tau that is over the cap.

@@ -28,7 +28,7 @@ fn put_plan(out: &mut [u8], at: usize, plan: FirstPlan) -> usize {
     match plan {
         FirstPlan::Steps(steps) => put_steps(out, at, steps),
         FirstPlan::OverCap(needed, budget) => put_cap(out, at, needed, budget),
-        FirstPlan::Refused(number) => put_refusal(out, at, number),
+        FirstPlan::Refused(refusal) => put_refusal(out, at, refusal.0),
     }
 }
 

@@ -1,11 +1,9 @@
 -- The line of an exact call: a letter, and fields with a space before each. Definitions only.
-use Rattle.std.specs.Prelude.{ℕ, List, [], ◌∷◌, nat_abs, Float}
+use Rattle.std.specs.Prelude.{ℕ, List, [], ◌∷◌, nat_abs, Float, Option, Some, None, ℤ}
 use Rattle.std.specs.Float.{binary64}
 use Rattle.std.specs.Float.Ieee.{to_bits}
 use Rattle.io.specs.Digits.{last_digits}
 use Rattle.harness.specs.Texts.{placed, after, spaced, after_spaced, letter_r, letter_c, count}
-use Rattle.prices.specs.declared.Price.{Price}
-use Rattle.prices.specs.declared.Price.TheVariants.{At, Absent}
 use Rattle.prices.specs.declared.GlftQuotes.{GlftQuotes}
 use Rattle.quote.specs.declared.ExactQuotes.{ExactQuotes}
 use Rattle.quote.specs.declared.ExactQuotes.TheVariants.{Quotes, OverStepCap, Refused}
@@ -33,9 +31,9 @@ unfoldable pub float_text : Float → List ℕ
 float_text x = last_digits 16 16 (to_bits binary64 x)
 
 -- a price's size in decimal digits, or `-` where it is absent
-unfoldable pub price_text : Price → List ℕ
-price_text (At x) = count (nat_abs x)
-price_text Absent = 45 ∷ []
+unfoldable pub price_text : Option ℤ → List ℕ
+price_text (Some x) = count (nat_abs x)
+price_text None = 45 ∷ []
 
 -- ---- lines
 abbrev pub letter_q : List ℕ
@@ -60,4 +58,4 @@ exact_letter (Refused n) = letter_r
 unfoldable pub exact_texts : ExactQuotes → List (List ℕ)
 exact_texts (Quotes q s) = counted_texts q s
 exact_texts (OverStepCap x b s) = cap_texts x b s
-exact_texts (Refused n) = count n ∷ []
+exact_texts (Refused r) = count r.0 ∷ []

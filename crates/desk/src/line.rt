@@ -32,8 +32,8 @@ fn put_price(out: &mut [u8], at: usize, p: Price) -> usize
     ensures value { result ≡ after_spaced out.old at (price_text p) }
 {
     match p {
-        Price::At(x) => put_number(out, at, size_of(x)),
-        Price::Absent => put_field(out, at, b"-"),
+        Some(x) => put_number(out, at, size_of(x)),
+        None => put_field(out, at, b"-"),
     }
 }
 
@@ -77,6 +77,6 @@ pub fn put_exact(out: &mut [u8], at: usize, a: ExactQuotes) -> usize
     match a {
         ExactQuotes::Quotes(q, steps) => put_counted(out, at, q, steps),
         ExactQuotes::OverStepCap(needed, budget, steps) => put_cap(out, at, needed, budget, steps),
-        ExactQuotes::Refused(number) => put_refusal(out, at, number),
+        ExactQuotes::Refused(refusal) => put_refusal(out, at, refusal.0),
     }
 }

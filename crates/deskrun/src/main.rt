@@ -15,10 +15,7 @@ use harness::{
     word_at,
 };
 use quote::refusals::LIMITS;
-use quote::{
-    ClosedFormQuotes, ConfigAnswer, ExactQuotes, GLFTConfig, GLFTStrategy, Model, ModelAnswer,
-    OptimalQuotes,
-};
+use quote::{ExactQuotes, GLFTConfig, GLFTStrategy, GlftQuotes, Model, Refusal};
 
 // The bytes of a record.
 const RECORD: usize = 104;
@@ -37,24 +34,24 @@ fn put_lots(out: &mut [u8], at: usize, q: i64) -> usize {
 }
 
 // The line of an exact call that has quotes, or a refusal.
-fn put_optimal(out: &mut [u8], at: usize, a: OptimalQuotes) -> usize {
+fn put_optimal(out: &mut [u8], at: usize, a: Result<(GlftQuotes, u32), Refusal>) -> usize {
     match a {
-        OptimalQuotes::Quotes(q, steps) => put_exact(out, at, ExactQuotes::Quotes(q, steps)),
-        OptimalQuotes::Refused(number) => put_refusal(out, at, number),
+        Ok((q, steps)) => put_exact(out, at, ExactQuotes::Quotes(q, steps)),
+        Err(refusal) => put_refusal(out, at, refusal.0),
     }
 }
 
-fn put_closed_form(out: &mut [u8], at: usize, a: ClosedFormQuotes) -> usize {
+fn put_closed_form(out: &mut [u8], at: usize, a: Result<GlftQuotes, Refusal>) -> usize {
     match a {
-        ClosedFormQuotes::Quotes(q) => put_quotes(out, at, q),
-        ClosedFormQuotes::Refused(number) => put_refusal(out, at, number),
+        Ok(q) => put_quotes(out, at, q),
+        Err(refusal) => put_refusal(out, at, refusal.0),
     }
 }
 
-fn put_config(out: &mut [u8], at: usize, a: ConfigAnswer) -> usize {
+fn put_config(out: &mut [u8], at: usize, a: Result<GLFTConfig, Refusal>) -> usize {
     match a {
-        ConfigAnswer::Config(_) => put(out, at, b"P"),
-        ConfigAnswer::Refused(number) => put_refusal(out, at, number),
+        Ok(_) => put(out, at, b"P"),
+        Err(refusal) => put_refusal(out, at, refusal.0),
     }
 }
 
@@ -83,15 +80,15 @@ fn put_lots_of(out: &mut [u8], start: usize, m: Model, q: i64) -> usize {
     put_lots(out, at, q)
 }
 
-fn put_model(out: &mut [u8], start: usize, a: ModelAnswer) -> usize {
+fn put_model(out: &mut [u8], start: usize, a: Result<(Model, i64), Refusal>) -> usize {
     match a {
-        ModelAnswer::Model(m, q) => put_lots_of(out, start, m, q),
-        ModelAnswer::Refused(number) => put_refusal(out, start, number),
+        Ok((m, q)) => put_lots_of(out, start, m, q),
+        Err(refusal) => put_refusal(out, start, refusal.0),
     }
 }
 
 // The configuration anew, by its constructor.
-fn renewed(c: GLFTConfig) -> ConfigAnswer {
+fn renewed(c: GLFTConfig) -> Result<GLFTConfig, Refusal> {
     GLFTConfig::new(
         c.risk_aversion,
         c.order_intensity_k,
@@ -149,7 +146,7 @@ fn put_answer(out: &mut [u8], start: usize, s: &[u8], at: usize) -> usize {
 // The record at a place, without its line's end.
 fn put_record(out: &mut [u8], start: usize, s: &[u8], at: usize) -> usize {
     if word_at(s, at, 48) > LARGEST_BOUND {
-        return put_refusal(out, start, LIMITS);
+        return put_refusal(out, start, LIMITS.0);
     }
     put_answer(out, start, s, at)
 }

@@ -1,4 +1,5 @@
 -- At or past the end of the time each present distance is the base. Assumes nothing.
+use Rattle.std.specs.Prelude.{Ok}
 use mathlib.Core.Path.{◌≡◌, refl, ap, ◌∙◌, subst}
 use Prim.Native.Nat.{ℕ, zero, suc, ◌≤◌, ◌<◌}
 use native.Mathlib.Nat.{zero-lt-suc}
@@ -26,7 +27,6 @@ use Rattle.distances.specs.Distances.{place, distance, bid_at, ask_at, fine, sid
 use Rattle.distances.specs.FloatEntry.{with_vector, answer_by, entry_if, entry_over, float_entry}
 use Rattle.distances.specs.Promises.{base_bid, AtTheEnd}
 use Rattle.vector.specs.declared.ValueVector.{ValueVector}
-use Rattle.distances.specs.declared.Sides.TheVariants as Sides
 use Rattle.distances.proofs.Checked.{scale_pass, all_pass}
 
 -- ---- the floats
@@ -83,7 +83,7 @@ module _ (n : ℕ) (k base : Float) (held : T (fits binary64 base)) (k-ok : T (p
   base_fine true = is_true (finite base) (and_l (finite base) (lt 0ᶠ base) base_ok)
   base_fine false = refl
 
-  exact_is : (i : ℕ) → i < n → exact_at (flat n) k base i ≡ Sides.Distances (base_bid (ltb (suc i) n) base) (base_bid (ltb 0 i) base)
+  exact_is : (i : ℕ) → i < n → exact_at (flat n) k base i ≡ Ok (base_bid (ltb (suc i) n) base, base_bid (ltb 0 i) base)
   unfolding exact_at sides flat vector_of
   exact_is i h = rw (bid_is (ltb (suc i) n) i (ltb→lt (suc i) n), ask_is i h, base_fine (ltb (suc i) n), base_fine (ltb 0 i))
 

@@ -6,8 +6,8 @@ use mathlib.Core.Bool.{false}
 use lib.IntN.{ℤ}
 use lib.Ieee.{Float, lt}
 use Rattle.elementary.specs.Float.{0ᶠ}
-use Rattle.elementary.specs.Checks.{Verdict, passes, refused, first_failing, Refuses, here, later}
-use Rattle.elementary.proofs.Checks.{first_failing_lem}
+use Rattle.elementary.specs.Checks.{Verdict, passes, refused, first_failing, Refuses, here, later, by}
+use Rattle.elementary.proofs.Checks.{first_failing_lem, same_number}
 use Rattle.series.specs.Refusals.{numerical}
 use Rattle.vector.specs.Run.{going, cap, run_on, run, fixed, spent}
 use Rattle.plan.specs.Count.{plan_ahead, plan_if, FirstGoes}
@@ -28,7 +28,7 @@ use Rattle.distances.proofs.Refusing.{by_check, float_refusals, float_reports}
 
 -- ---- each reply has its cause
 module _ (k base : Float) (x : RunInput) (q : ℤ) where
-  checked : (n : ℕ) → Refuses (entry_checks k base x q) n → CountIs k base x q (FirstPlan.Refused n)
+  checked : (n : ℕ) → Refuses (entry_checks k base x q) n → CountIs k base x q (FirstPlan.Refused (by n))
   checked n (here f) = Count.at_5 f
   checked n (later f (here b)) = Count.at_1 f b
   checked n (later f (later b (here h))) = Count.at_4 f b h
@@ -54,7 +54,7 @@ module _ (k base : Float) (x : RunInput) (q : ℤ) where
   verdict = first_failing (entry_checks k base x q)
 
   -- a count of another kind than a refusal passed the checks
-  passes_by : (r : FirstPlan) → ((n : ℕ) → FirstPlan.Refused n ≡ r → ◌≡◌ {A = ℕ} 0 1) → step_count k base x q ≡ r → (verdict ≡ passes) × (plan_ahead x ≡ r)
+  passes_by : (r : FirstPlan) → ((n : ℕ) → FirstPlan.Refused (by n) ≡ r → ◌≡◌ {A = ℕ} 0 1) → step_count k base x q ≡ r → (verdict ≡ passes) × (plan_ahead x ≡ r)
   unfolding step_count count_over plan_if
   passes_by r other = go verdict refl
     where
@@ -89,19 +89,19 @@ module _ (k base : Float) (x : RunInput) (q : ℤ) where
       rw (all_pass k base x q r.floats r.bound_is_ok r.held, whole) (whole_budget x need r.time (subst (λ (l : ℕ). CapReported (fixed x) x.tau need l) whole r.report))
 
   -- ---- refused, both ways
-  refused_to : (n : ℕ) → step_count k base x q ≡ FirstPlan.Refused n → ((float_entry k base x q).answer ≡ Answer.Refused n) × (float_steps k base x q ≡ 0)
+  refused_to : (n : ℕ) → step_count k base x q ≡ FirstPlan.Refused (by n) → ((float_entry k base x q).answer ≡ Answer.Refused (by n)) × (float_steps k base x q ≡ 0)
   unfolding step_count count_over plan_if float_entry entry_over entry_if float_steps steps_over steps_if refused_entry answer_by spent
   refused_to n = go verdict
     where
-      go : (v : Verdict) → plan_if v (plan_ahead x) ≡ FirstPlan.Refused n → ((entry_if v (answer_by x.bound k base q (run x))).answer ≡ Answer.Refused n) × (steps_if v (spent (run x)) ≡ 0)
-      go passes e = let (m, r) = tied x (FirstPlan.Refused n) e in rw (m, r) (refl, refl)
-      go (refused m) e = (cc, refl)
+      go : (v : Verdict) → plan_if v (plan_ahead x) ≡ FirstPlan.Refused (by n) → ((entry_if v (answer_by x.bound k base q (run x))).answer ≡ Answer.Refused (by n)) × (steps_if v (spent (run x)) ≡ 0)
+      go passes e = let (m, r) = tied x (FirstPlan.Refused (by n)) e in rw (m, r) (refl, refl)
+      go (refused m) e = (ap (λ (j : ℕ). Answer.Refused (by j)) (same_number (let y : by m ≡ by n = cc in y)), refl)
 
-  refused_from : (n : ℕ) → (n ≡ numerical → ⊥) → (float_entry k base x q).answer ≡ Answer.Refused n → step_count k base x q ≡ FirstPlan.Refused n
+  refused_from : (n : ℕ) → (n ≡ numerical → ⊥) → (float_entry k base x q).answer ≡ Answer.Refused (by n) → step_count k base x q ≡ FirstPlan.Refused (by n)
   unfolding step_count count_over plan_if
   refused_from n other e = go n other ((float_refusals k base x q n).0 e)
     where
-      go : (n : ℕ) → (n ≡ numerical → ⊥) → FloatRefused k base x q n → plan_if verdict (plan_ahead x) ≡ FirstPlan.Refused n
+      go : (n : ℕ) → (n ≡ numerical → ⊥) → FloatRefused k base x q n → plan_if verdict (plan_ahead x) ≡ FirstPlan.Refused (by n)
       go n other (at_5 f) = rw (by_check k base x q (here f))
       go n other (at_1 f b) = rw (by_check k base x q (later f (here b)))
       go n other (at_4 f b h) = rw (by_check k base x q (later f (later b (here h))))

@@ -1,21 +1,22 @@
 -- A reply carries the steps of its run. Assumes nothing.
+use Rattle.std.specs.Prelude.{Option, Result, Ok, Err}
 use mathlib.Core.Path.{◌≡◌, refl}
 use Prim.Native.Nat.{ℕ, ◌≤◌}
 use native.Mathlib.Omega.{arith}
 use lib.IntN.{ℤ}
 use lib.Ieee.{Float}
-use Rattle.elementary.specs.Checks.{Verdict, passes, refused, first_failing}
+use Rattle.elementary.specs.Checks.{Verdict, passes, refused, first_failing, by}
 use Rattle.vector.specs.Run.{Ended, vector, over_cap, failed, cap, run, spent}
 use Rattle.vector.specs.declared.ValueVector.{ValueVector}
 use Rattle.vector.proofs.Spent.{steps_within, budget_within}
 use Rattle.distances.specs.FloatEntry.{refused_entry, with_vector, answer_by, entry_checks, entry_if, entry_over, float_entry, steps_if, steps_over, float_steps}
 use Rattle.distances.specs.Promises.{Counted, StepsCounted}
-use Rattle.distances.specs.declared.Sides.{Sides}
+use Rattle.elementary.specs.declared.Refusal.{Refusal}
 
-sides_counted : (v : ValueVector) (s : ℕ) (r : Sides) → Counted (with_vector v s r).answer s
+sides_counted : (v : ValueVector) (s : ℕ) (r : Result (Option Float × Option Float) Refusal) → Counted (with_vector v s r).answer s
 unfolding Counted with_vector refused_entry
-sides_counted v s (Sides.Distances b a) = refl
-sides_counted v s (Sides.Refused r) = tt
+sides_counted v s (Ok (b, a)) = refl
+sides_counted v s (Err r) = tt
 
 counted : (bound : ℕ) (k base : Float) (q : ℤ) (r : Ended) → ((need : Float) (b : ℕ) → r ≡ over_cap need b → b ≤ cap) → Counted (answer_by bound k base q r).answer (spent r)
 unfolding Counted answer_by refused_entry spent

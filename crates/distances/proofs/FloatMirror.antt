@@ -1,4 +1,5 @@
 -- The float entry at minus q and the drift turned is that at q with the sides exchanged: the two runs are mirror images, and opposite holdings have opposite places. Assumes nothing.
+use Rattle.std.specs.Prelude.{Option, Result, Ok, Err}
 use mathlib.Core.Path.{◌≡◌, refl, sym, ◌∙◌}
 use Prim.Native.Nat.{ℕ, zero, suc, ◌+◌, ◌≤◌}
 use native.Mathlib.Omega.{arith}
@@ -9,7 +10,7 @@ use lib.IntN.{ℤ, pos, negsuc, neg_ℤ, nat_abs}
 use lib.Dec.{ltb}
 use lib.ListN.{length, get_or-append}
 use lib.Ieee.{Float, nan}
-use Rattle.elementary.specs.Checks.{Verdict, passes, refused, first_failing}
+use Rattle.elementary.specs.Checks.{Verdict, passes, refused, first_failing, by}
 use Rattle.elementary.proofs.Signs.{finite_neg}
 use Rattle.operator.specs.Vectors.{at, Mirror}
 use Rattle.vector.specs.Run.{Ended, vector, over_cap, failed, bound_ok, run, spent}
@@ -23,17 +24,16 @@ use Rattle.vector.proofs.Turned.{turned_mirror, full_length}
 use Rattle.distances.specs.Distances.{place, distance, bid_at, ask_at, fine, sides, exact_at}
 use Rattle.distances.specs.FloatEntry.{refused_entry, with_vector, answer_by, floats_ok, entry_checks, entry_if, entry_over, float_entry, steps_if, steps_over, float_steps}
 use Rattle.distances.specs.Promises.{exchanged_sides, exchanged, MirrorVector, FloatMirror}
-use Rattle.distances.specs.declared.Distance.{Distance}
-use Rattle.distances.specs.declared.Sides.{Sides}
 use Rattle.distances.specs.declared.FloatAnswer.{FloatAnswer}
 use Rattle.distances.proofs.Checked.{rates_pass, passed}
+use Rattle.elementary.specs.declared.Refusal.{Refusal}
 
 -- ---- the distances
 padded_alike : (n : ℕ) (l r : List Float) → length l ≡ n → length r ≡ n → Mirror n l r → (i j : ℕ) → suc (i + j) ≡ n → at (padded n l) i ≡ at (padded n r) j
 unfolding padded Mirror
 padded_alike n l r k k' m i j e = get_or-append l _ nan i (omega (arith, k)) ∙ m i j e ∙ sym (get_or-append r _ nan j (omega (arith, k')))
 
-pub sides_exchanged : (b a : Distance) → sides (fine a && fine b) a b ≡ exchanged_sides (sides (fine b && fine a) b a)
+pub sides_exchanged : (b a : Option Float) → sides (fine a && fine b) a b ≡ exchanged_sides (sides (fine b && fine a) b a)
 unfolding sides exchanged_sides
 sides_exchanged b a = rw (and_comm (fine a) (fine b)) (go (fine b && fine a))
   where
@@ -100,10 +100,10 @@ blank_mirrored = (refl, (λ i j e. absurd (omega arith)), (λ i j e. absurd (ome
 alike : (T : Type 0) (x : FloatAnswer) → x.vector ≡ blank_vector → exchanged x.answer ≡ x.answer → Exchanged T x x
 alike T x e h = record { answers = sym h; vectors = rw e blank_mirrored; same = λ _. refl }
 
-with_exchanged : (T : Type 0) (v v' : ValueVector) (s : ℕ) (r : Sides) → MirrorVector v v' → (T → v ≡ v') → Exchanged T (with_vector v s (exchanged_sides r)) (with_vector v' s r)
+with_exchanged : (T : Type 0) (v v' : ValueVector) (s : ℕ) (r : Result (Option Float × Option Float) Refusal) → MirrorVector v v' → (T → v ≡ v') → Exchanged T (with_vector v s (exchanged_sides r)) (with_vector v' s r)
 unfolding with_vector refused_entry exchanged exchanged_sides
-with_exchanged T v v' s (Sides.Distances b a) m h = record { answers = refl; vectors = m; same = h }
-with_exchanged T v v' s (Sides.Refused r) m h = record { answers = refl; vectors = blank_mirrored; same = λ _. refl }
+with_exchanged T v v' s (Ok (b, a)) m h = record { answers = refl; vectors = m; same = h }
+with_exchanged T v v' s (Err r) m h = record { answers = refl; vectors = blank_mirrored; same = λ _. refl }
 
 -- a run's end whose vector has n entries
 abbrev Long : ℕ → Ended → Type 0

@@ -1,4 +1,5 @@
 -- The float entry withholds the bid at the bound alone, and the ask at minus the bound alone: the bound is the last place and minus the bound the first. Assumes nothing.
+use Rattle.std.specs.Prelude.{Option, None, Result, Ok, Err}
 use mathlib.Core.Path.{◌≡◌, refl, sym, ap, ◌∙◌}
 use mathlib.Core.Logic.Iff
 use mathlib.Core.Logic.{◌↔◌}
@@ -9,7 +10,7 @@ use borrow.Author.Tests.{ltb-false, leb-true, le-ltb}
 use lib.IntN.{ℤ, pos, neg_ℤ, nat_abs, ◌+ℤ◌, ◌-ℤ◌, +ℤ_invl, +ℤ-neg_ℤ_cancel}
 use lib.Dec.{ltb}
 use lib.Ieee.{Float}
-use Rattle.elementary.specs.Checks.{Verdict, passes, refused, first_failing}
+use Rattle.elementary.specs.Checks.{Verdict, passes, refused, first_failing, by}
 use Rattle.vector.specs.Run.{Ended, vector, over_cap, failed, run}
 use Rattle.operator.specs.Operator.{rows}
 use Rattle.vector.specs.Values.{vector_of}
@@ -17,12 +18,11 @@ use Rattle.vector.specs.declared.ValueVector.{ValueVector}
 use Rattle.distances.specs.Distances.{place, bid_at, ask_at, sides, exact_at}
 use Rattle.distances.specs.FloatEntry.{refused_entry, with_vector, answer_by, entry_checks, entry_if, entry_over, float_entry}
 use Rattle.distances.specs.Promises.{Withheld, FloatPresence}
-use Rattle.distances.specs.declared.Distance.{Distance}
-use Rattle.distances.specs.declared.Distance.TheVariants.{Absent}
-use Rattle.distances.specs.declared.Sides.{Sides}
 use Rattle.distances.specs.declared.Answer.TheVariants.{Distances}
 use Rattle.distances.proofs.Checked.{passed}
 use Rattle.distances.proofs.Holdings.{at_place, place_most}
+use Rattle.elementary.specs.declared.Refusal.{Refusal}
+use Rattle.elementary.proofs.Results.{ok_pair}
 
 -- ---- the places
 -- another holding has another place
@@ -39,28 +39,28 @@ unfolding place
 first b q h = (λ e. place_tells b q (neg_ℤ (pos b)) h (+ℤ_invl (pos b) ∙ ap pos (sym e)), λ e. rw (e, +ℤ_invl (pos b)))
 
 -- ---- the sides
-bid_absent : (t : Bool) (v : ValueVector) (k base : Float) (i : ℕ) → (bid_at t v k base i ≡ Absent) ↔ (t ≡ false)
+bid_absent : (t : Bool) (v : ValueVector) (k base : Float) (i : ℕ) → (bid_at t v k base i ≡ None) ↔ (t ≡ false)
 unfolding bid_at
 bid_absent false v k base i = (λ e. refl, λ e. refl)
 bid_absent true v k base i = (λ e. cc, λ e. cc)
 
-ask_absent : (v : ValueVector) (k base : Float) (i : ℕ) → (ask_at v k base i ≡ Absent) ↔ (i ≡ 0)
+ask_absent : (v : ValueVector) (k base : Float) (i : ℕ) → (ask_at v k base i ≡ None) ↔ (i ≡ 0)
 unfolding ask_at
 ask_absent v k base zero = (λ e. refl, λ e. refl)
 ask_absent v k base (suc i) = (λ e. cc, λ e. absurd (omega arith))
 
 -- ---- the answers
-pub sides_are : (t : Bool) (x y b a : Distance) → sides t x y ≡ Sides.Distances b a → (x ≡ b) × (y ≡ a)
+pub sides_are : (t : Bool) (x y b a : Option Float) → sides t x y ≡ Ok (b, a) → (x ≡ b) × (y ≡ a)
 unfolding sides
-sides_are true x y b a e = (cc, cc)
+sides_are true x y b a e = ok_pair e
 sides_are false x y b a e = (cc, cc)
 
-with_sides : (v : ValueVector) (s : ℕ) (r : Sides) (b a : Distance) (n : ℕ) → (with_vector v s r).answer ≡ Distances b a n → r ≡ Sides.Distances b a
+with_sides : (v : ValueVector) (s : ℕ) (r : Result (Option Float × Option Float) Refusal) (b a : Option Float) (n : ℕ) → (with_vector v s r).answer ≡ Distances b a n → r ≡ Ok (b, a)
 unfolding with_vector refused_entry
-with_sides v s (Sides.Distances x y) b a n e = cc
-with_sides v s (Sides.Refused r) b a n e = cc
+with_sides v s (Ok (x, y)) b a n e = cc
+with_sides v s (Err r) b a n e = cc
 
-run_withheld : (bound : ℕ) (k base : Float) (q : ℤ) → nat_abs q ≤ bound → (r : Ended) (b a : Distance) (s : ℕ) → (answer_by bound k base q r).answer ≡ Distances b a s → Withheld bound q b a
+run_withheld : (bound : ℕ) (k base : Float) (q : ℤ) → nat_abs q ≤ bound → (r : Ended) (b a : Option Float) (s : ℕ) → (answer_by bound k base q r).answer ≡ Distances b a s → Withheld bound q b a
 unfolding answer_by refused_entry exact_at vector_of
 run_withheld bound k base q h (vector w o n) b a s e =
     let v = vector_of (rows bound) w o in

@@ -1,4 +1,5 @@
 -- What the checks of a read from a vector say: where they pass, the place lies within it and is read; else their number refuses. And an entry that is lent by its bits. Assumes nothing.
+use Rattle.std.specs.Prelude.{Ok, Err}
 use mathlib.Core.Path.{◌≡◌, refl}
 use Prim.Native.Nat.{ℕ, zero, suc, ◌/◌, ◌<◌, ◌≤◌}
 use native.Mathlib.Omega.{arith}
@@ -10,12 +11,11 @@ use borrow.Author.Tests.{leb-true}
 use Rattle.elementary.specs.Float.{hex}
 use Rattle.elementary.specs.Checks.{Verdict, passes, first_failing, check_of, Passes, none, each}
 use Rattle.elementary.proofs.Checks.{none_failing, check_passes, check_refused}
-use Rattle.elementary.specs.declared.Check.TheVariants as Check
 use Rattle.distances.specs.Distances.{lent, place, exact_at, distance_checks, distances_if, exact_distances}
 use Rattle.operator.specs.Vectors.{at}
 use Rattle.distances.specs.Reading.{floats}
-use Rattle.distances.specs.declared.Sides.TheVariants as Sides
 use Rattle.distances.proofs.Holdings.{length_range, place_most}
+use Rattle.elementary.specs.declared.Refusal.{Refusal}
 
 -- the verdict on a read at q lots of a vector of n entries, whatever they are
 abbrev pub read_verdict : ℕ → Float → Float → ℤ → Verdict
@@ -33,7 +33,7 @@ module _ (n : ℕ) (k base : Float) (q : ℤ) where
   unfolding exact_distances distances_if
   read_is e w o = rw e
 
-  pub readable : Check.Passes ≡ check_of (read_verdict n k base q) → Readable
+  pub readable : Ok tt ≡ check_of (read_verdict n k base q) → Readable
   readable h = let e = check_passes (read_verdict n k base q) h in go e ((none_failing (distance_checks (lent n [] []) k base q)).0 e)
     where
       go : read_verdict n k base q ≡ passes → Passes (distance_checks (lent n [] []) k base q) → Readable
@@ -42,7 +42,7 @@ module _ (n : ℕ) (k base : Float) (q : ℤ) where
           let t = leb-true (nat_abs q) (n / 2) b in
           record { half = r.0; most = omega arith; held = t; inside = omega (arith, place_most q (n / 2) t); read = read_is e }
 
-  pub unreadable : (m : ℕ) → Check.Refused m ≡ check_of (read_verdict n k base q) → (w o : List Float) → exact_distances (lent n w o) k base q ≡ Sides.Refused m
+  pub unreadable : (m : Refusal) → Err m ≡ check_of (read_verdict n k base q) → (w o : List Float) → exact_distances (lent n w o) k base q ≡ Err m
   unfolding exact_distances distances_if
   unreadable m h w o = rw (check_refused (read_verdict n k base q) m h)
 

@@ -1,5 +1,6 @@
 -- Each refusal of this layer is the reply in just the situation that the paper names. Assumes nothing.
-use mathlib.Core.Path.{◌≡◌, refl, ap, ◌∙◌}
+use Rattle.std.specs.Prelude.{Option, Result, Ok, Err}
+use mathlib.Core.Path.{◌≡◌, refl, ap, ◌∙◌, sym}
 use mathlib.Core.Logic.{◌⊎◌, inl, inr}
 use Prim.Native.Nat.{ℕ, zero, suc, ◌-◌, ◌/◌}
 use native.Mathlib.Omega.{arith}
@@ -8,8 +9,8 @@ use borrow.Author.Tests.{ltb-true, lt-ltb}
 use lib.IntN.{ℤ}
 use lib.Dec.{ltb}
 use lib.Ieee.{Float}
-use Rattle.elementary.specs.Checks.{Verdict, passes, refused, first_failing, Refuses, here, later, Passes, none, each}
-use Rattle.elementary.proofs.Checks.{first_failing_lem, none_failing}
+use Rattle.elementary.specs.Checks.{Verdict, passes, refused, first_failing, Refuses, here, later, Passes, none, each, by}
+use Rattle.elementary.proofs.Checks.{first_failing_lem, none_failing, same_err, same_number}
 use Rattle.series.specs.Refusals.{numerical}
 use Rattle.vector.specs.Run.{Ended, vector, over_cap, failed, cap, run}
 use Rattle.operator.specs.Operator.{rows}
@@ -20,11 +21,10 @@ use Rattle.vector.proofs.Causes.{runs_fail, cap_reports}
 use Rattle.distances.specs.Distances.{place, bid_at, ask_at, fine, sides, exact_at, distance_checks, distances_if, exact_distances}
 use Rattle.distances.specs.FloatEntry.{refused_entry, with_vector, answer_by, entry_checks, entry_if, entry_over, float_entry}
 use Rattle.distances.specs.Refusing.{ReadFails, by_bid, by_ask, ReadsFail, DistancesRefused, by_5, by_1, by_4, by_11, DistancesRefusals, EntryFails, by_run, by_read, FloatRefused, at_5, at_1, at_4, at_11, FloatRefusals, FloatReported, FloatReports}
-use Rattle.distances.specs.declared.Distance.{Distance}
-use Rattle.distances.specs.declared.Sides.{Sides}
 use Rattle.distances.specs.declared.Answer.TheVariants as Answer
 use Rattle.distances.proofs.Checked.{passed, all_pass}
 use Rattle.distances.proofs.Weights.{distances_fail}
+use Rattle.elementary.specs.declared.Refusal.{Refusal}
 
 -- a test that is both true and false
 pub never : {A : Type 0} → true ≡ false → A
@@ -59,10 +59,10 @@ module _ (v : ValueVector) (k base : Float) (i : ℕ) where
   failing (by_bid h d) = inl (rw (lt-ltb (suc i) v.n h) ((distances_fail v k base i (suc i)).1 d))
   failing (by_ask {j} h d) = inr (rw h ((distances_fail v k base (suc j) j).1 (rw h at d)))
 
-sides_refused : (t : Bool) (b a : Distance) (n : ℕ) → sides t b a ≡ Sides.Refused n → (n ≡ numerical) × (t ≡ false)
+sides_refused : (t : Bool) (b a : Option Float) (n : ℕ) → sides t b a ≡ Err (by n) → (n ≡ numerical) × (t ≡ false)
 unfolding sides
-sides_refused true b a n e = (cc, cc)
-sides_refused false b a n e = (cc, refl)
+sides_refused true b a n e = let z : ◌≡◌ {A = ℕ} 0 1 = cc in absurd (omega arith)
+sides_refused false b a n e = (sym (same_err e), refl)
 
 pub reads_fail : ReadsFail
 unfolding exact_at sides
@@ -76,7 +76,7 @@ pub distances_refusals : DistancesRefusals
 unfolding exact_distances distances_if
 distances_refusals v k base q n = (to (first_failing (distance_checks v k base q)) refl, from n)
   where
-    read : Sides
+    read : Result (Option Float × Option Float) Refusal
     read = exact_at v k base (place (v.n / 2) q)
 
     failed_by : (m : ℕ) → Refuses (distance_checks v k base q) m → DistancesRefused v k base q m
@@ -85,36 +85,36 @@ distances_refusals v k base q n = (to (first_failing (distance_checks v k base q
     failed_by m (later f (later b (here h))) = by_4 f b h
     failed_by m (later f (later b (later _ x))) = elim x [ ]
 
-    to : (t : Verdict) → first_failing (distance_checks v k base q) ≡ t → distances_if t read ≡ Sides.Refused n → DistancesRefused v k base q n
+    to : (t : Verdict) → first_failing (distance_checks v k base q) ≡ t → distances_if t read ≡ Err (by n) → DistancesRefused v k base q n
     to passes t e = all ((none_failing (distance_checks v k base q)).0 t)
       where
         all : Passes (distance_checks v k base q) → DistancesRefused v k base q n
         all (each f (each b (each h none))) = let (z, r) = (reads_fail v k base (place (v.n / 2) q) n).0 e in rw z (by_11 f b h r)
-    to (refused m) t e = let z : m ≡ n = cc in failed_by n ((first_failing_lem (distance_checks v k base q) n).0 (t ∙ ap refused z))
+    to (refused m) t e = let z : m ≡ n = same_err e in failed_by n ((first_failing_lem (distance_checks v k base q) n).0 (t ∙ ap refused z))
 
-    from : (m : ℕ) → DistancesRefused v k base q m → distances_if (first_failing (distance_checks v k base q)) read ≡ Sides.Refused m
+    from : (m : ℕ) → DistancesRefused v k base q m → distances_if (first_failing (distance_checks v k base q)) read ≡ Err (by m)
     from m (by_5 f) = rw ((first_failing_lem (distance_checks v k base q) m).1 (here f))
     from m (by_1 f b) = rw ((first_failing_lem (distance_checks v k base q) m).1 (later f (here b)))
     from m (by_4 f b h) = rw ((first_failing_lem (distance_checks v k base q) m).1 (later f (later b (here h))))
     from m (by_11 f b h r) = rw ((none_failing (distance_checks v k base q)).1 (each f (each b (each h none)))) ((reads_fail v k base (place (v.n / 2) q) numerical).1 (refl, r))
 
 -- ---- the float entry
-with_refused : (v : ValueVector) (s : ℕ) (r : Sides) (n : ℕ) → (with_vector v s r).answer ≡ Answer.Refused n → r ≡ Sides.Refused n
+with_refused : (v : ValueVector) (s : ℕ) (r : Result (Option Float × Option Float) Refusal) (n : ℕ) → (with_vector v s r).answer ≡ Answer.Refused (by n) → r ≡ Err (by n)
 unfolding with_vector refused_entry
-with_refused v s (Sides.Distances b a) n e = cc
-with_refused v s (Sides.Refused r) n e = cc
+with_refused v s (Ok (b, a)) n e = cc
+with_refused v s (Err r) n e = cc
 
 module _ (k base : Float) (x : RunInput) (q : ℤ) where
-  ended : (e : Ended) → run x ≡ e → (n : ℕ) → (answer_by x.bound k base q e).answer ≡ Answer.Refused n → (n ≡ numerical) × EntryFails k base x q
+  ended : (e : Ended) → run x ≡ e → (n : ℕ) → (answer_by x.bound k base q e).answer ≡ Answer.Refused (by n) → (n ≡ numerical) × EntryFails k base x q
   unfolding answer_by refused_entry
   ended (vector w o s) h n i =
       let v = vector_of (rows x.bound) w o in
       let (z, r) = (reads_fail v k base (place x.bound q) n).0 (with_refused v s _ n i) in
       (z, by_read h r)
   ended (over_cap need b) h n i = let z : ◌≡◌ {A = ℕ} 0 1 = cc in absurd (omega arith)
-  ended (failed s) h n i = let c = (runs_fail x s).0 h in (cc, by_run c.0 c.1)
+  ended (failed s) h n i = let c = (runs_fail x s).0 h in (same_number (let y : by n ≡ by numerical = cc in y), by_run c.0 c.1)
 
-  ends : EntryFails k base x q → (answer_by x.bound k base q (run x)).answer ≡ Answer.Refused numerical
+  ends : EntryFails k base x q → (answer_by x.bound k base q (run x)).answer ≡ Answer.Refused (by numerical)
   unfolding answer_by with_vector refused_entry
   ends (by_run {s} l c) = rw ((runs_fail x s).1 (l, c))
   ends (by_read {w} {o} {s} h r) = rw (h, (reads_fail (vector_of (rows x.bound) w o) k base (place x.bound q) numerical).1 (refl, r))
@@ -133,24 +133,24 @@ pub float_refusals : FloatRefusals
 unfolding float_entry entry_over entry_if refused_entry
 float_refusals k base x q n = (to (first_failing (entry_checks k base x q)) refl, from n)
   where
-    to : (v : Verdict) → first_failing (entry_checks k base x q) ≡ v → (entry_if v (answer_by x.bound k base q (run x))).answer ≡ Answer.Refused n → FloatRefused k base x q n
+    to : (v : Verdict) → first_failing (entry_checks k base x q) ≡ v → (entry_if v (answer_by x.bound k base q (run x))).answer ≡ Answer.Refused (by n) → FloatRefused k base x q n
     to passes t e =
         let p = passed k base x q t in
         let (z, r) = ended k base x q (run x) refl n e in
         rw z (at_11 p.floats p.bound_is_ok p.held r)
-    to (refused m) t e = let z : m ≡ n = cc in checked k base x q n ((first_failing_lem (entry_checks k base x q) n).0 (t ∙ ap refused z))
+    to (refused m) t e = let z : m ≡ n = same_number (let y : by m ≡ by n = cc in y) in checked k base x q n ((first_failing_lem (entry_checks k base x q) n).0 (t ∙ ap refused z))
 
-    from : (m : ℕ) → FloatRefused k base x q m → (entry_if (first_failing (entry_checks k base x q)) (answer_by x.bound k base q (run x))).answer ≡ Answer.Refused m
+    from : (m : ℕ) → FloatRefused k base x q m → (entry_if (first_failing (entry_checks k base x q)) (answer_by x.bound k base q (run x))).answer ≡ Answer.Refused (by m)
     from m (at_5 f) = rw (by_check k base x q (here f))
     from m (at_1 f b) = rw (by_check k base x q (later f (here b)))
     from m (at_4 f b h) = rw (by_check k base x q (later f (later b (here h))))
     from m (at_11 f b h r) = rw (all_pass k base x q f b h) (ends k base x q r)
 
 -- ---- the cap report
-with_report : (v : ValueVector) (t : ℕ) (r : Sides) (need : Float) (b s : ℕ) → (with_vector v t r).answer ≡ Answer.OverCap need b s → ◌≡◌ {A = ℕ} 0 1
+with_report : (v : ValueVector) (t : ℕ) (r : Result (Option Float × Option Float) Refusal) (need : Float) (b s : ℕ) → (with_vector v t r).answer ≡ Answer.OverCap need b s → ◌≡◌ {A = ℕ} 0 1
 unfolding with_vector refused_entry
-with_report v t (Sides.Distances x y) need b s e = cc
-with_report v t (Sides.Refused r) need b s e = cc
+with_report v t (Ok (x, y)) need b s e = cc
+with_report v t (Err r) need b s e = cc
 
 reported : (bound : ℕ) (k base : Float) (q : ℤ) (e : Ended) (need : Float) (b s : ℕ) → (answer_by bound k base q e).answer ≡ Answer.OverCap need b s → (e ≡ over_cap need b) × (s ≡ cap - b)
 unfolding answer_by refused_entry

@@ -3,7 +3,7 @@ use Rattle.std.specs.Prelude.{◌≡◌, ◌↔◌, ℕ, suc, true, false, ℤ, 
 use Rattle.std.specs.Float.Ieee.{lt}
 use Rattle.elementary.specs.Float.{0ᶠ}
 use Rattle.elementary.specs.Elementary.{outside}
-use Rattle.elementary.specs.Checks.{first_failing}
+use Rattle.elementary.specs.Checks.{first_failing, by}
 use Rattle.vector.specs.Refusals.{configuration}
 use Rattle.series.specs.Refusals.{numerical}
 use Rattle.vector.specs.Run.{going, cap, bound_ok, run_on, fixed}
@@ -25,9 +25,9 @@ step_count k base x q = count_over (plan_ahead x) k base x q
 
 -- ---- each reply has its one cause, in order: the floats, the bound, the holding, and what the first plan is
 pub data CountIs (k base : Float) (x : RunInput) (q : ℤ) : FirstPlan → Type 0 where
-  at_5 : floats_ok k base x ≡ false → CountIs k base x q (FirstPlan.Refused outside)
-  at_1 : floats_ok k base x ≡ true → bound_ok x.bound ≡ false → CountIs k base x q (FirstPlan.Refused configuration)
-  at_4 : floats_ok k base x ≡ true → bound_ok x.bound ≡ true → within x.bound q ≡ false → CountIs k base x q (FirstPlan.Refused holding)
+  at_5 : floats_ok k base x ≡ false → CountIs k base x q (FirstPlan.Refused (by outside))
+  at_1 : floats_ok k base x ≡ true → bound_ok x.bound ≡ false → CountIs k base x q (FirstPlan.Refused (by configuration))
+  at_4 : floats_ok k base x ≡ true → bound_ok x.bound ≡ true → within x.bound q ≡ false → CountIs k base x q (FirstPlan.Refused (by holding))
   counted : {r : FirstPlan} → floats_ok k base x ≡ true → bound_ok x.bound ≡ true → within x.bound q ≡ true → FirstIs x r → CountIs k base x q r
 
 abbrev pub StepCounts : Type 0
@@ -43,7 +43,7 @@ pub record CountIsFirstPlan : Type 0 where
   -- none: no time is left, and the run takes no step
   pub none : (k base : Float) (x : RunInput) (q : ℤ) → step_count k base x q ≡ FirstPlan.Steps 0 → (lt 0ᶠ x.tau ≡ false) × (float_steps k base x q ≡ 0)
   -- a refusal, 11 among them: the entry refuses by it, before any step; and what the entry refuses by another number than 11, so does the count
-  pub refused : (k base : Float) (x : RunInput) (q : ℤ) (n : ℕ) → step_count k base x q ≡ FirstPlan.Refused n
-      → ((float_entry k base x q).answer ≡ Answer.Refused n) × (float_steps k base x q ≡ 0)
-  pub alike : (k base : Float) (x : RunInput) (q : ℤ) (n : ℕ) → (n ≡ numerical → ⊥) → (float_entry k base x q).answer ≡ Answer.Refused n
-      → step_count k base x q ≡ FirstPlan.Refused n
+  pub refused : (k base : Float) (x : RunInput) (q : ℤ) (n : ℕ) → step_count k base x q ≡ FirstPlan.Refused (by n)
+      → ((float_entry k base x q).answer ≡ Answer.Refused (by n)) × (float_steps k base x q ≡ 0)
+  pub alike : (k base : Float) (x : RunInput) (q : ℤ) (n : ℕ) → (n ≡ numerical → ⊥) → (float_entry k base x q).answer ≡ Answer.Refused (by n)
+      → step_count k base x q ≡ FirstPlan.Refused (by n)

@@ -1,8 +1,8 @@
 -- Document 01, module 4, its float side: the distances at one holding, from a value vector. Definitions only.
-use Rattle.std.specs.Prelude.{ℕ, zero, suc, ◌/◌, Bool, true, false, ◌&&◌, List, [], ◌∷◌, ℤ, pos, nat_abs, ◌+ℤ◌, ltb, leb, eqb, Float}
+use Rattle.std.specs.Prelude.{ℕ, zero, suc, ◌/◌, Bool, true, false, ◌&&◌, List, [], ◌∷◌, ℤ, pos, nat_abs, ◌+ℤ◌, ltb, leb, eqb, Float, Option, Some, None, Result, Ok, Err}
 use Rattle.elementary.specs.Float.{◌⊕◌, ◌⊖◌, ◌⊘◌, finite, positive}
 use Rattle.elementary.specs.Elementary.{LN, outside, or_nan}
-use Rattle.elementary.specs.Checks.{Verdict, passes, refused, first_failing}
+use Rattle.elementary.specs.Checks.{Verdict, passes, refused, first_failing, by}
 use Rattle.vector.specs.Refusals.{configuration}
 use Rattle.series.specs.Refusals.{numerical}
 use Rattle.operator.specs.Vectors.{at}
@@ -10,9 +10,7 @@ use Rattle.plan.specs.Plan.{bound_ok}
 use Rattle.operator.specs.Operator.{rows}
 use Rattle.vector.specs.declared.ValueVector.{ValueVector}
 use Rattle.distances.specs.Refusals.{holding}
-use Rattle.distances.specs.declared.Distance.{Distance}
-use Rattle.distances.specs.declared.Distance.TheVariants.{At, Absent}
-use Rattle.distances.specs.declared.Sides.{Sides}
+use Rattle.elementary.specs.declared.Refusal.{Refusal}
 
 -- ---- the holding
 -- q lots are no more than the bound in magnitude
@@ -34,25 +32,25 @@ distance v k base i j =
     (or_nan (LN (at v.w i)) ⊖ or_nan (LN (at v.w j)) ⊕ (at v.log_offset i ⊖ at v.log_offset j)) ⊘ k ⊕ base
 
 -- the bid's leads one place up, where there is one; the ask's one down
-unfoldable pub bid_at : Bool → ValueVector → Float → Float → ℕ → Distance
-bid_at false v k base i = Absent
-bid_at true v k base i = At (distance v k base i (suc i))
+unfoldable pub bid_at : Bool → ValueVector → Float → Float → ℕ → Option Float
+bid_at false v k base i = None
+bid_at true v k base i = Some (distance v k base i (suc i))
 
-unfoldable pub ask_at : ValueVector → Float → Float → ℕ → Distance
-ask_at v k base zero = Absent
-ask_at v k base (suc i) = At (distance v k base (suc i) i)
+unfoldable pub ask_at : ValueVector → Float → Float → ℕ → Option Float
+ask_at v k base zero = None
+ask_at v k base (suc i) = Some (distance v k base (suc i) i)
 
 -- no such side, or a finite distance
-unfoldable pub fine : Distance → Bool
-fine Absent = true
-fine (At d) = finite d
+unfoldable pub fine : Option Float → Bool
+fine None = true
+fine (Some d) = finite d
 
 -- both sides, where both are fine, or 11
-unfoldable pub sides : Bool → Distance → Distance → Sides
-sides false b a = Sides.Refused numerical
-sides true b a = Sides.Distances b a
+unfoldable pub sides : Bool → Option Float → Option Float → Result (Option Float × Option Float) Refusal
+sides false b a = Err (by numerical)
+sides true b a = Ok (b, a)
 
-unfoldable pub exact_at : ValueVector → Float → Float → ℕ → Sides
+unfoldable pub exact_at : ValueVector → Float → Float → ℕ → Result (Option Float × Option Float) Refusal
 exact_at v k base i =
     let b = bid_at (ltb (suc i) v.n) v k base i in
     let a = ask_at v k base i in
@@ -67,9 +65,9 @@ length_ok n = bound_ok (n / 2) && eqb n (rows (n / 2))
 abbrev pub distance_checks : ValueVector → Float → Float → ℤ → List (Bool × ℕ)
 distance_checks v k base q = (positive k && positive base, outside) ∷ (length_ok v.n, configuration) ∷ (within (v.n / 2) q, holding) ∷ []
 
-unfoldable pub distances_if : Verdict → Sides → Sides
+unfoldable pub distances_if : Verdict → Result (Option Float × Option Float) Refusal → Result (Option Float × Option Float) Refusal
 distances_if passes s = s
-distances_if (refused n) s = Sides.Refused n
+distances_if (refused n) s = Err (by n)
 
-unfoldable pub exact_distances : ValueVector → Float → Float → ℤ → Sides
+unfoldable pub exact_distances : ValueVector → Float → Float → ℤ → Result (Option Float × Option Float) Refusal
 exact_distances v k base q = distances_if (first_failing (distance_checks v k base q)) (exact_at v k base (place (v.n / 2) q))

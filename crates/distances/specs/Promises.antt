@@ -1,5 +1,5 @@
 -- What holds of every reply of the float entry, as named statements. Each is proved once, in proofs/. Definitions only.
-use Rattle.std.specs.Prelude.{◌≡◌, ℕ, suc, ◌+◌, ◌≤◌, Bool, true, false, ◌↔◌, ℤ, pos, neg_ℤ, nat_abs, T, ltb, Float}
+use Rattle.std.specs.Prelude.{◌≡◌, ℕ, suc, ◌+◌, ◌≤◌, Bool, true, false, ◌↔◌, ℤ, pos, neg_ℤ, nat_abs, T, ltb, Float, Option, Some, None, Result, Ok, Err}
 use Rattle.std.specs.Float.{binary64}
 use Rattle.std.specs.Float.Ieee.{lt, fits}
 use Rattle.elementary.specs.Float.{0ᶠ, 1ᶠ}
@@ -14,11 +14,9 @@ use Rattle.vector.specs.declared.VectorAnswer.{VectorAnswer}
 use Rattle.distances.specs.Distances.{place, fine, exact_distances}
 use Rattle.distances.specs.FloatEntry.{floats_ok, float_entry, float_steps}
 use Rattle.distances.specs.Reading.{answer_from}
-use Rattle.distances.specs.declared.Distance.{Distance}
-use Rattle.distances.specs.declared.Distance.TheVariants.{At, Absent}
-use Rattle.distances.specs.declared.Sides.{Sides}
 use Rattle.distances.specs.declared.Answer.{Answer}
 use Rattle.distances.specs.declared.Answer.TheVariants.{Distances, OverCap, Refused}
+use Rattle.elementary.specs.declared.Refusal.{Refusal}
 
 -- ---- the steps that a reply carries are those of the defined run, at most 11,000; in a cap report they are 11,000 less the budget left
 unfoldable pub Counted : Answer → ℕ → Type 0
@@ -30,9 +28,9 @@ abbrev pub StepsCounted : Type 0
 StepsCounted = (k base : Float) (x : RunInput) (q : ℤ) → Counted (float_entry k base x q).answer (float_steps k base x q) × (float_steps k base x q ≤ cap)
 
 -- ---- at or past the end: weights of 1.0, offsets of 0.0, no step, and each present distance is the base
-unfoldable pub base_bid : Bool → Float → Distance
-base_bid true base = At base
-base_bid false base = Absent
+unfoldable pub base_bid : Bool → Float → Option Float
+base_bid true base = Some base
+base_bid false base = None
 
 abbrev pub AtTheEnd : Type 0
 AtTheEnd = (k base : Float) (x : RunInput) (q : ℤ) → T (fits binary64 base)
@@ -44,9 +42,9 @@ AtTheEnd = (k base : Float) (x : RunInput) (q : ℤ) → T (fits binary64 base)
     }
 
 -- ---- the mirror: the sides exchanged, refusals and reports as they are
-unfoldable pub exchanged_sides : Sides → Sides
-exchanged_sides (Sides.Distances b a) = Sides.Distances a b
-exchanged_sides (Sides.Refused r) = Sides.Refused r
+unfoldable pub exchanged_sides : Result (Option Float × Option Float) Refusal → Result (Option Float × Option Float) Refusal
+exchanged_sides (Ok (b, a)) = Ok (a, b)
+exchanged_sides (Err r) = Err r
 
 unfoldable pub exchanged : Answer → Answer
 exchanged (Distances b a s) = Distances a b s
@@ -65,17 +63,17 @@ FloatMirror = (k base : Float) (x : RunInput) (q : ℤ)
     × (float_steps k base (turned_input x) (neg_ℤ q) ≡ float_steps k base x q)
 
 -- ---- presence: no bid just at the bound, no ask just at minus the bound
-abbrev pub Withheld : ℕ → ℤ → Distance → Distance → Type 0
-Withheld bound q b a = ((b ≡ Absent) ↔ (q ≡ pos bound)) × ((a ≡ Absent) ↔ (q ≡ neg_ℤ (pos bound)))
+abbrev pub Withheld : ℕ → ℤ → Option Float → Option Float → Type 0
+Withheld bound q b a = ((b ≡ None) ↔ (q ≡ pos bound)) × ((a ≡ None) ↔ (q ≡ neg_ℤ (pos bound)))
 
 abbrev pub FloatPresence : Type 0
-FloatPresence = (k base : Float) (x : RunInput) (q : ℤ) (b a : Distance) (s : ℕ) → (float_entry k base x q).answer ≡ Distances b a s → Withheld x.bound q b a
+FloatPresence = (k base : Float) (x : RunInput) (q : ℤ) (b a : Option Float) (s : ℕ) → (float_entry k base x q).answer ≡ Distances b a s → Withheld x.bound q b a
 
 -- ---- a distance that is answered is finite: by the float entry, from what `value_vector` answered, and from a vector
-abbrev pub Finite : Distance → Distance → Type 0
+abbrev pub Finite : Option Float → Option Float → Type 0
 Finite b a = (fine b ≡ true) × (fine a ≡ true)
 
 pub record FiniteDistances : Type 0 where
-  pub entry : (k base : Float) (x : RunInput) (q : ℤ) (b a : Distance) (s : ℕ) → (float_entry k base x q).answer ≡ Distances b a s → Finite b a
-  pub answer : (v : VectorAnswer) (k base : Float) (q : ℤ) (b a : Distance) (s : ℕ) → answer_from v k base q ≡ Distances b a s → Finite b a
-  pub vector : (v : ValueVector) (k base : Float) (q : ℤ) (b a : Distance) → exact_distances v k base q ≡ Sides.Distances b a → Finite b a
+  pub entry : (k base : Float) (x : RunInput) (q : ℤ) (b a : Option Float) (s : ℕ) → (float_entry k base x q).answer ≡ Distances b a s → Finite b a
+  pub answer : (v : VectorAnswer) (k base : Float) (q : ℤ) (b a : Option Float) (s : ℕ) → answer_from v k base q ≡ Distances b a s → Finite b a
+  pub vector : (v : ValueVector) (k base : Float) (q : ℤ) (b a : Option Float) → exact_distances v k base q ≡ Ok (b, a) → Finite b a

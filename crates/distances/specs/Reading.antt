@@ -1,5 +1,5 @@
 -- Change request 4: the answer at a holding from what `value_vector` answered, so that one vector serves every holding. Definitions only.
-use Rattle.std.specs.Prelude.{◌≡◌, ◌⊎◌, ◌↔◌, ℕ, true, List, map, ℤ, Float}
+use Rattle.std.specs.Prelude.{◌≡◌, ◌⊎◌, ◌↔◌, ℕ, true, List, map, ℤ, Float, Option, Result, Ok, Err}
 use Rattle.elementary.specs.Float.{hex}
 use Rattle.plan.specs.Plan.{bound_ok}
 use Rattle.vector.specs.Values.{value_vector}
@@ -9,13 +9,14 @@ use Rattle.vector.specs.declared.Outcome.{Outcome}
 use Rattle.vector.specs.declared.VectorAnswer.{VectorAnswer}
 use Rattle.distances.specs.Distances.{within, exact_distances}
 use Rattle.distances.specs.FloatEntry.{floats_ok, float_entry}
-use Rattle.distances.specs.declared.Sides.{Sides}
 use Rattle.distances.specs.declared.Answer.{Answer}
+use Rattle.elementary.specs.declared.Refusal.{Refusal}
+use Rattle.elementary.specs.Checks.{by}
 
 -- distances, with the steps of the vector that gave them
-unfoldable pub sides_with : ℕ → Sides → Answer
-sides_with s (Sides.Distances b a) = Answer.Distances b a s
-sides_with s (Sides.Refused r) = Answer.Refused r
+unfoldable pub sides_with : ℕ → Result (Option Float × Option Float) Refusal → Answer
+sides_with s (Ok (b, a)) = Answer.Distances b a s
+sides_with s (Err r) = Answer.Refused r
 
 -- by the outcome: the distances at q lots, or the report or refusal that is there in the vector's place
 unfoldable pub read_by : Outcome → ValueVector → Float → Float → ℤ → Answer
@@ -39,4 +40,4 @@ EntryReads = (k base : Float) (x : RunInput) (q : ℤ) → floats_ok k base x �
 -- an answer from a vector is refused just where that refusal is there in the vector's place, or where there is a vector and its distances are refused
 abbrev pub ReadRefusals : Type 0
 ReadRefusals = (a : VectorAnswer) (k base : Float) (q : ℤ) (n : ℕ)
-    → (answer_from a k base q ≡ Answer.Refused n) ↔ ((a.outcome ≡ Outcome.Refused n) ⊎ ((s : ℕ) × (a.outcome ≡ Outcome.Done s) × (exact_distances a.vector k base q ≡ Sides.Refused n)))
+    → (answer_from a k base q ≡ Answer.Refused (by n)) ↔ ((a.outcome ≡ Outcome.Refused (by n)) ⊎ ((s : ℕ) × (a.outcome ≡ Outcome.Done s) × (exact_distances a.vector k base q ≡ Err (by n))))

@@ -1,5 +1,5 @@
 -- The refusals of this layer, and the cap report: each is the reply in just the situation that document 01 names. Each statement is proved once, in proofs/. Definitions only.
-use Rattle.std.specs.Prelude.{◌≡◌, ◌↔◌, ℕ, suc, ◌-◌, ◌/◌, ◌<◌, true, false, ◌&&◌, List, ℤ, Float}
+use Rattle.std.specs.Prelude.{◌≡◌, ◌↔◌, ℕ, suc, ◌-◌, ◌/◌, ◌<◌, true, false, ◌&&◌, List, ℤ, Float, Err}
 use Rattle.std.specs.Float.Ieee.{lt}
 use Rattle.elementary.specs.Float.{0ᶠ, positive}
 use Rattle.elementary.specs.Elementary.{outside}
@@ -15,8 +15,8 @@ use Rattle.distances.specs.Refusals.{holding}
 use Rattle.distances.specs.Distances.{within, place, length_ok, exact_at, exact_distances}
 use Rattle.distances.specs.Weights.{DistanceFails}
 use Rattle.distances.specs.FloatEntry.{floats_ok, float_entry}
-use Rattle.distances.specs.declared.Sides.TheVariants as Sides
 use Rattle.distances.specs.declared.Answer.TheVariants as Answer
+use Rattle.elementary.specs.Checks.{by}
 
 -- ---- why the read at a place fails: a present side's distance does; the bid reads one place up, the ask one down
 pub data ReadFails (v : ValueVector) (k base : Float) (i : ℕ) : Type 0 where
@@ -24,7 +24,7 @@ pub data ReadFails (v : ValueVector) (k base : Float) (i : ℕ) : Type 0 where
   by_ask : {j : ℕ} → i ≡ suc j → DistanceFails v k base i j → ReadFails v k base i
 
 abbrev pub ReadsFail : Type 0
-ReadsFail = (v : ValueVector) (k base : Float) (i n : ℕ) → (exact_at v k base i ≡ Sides.Refused n) ↔ ((n ≡ numerical) × ReadFails v k base i)
+ReadsFail = (v : ValueVector) (k base : Float) (i n : ℕ) → (exact_at v k base i ≡ Err (by n)) ↔ ((n ≡ numerical) × ReadFails v k base i)
 
 -- ---- exact_distances, in order: k and base, the length, the holding, and a read that fails
 pub data DistancesRefused (v : ValueVector) (k base : Float) (q : ℤ) : ℕ → Type 0 where
@@ -34,7 +34,7 @@ pub data DistancesRefused (v : ValueVector) (k base : Float) (q : ℤ) : ℕ →
   by_11 : (positive k && positive base) ≡ true → length_ok v.n ≡ true → within (v.n / 2) q ≡ true → ReadFails v k base (place (v.n / 2) q) → DistancesRefused v k base q numerical
 
 abbrev pub DistancesRefusals : Type 0
-DistancesRefusals = (v : ValueVector) (k base : Float) (q : ℤ) (n : ℕ) → (exact_distances v k base q ≡ Sides.Refused n) ↔ DistancesRefused v k base q n
+DistancesRefusals = (v : ValueVector) (k base : Float) (q : ℤ) (n : ℕ) → (exact_distances v k base q ≡ Err (by n)) ↔ DistancesRefused v k base q n
 
 -- ---- the float entry
 -- why a call that passes the checks fails: its run does, or a read of the vector that it gives
@@ -50,7 +50,7 @@ pub data FloatRefused (k base : Float) (x : RunInput) (q : ℤ) : ℕ → Type 0
   at_11 : floats_ok k base x ≡ true → bound_ok x.bound ≡ true → within x.bound q ≡ true → EntryFails k base x q → FloatRefused k base x q numerical
 
 abbrev pub FloatRefusals : Type 0
-FloatRefusals = (k base : Float) (x : RunInput) (q : ℤ) (n : ℕ) → ((float_entry k base x q).answer ≡ Answer.Refused n) ↔ FloatRefused k base x q n
+FloatRefusals = (k base : Float) (x : RunInput) (q : ℤ) (n : ℕ) → ((float_entry k base x q).answer ≡ Answer.Refused (by n)) ↔ FloatRefused k base x q n
 
 -- ---- the cap report, where the checks pass: a plan of the run needs more steps than the budget left; with it come the steps spent
 pub record FloatReported (k base : Float) (x : RunInput) (q : ℤ) (need : Float) (b s : ℕ) : Type 0 where

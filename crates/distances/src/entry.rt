@@ -6,36 +6,31 @@ ghost use Rattle.distances.specs.FloatEntry.{refused_entry, with_vector, answer_
 
 use crate::refusals::HOLDING;
 use crate::{Answer, FloatAnswer, Sides};
-use elementary::Check;
+use elementary::Refusal;
 use vector::{Outcome, RunInput, ValueVector};
 
 // Whether the numbers of a call pass: refused by 5, then 1, then 4.
-pub(crate) fn check_entry(k: f64, base: f64, input: RunInput, q: i64) -> Check
+pub(crate) fn check_entry(k: f64, base: f64, input: RunInput, q: i64) -> Result<(), Refusal>
     ensures { result ≡ check_of (first_failing (entry_checks k base input q)) }
 {
     if crate::places::scale_fits(k, base) {
-        match vector::check_input(input) {
-            Check::Passes => {}
-            Check::Refused(number) => {
-                return Check::Refused(number);
-            }
-        }
+        vector::check_input(input)?;
         if crate::within(q, input.bound) {
-            return Check::Passes;
+            return Ok(());
         }
-        return Check::Refused(HOLDING);
+        return Err(HOLDING);
     }
-    Check::Refused(elementary::OUTSIDE)
+    Err(elementary::OUTSIDE)
 }
 
-// A refusal, by its number, with the blank vector.
-pub(crate) fn refused_entry(number: u8) -> FloatAnswer
-    ensures { result ≡ refused_entry number }
+// A refusal, with the blank vector.
+pub(crate) fn refused_entry(refusal: Refusal) -> FloatAnswer
+    ensures { result ≡ refused_entry refusal }
 {
-    let a = vector::refused_vector(number);
+    let a = vector::refused_vector(refusal);
     let vector = a.vector;
     FloatAnswer {
-        answer: Answer::Refused(number),
+        answer: Answer::Refused(refusal),
         vector,
     }
 }
@@ -45,11 +40,11 @@ fn with_vector(vector: ValueVector, steps: u32, sides: Sides) -> FloatAnswer
     ensures { result ≡ with_vector vector steps sides }
 {
     match sides {
-        Sides::Distances(bid, ask) => FloatAnswer {
+        Ok((bid, ask)) => FloatAnswer {
             answer: Answer::Distances(bid, ask, steps),
             vector,
         },
-        Sides::Refused(number) => refused_entry(number),
+        Err(refusal) => refused_entry(refusal),
     }
 }
 
@@ -81,6 +76,6 @@ pub(crate) fn entry_within(k: f64, base: f64, input: RunInput, q: i64) -> FloatA
             answer: Answer::OverCap(need, budget, steps),
             vector,
         },
-        Outcome::Refused(number) => refused_entry(number),
+        Outcome::Refused(refusal) => refused_entry(refusal),
     }
 }

@@ -6,7 +6,6 @@ ghost use Rattle.distances.specs.Distances.{lent, distance, bid_at, ask_at, exac
 ghost use Rattle.distances.specs.Reading.{floats, read_by};
 
 use crate::{Answer, Distance, Sides};
-use elementary::Check;
 
 // The float of entry i; a NaN past the end.
 fn float_at(s: &[u64], i: usize) -> f64
@@ -39,9 +38,9 @@ fn bid_at<'a>(w: &'a [u64], o: &'a [u64], n: usize, k: f64, base: f64, i: usize)
 {
     let up = i + 1;
     if up < n {
-        return Distance::At(distance_at(w, o, i, up, k, base));
+        return Some(distance_at(w, o, i, up, k, base));
     }
-    Distance::Absent
+    None
 }
 
 // The ask's distance at place i, one place down, whatever the length n.
@@ -50,9 +49,9 @@ fn ask_at<'a>(w: &'a [u64], o: &'a [u64], k: f64, base: f64, i: usize) -> Distan
 {
     if 0 < i {
         let down = i - 1;
-        return Distance::At(distance_at(w, o, i, down, k, base));
+        return Some(distance_at(w, o, i, down, k, base));
     }
-    Distance::Absent
+    None
 }
 
 // The distances at place i of n.
@@ -78,10 +77,10 @@ pub fn answer_in_bits<'a>(
     ensures { result ≡ read_by (Outcome.Done steps) (lent n (floats w.now) (floats log_offset.now)) k base q }
 {
     match crate::places::check_read(n, k, base, q) {
-        Check::Passes => {
+        Ok(()) => {
             let place = crate::places::place_of(q, (n / 2) as u32);
             crate::from_vector::with_steps(sides_at(w, log_offset, n, k, base, place), steps)
         }
-        Check::Refused(number) => Answer::Refused(number),
+        Err(refusal) => Answer::Refused(refusal),
     }
 }

@@ -10,8 +10,8 @@ pub(crate) fn with_steps(sides: Sides, steps: u32) -> Answer
     ensures { result ≡ sides_with steps sides }
 {
     match sides {
-        Sides::Distances(bid, ask) => Answer::Distances(bid, ask, steps),
-        Sides::Refused(number) => Answer::Refused(number),
+        Ok((bid, ask)) => Answer::Distances(bid, ask, steps),
+        Err(refusal) => Answer::Refused(refusal),
     }
 }
 
@@ -35,7 +35,7 @@ pub fn answer_in<'a>(
             steps,
         ),
         Outcome::OverCap(need, budget, steps) => Answer::OverCap(need, budget, steps),
-        Outcome::Refused(number) => Answer::Refused(number),
+        Outcome::Refused(refusal) => Answer::Refused(refusal),
     }
 }
 

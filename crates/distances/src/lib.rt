@@ -13,32 +13,24 @@ ghost use Rattle.distances.specs.Distances.{within, fine, exact_distances};
 ghost use Rattle.distances.specs.FloatEntry.{float_entry};
 ghost use Rattle.distances.specs.Count.{step_count};
 
-use elementary::Check;
+use elementary::Refusal;
 pub use from_bits::answer_in_bits;
 pub use from_vector::{answer_from, answer_in};
 use vector::{FirstPlan, RunInput, ValueVector};
 
 // A side's distance from the mid; at the bound one side is withheld.
-#[derive(Clone, Copy)]
-pub enum Distance {
-    At(f64),
-    Absent,
-}
+pub type Distance = Option<f64>;
 
-// The distances of bid and ask, or a refusal's number.
-#[derive(Clone, Copy)]
-pub enum Sides {
-    Distances(Distance, Distance),
-    Refused(u8),
-}
+// The distances of bid and ask, or a refusal.
+pub type Sides = Result<(Distance, Distance), Refusal>;
 
 // The distances of bid and ask with the steps spent; or the steps needed, the budget left and the
-// steps spent; or a refusal's number.
+// steps spent; or a refusal. A report is no refusal, so the three stand beside one another.
 #[derive(Clone, Copy)]
 pub enum Answer {
     Distances(Distance, Distance, u32),
     OverCap(f64, u32, u32),
-    Refused(u8),
+    Refused(Refusal),
 }
 
 // An answer, with the value vector beside it: the blank one, unless there are distances.
@@ -61,8 +53,8 @@ pub fn is_fine(d: Distance) -> bool
     ensures { result ≡ fine d }
 {
     match d {
-        Distance::At(x) => elementary::is_finite(x),
-        Distance::Absent => true,
+        Some(x) => elementary::is_finite(x),
+        None => true,
     }
 }
 
@@ -79,12 +71,9 @@ pub fn float_entry(k: f64, base: f64, input: RunInput, q: i64) -> FloatAnswer
     ensures { result ≡ float_entry k base input q }
 {
     match entry::check_entry(k, base, input, q) {
-        Check::Passes => {}
-        Check::Refused(number) => {
-            return entry::refused_entry(number);
-        }
+        Ok(()) => entry::entry_within(k, base, input, q),
+        Err(refusal) => entry::refused_entry(refusal),
     }
-    entry::entry_within(k, base, input, q)
 }
 
 // The steps of the first plan of the float entry's run, before anything runs; 0 where no time is left.
@@ -93,7 +82,7 @@ pub fn step_count(k: f64, base: f64, input: RunInput, q: i64) -> FirstPlan
     ensures { result ≡ step_count k base input q }
 {
     match entry::check_entry(k, base, input, q) {
-        Check::Passes => vector::first_plan(input),
-        Check::Refused(number) => FirstPlan::Refused(number),
+        Ok(()) => vector::first_plan(input),
+        Err(refusal) => FirstPlan::Refused(refusal),
     }
 }

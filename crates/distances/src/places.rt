@@ -7,7 +7,7 @@ ghost use Rattle.distances.specs.Distances.{lent, length_ok, place, fine, sides,
 
 use crate::refusals::HOLDING;
 use crate::{Distance, Sides};
-use elementary::Check;
+use elementary::Refusal;
 use vector::refusals::{CONFIGURATION, NUMERICAL};
 use vector::{MAX_DIM, MAX_INVENTORY_LOTS};
 
@@ -48,9 +48,9 @@ pub(crate) fn both(bid: Distance, ask: Distance) -> Sides
     ensures { result ≡ sides (fine bid && fine ask) bid ask }
 {
     if crate::is_fine(bid) & crate::is_fine(ask) {
-        return Sides::Distances(bid, ask);
+        return Ok((bid, ask));
     }
-    Sides::Refused(NUMERICAL)
+    Err(NUMERICAL)
 }
 
 // The distances at place i of n weights and offsets, which are lent: by value, each call on the way would
@@ -72,41 +72,38 @@ pub(crate) fn sides_in<'a>(
     if up < n {
         let x = w[up];
         let p = o[up];
-        let bid = Distance::At(distance_between(v, a, x, p, k, base));
+        let bid = Some(distance_between(v, a, x, p, k, base));
         if 0 < i {
             let down = i - 1;
             let y = w[down];
             let r = o[down];
-            return both(bid, Distance::At(distance_between(v, a, y, r, k, base)));
+            return both(bid, Some(distance_between(v, a, y, r, k, base)));
         }
-        return both(bid, Distance::Absent);
+        return both(bid, None);
     }
     if 0 < i {
         let down = i - 1;
         let y = w[down];
         let r = o[down];
-        return both(
-            Distance::Absent,
-            Distance::At(distance_between(v, a, y, r, k, base)),
-        );
+        return both(None, Some(distance_between(v, a, y, r, k, base)));
     }
-    both(Distance::Absent, Distance::Absent)
+    both(None, None)
 }
 
 // Whether distances can be read at q lots of a vector of n entries: refused by 5, then 1, then 4.
-pub(crate) fn check_read(n: usize, k: f64, base: f64, q: i64) -> Check
+pub(crate) fn check_read(n: usize, k: f64, base: f64, q: i64) -> Result<(), Refusal>
     ensures { result ≡ check_of (first_failing (distance_checks (lent n [] []) k base q)) }
 {
     if scale_fits(k, base) {
         if length_fits(n) {
             if crate::within(q, (n / 2) as u32) {
-                return Check::Passes;
+                return Ok(());
             }
-            return Check::Refused(HOLDING);
+            return Err(HOLDING);
         }
-        return Check::Refused(CONFIGURATION);
+        return Err(CONFIGURATION);
     }
-    Check::Refused(elementary::OUTSIDE)
+    Err(elementary::OUTSIDE)
 }
 
 // The distances at q lots of n weights and offsets: refused by 5, then 1, then 4, then 11.
@@ -120,8 +117,6 @@ pub(crate) fn distances_in<'a>(
 ) -> Sides
     ensures { result ≡ exact_distances (lent n w.now o.now) k base q }
 {
-    match check_read(n, k, base, q) {
-        Check::Passes => sides_in(w, o, n, k, base, place_of(q, (n / 2) as u32)),
-        Check::Refused(number) => Sides::Refused(number),
-    }
+    check_read(n, k, base, q)?;
+    sides_in(w, o, n, k, base, place_of(q, (n / 2) as u32))
 }

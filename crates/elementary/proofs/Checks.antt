@@ -1,7 +1,8 @@
 -- The first check that fails is the one that refuses. Assumes nothing.
-use Rattle.std.proofs.Common.{◌≡◌, ℕ, Bool, true, false, List, [], ◌∷◌, refl, arith}
-use Rattle.elementary.specs.Checks.{Verdict, passes, refused, verdict, first_of, first_failing, check_of, Refuses, here, later, FirstFailing, Passes, none, each, NoneFailing, FailingJoined}
-use Rattle.elementary.specs.declared.Check.TheVariants as Check
+use Rattle.std.specs.Prelude.{Result, Ok, Err}
+use Rattle.std.proofs.Common.{◌≡◌, ℕ, Bool, true, false, List, [], ◌∷◌, refl, sym, ap, arith}
+use Rattle.elementary.specs.declared.Refusal.{Refusal}
+use Rattle.elementary.specs.Checks.{Verdict, passes, refused, verdict, first_of, first_failing, check_of, Refuses, here, later, FirstFailing, Passes, none, each, NoneFailing, FailingJoined, by}
 
 fails : (l : List (Bool × ℕ)) (n : ℕ) → first_failing l ≡ refused n → Refuses l n
 unfolding first_failing first_of verdict
@@ -38,12 +39,19 @@ failing_joined ((true, n) ∷ l) r = failing_joined l r
 failing_joined ((false, n) ∷ l) r = refl
 
 -- ---- as the code says it
-pub check_passes : (v : Verdict) → Check.Passes ≡ check_of v → v ≡ passes
+-- refusals that are the same have the same number
+pub same_number : {m n : ℕ} → by m ≡ by n → m ≡ n
+same_number e = ap (λ (r : Refusal). r.0) e
+
+pub same_err : {T : Type 0} {m n : ℕ} → ◌≡◌ {A = Result T Refusal} (Err (by m)) (Err (by n)) → m ≡ n
+same_err {m = m} {n = n} e = same_number (let k : by m ≡ by n = cc in k)
+
+pub check_passes : (v : Verdict) → Ok tt ≡ check_of v → v ≡ passes
 unfolding check_of
 check_passes passes e = refl
 check_passes (refused n) e = let z : ◌≡◌ {A = ℕ} 0 1 = cc in absurd (omega arith)
 
-pub check_refused : (v : Verdict) (n : ℕ) → Check.Refused n ≡ check_of v → v ≡ refused n
+pub check_refused : (v : Verdict) (r : Refusal) → Err r ≡ check_of v → v ≡ refused r.0
 unfolding check_of
-check_refused passes n e = let z : ◌≡◌ {A = ℕ} 0 1 = cc in absurd (omega arith)
-check_refused (refused m) n e = cc
+check_refused passes r e = let z : ◌≡◌ {A = ℕ} 0 1 = cc in absurd (omega arith)
+check_refused (refused m) r e = let k : r ≡ by m = cc in rw k refl

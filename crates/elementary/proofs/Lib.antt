@@ -1,4 +1,5 @@
 pub mod Checks
+pub mod Results
 pub mod Signs
 pub mod Exact
 pub mod Zeros

@@ -1,6 +1,6 @@
 -- The checks of a call, in order: each a test, and the number that refuses where it fails. Each statement is proved once, in proofs/. Definitions only.
-use Rattle.std.specs.Prelude.{◌≡◌, ℕ, Bool, true, false, ◌↔◌, List, [], ◌∷◌, ◌++◌}
-use Rattle.elementary.specs.declared.Check.{Check}
+use Rattle.std.specs.Prelude.{◌≡◌, ℕ, Bool, true, false, ◌↔◌, List, [], ◌∷◌, ◌++◌, Result, Ok, Err}
+use Rattle.elementary.specs.declared.Refusal.{Refusal}
 
 pub data Verdict : Type 0 where
   passes : Verdict
@@ -22,9 +22,12 @@ first_failing [] = passes
 first_failing (c ∷ l) = first_of (verdict c) (first_failing l)
 
 -- as the code says it
-unfoldable pub check_of : Verdict → Check
-check_of passes = Check.Passes
-check_of (refused n) = Check.Refused n
+abbrev pub by : ℕ → Refusal
+by n = record { 0 = n }
+
+unfoldable pub check_of : Verdict → Result Unit Refusal
+check_of passes = Ok tt
+check_of (refused n) = Err (by n)
 
 -- ==== statements
 -- a check with this number fails, and all before it pass

@@ -1,19 +1,17 @@
 -- Document 01, module 1: LN as change request 2 has it, LN1P, EXP, the square root and rounding up to a whole number. Definitions only.
-use Rattle.std.specs.Prelude.{ℕ, zero, suc, ◌+◌, ◌-◌, ◌*◌, ◌/◌, ◌^◌, Bool, true, false, cond, List, [], ◌∷◌, ℤ, pos, negsuc, ◌+ℤ◌, nat_le, Float}
+use Rattle.std.specs.Prelude.{ℕ, zero, suc, ◌+◌, ◌-◌, ◌*◌, ◌/◌, ◌^◌, Bool, true, false, cond, List, [], ◌∷◌, ℤ, pos, negsuc, ◌+ℤ◌, nat_le, Float, Option, Some, None}
 use Rattle.std.specs.Float.{nan, inf, fin, binary64}
 use Rattle.std.specs.Float.Ieee.{up, down, minus, size, lt, round, to_signed}
 use Rattle.elementary.specs.Float.{◌⊕◌, ◌⊖◌, ◌⊗◌, ◌⊘◌, hex, whole, 0ᶠ, ½ᶠ, 1ᶠ, 2ᶠ, finite, positive, count}
 use Rattle.elementary.specs.Reply.{Reply, value, refusal, given}
-use Rattle.elementary.specs.declared.Real.{Real}
-use Rattle.elementary.specs.declared.Real.TheVariants.{Value, Refused}
 
 -- ---- the refusal of an argument outside a function's domain, and the paper's reading of the code's answer
 abbrev pub outside : ℕ
 outside = 5
 
-unfoldable pub told : Real → Reply Float
-told (Value x) = value x
-told Refused = refusal outside
+unfoldable pub told : Option Float → Reply Float
+told (Some x) = value x
+told None = refusal outside
 
 -- a reply's value, and a NaN for a refusal: what reads it tests for that
 unfoldable pub or_nan : Reply Float → Float

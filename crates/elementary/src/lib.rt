@@ -23,31 +23,19 @@ const SIGN_BIT: u64 = 0x8000000000000000;
 
 const INFINITY_BITS: u64 = 0x7FF0000000000000;
 
-// The number of `Real::Refused`, which the layers above answer by.
-pub const OUTSIDE: u8 = 5;
+// Why a call is refused: a number of document 01's, and no more. It is no enum of those numbers: callers
+// hand any number to `Model::after`, `quotes_by` and the writers of lines, and each has its line.
+#[derive(Clone, Copy, Debug, PartialEq, Eq, Hash)]
+pub struct Refusal(pub u8);
 
-// Whether the numbers of a call pass its checks, or the number that refuses them.
-#[derive(Clone, Copy)]
-pub enum Check {
-    Passes,
-    Refused(u8),
-}
+// The refusal where an elementary function has no value, by which the layers above answer.
+pub const OUTSIDE: Refusal = Refusal(5);
 
-// The answer of an elementary function. `Refused` is refusal 5: the argument is outside its domain.
-#[derive(Clone, Copy)]
-pub enum Real {
-    Value(f64),
-    Refused,
-}
-
-// The value of an answer, and a NaN for a refusal.
-pub fn or_nan(r: Real) -> f64
+// The value of an elementary function, and a NaN where the argument is outside its domain.
+pub fn or_nan(r: Option<f64>) -> f64
     ensures { result ≡ or_nan (told r) }
 {
-    match r {
-        Real::Value(x) => x,
-        Real::Refused => 0.0 / 0.0,
-    }
+    r.unwrap_or(0.0 / 0.0)
 }
 
 // Whether x is neither a NaN nor an infinity: only then is x - x a zero.
@@ -85,57 +73,57 @@ pub fn float_of(bits: u64) -> f64
 }
 
 // The natural logarithm of a positive finite number.
-pub fn ln(x: f64) -> Real
+pub fn ln(x: f64) -> Option<f64>
     ensures { told result ≡ LN x }
 {
     if is_positive_finite(x) {
-        return Real::Value(logarithm::ln_positive(x));
+        return Some(logarithm::ln_positive(x));
     }
-    Real::Refused
+    None
 }
 
 // The natural logarithm of 1 + r, for a positive finite r.
-pub fn ln_1p(r: f64) -> Real
+pub fn ln_1p(r: f64) -> Option<f64>
     ensures { told result ≡ LN1P r }
 {
     if is_positive_finite(r) {
         if r < 0.5 {
-            return Real::Value(logarithm::ln_series(r / (2.0 + r)));
+            return Some(logarithm::ln_series(r / (2.0 + r)));
         }
         return ln(1.0 + r);
     }
-    Real::Refused
+    None
 }
 
 // The exponential of a finite number.
-pub fn exp(x: f64) -> Real
+pub fn exp(x: f64) -> Option<f64>
     ensures { told result ≡ EXP x }
 {
     if is_finite(x) {
-        return Real::Value(exponential::exp_finite(x));
+        return Some(exponential::exp_finite(x));
     }
-    Real::Refused
+    None
 }
 
 // The square root, as IEEE 754 rounds it, of a finite number that is not negative. -0.0 is its own.
-pub fn sqrt(x: f64) -> Real
+pub fn sqrt(x: f64) -> Option<f64>
     ensures { told result ≡ SQRT x }
 {
     if x == 0.0 {
-        return Real::Value(x);
+        return Some(x);
     }
     if is_positive_finite(x) {
-        return Real::Value(root::sqrt_positive(x));
+        return Some(root::sqrt_positive(x));
     }
-    Real::Refused
+    None
 }
 
 // The least whole number that is not below x, for a finite x.
-pub fn ceil(x: f64) -> Real
+pub fn ceil(x: f64) -> Option<f64>
     ensures { told result ≡ CEIL x }
 {
     if is_finite(x) {
-        return Real::Value(ceiling::ceil_finite(x));
+        return Some(ceiling::ceil_finite(x));
     }
-    Real::Refused
+    None
 }

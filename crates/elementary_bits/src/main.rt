@@ -3,8 +3,6 @@
 // digits, and a refusal is `R5`. The first line is that of a NaN.
 #![tactic(auto)]
 
-use elementary::Real;
-
 // The bytes of a pattern.
 const RECORD: usize = 8;
 
@@ -15,11 +13,11 @@ const LINE: usize = 102;
 const NAN: u64 = 0x7FF8000000000000;
 
 // A space and an answer.
-fn put_real(out: &mut [u8], at: usize, r: Real) -> usize {
+fn put_real(out: &mut [u8], at: usize, r: Option<f64>) -> usize {
     let next = harness::put(out, at, b" ");
     match r {
-        Real::Value(x) => harness::put_hex(out, next, harness::bits_of(x)),
-        Real::Refused => harness::put(out, next, b"R5"),
+        Some(x) => harness::put_hex(out, next, harness::bits_of(x)),
+        None => harness::put(out, next, b"R5"),
     }
 }
 

@@ -23,8 +23,8 @@ fn print_number(name: &[u8], number: u64) {
 // Prices are positive: `size_of` gives the same number as a u64.
 fn print_price(name: &[u8], price: Price) {
     match price {
-        Price::At(billionths) => print_number(name, amounts::size_of(billionths)),
-        Price::Absent => {
+        Some(billionths) => print_number(name, amounts::size_of(billionths)),
+        None => {
             print(name);
             print(b"withheld\n");
         }
@@ -58,7 +58,7 @@ fn quote_at(inventory: i64) {
             b"over the cap, budget ",
             budget as u64,
         ),
-        ExactQuotes::Refused(number) => print_number(b"refused by ", number as u64),
+        ExactQuotes::Refused(refusal) => print_number(b"refused by ", refusal.0 as u64),
     }
 }
 

@@ -4,30 +4,23 @@
 ghost use Rattle.std.specs.Prelude.{◌≡◌, length, take};
 ghost use Rattle.feed.specs.Feed.{Fed};
 
-use std::io::{Error, Read};
+use std::io::{Read, Result};
 
-// How many bytes were read, or why a read failed.
-#[derive(Drop)]
-pub enum Feed {
-    Bytes(usize),
-    Failed(Error),
-}
-
-// Reads until the buffer is full or the input ends. With a buffer of one byte more than the longest
-// sheet, a full one tells a sheet that is longer.
-pub fn read_sheet(rt: &HostRuntime, input: &mut [u8]) -> Feed
+// Reads until the buffer is full or the input ends, and answers how many bytes that were. With a buffer of
+// one byte more than the longest sheet, a full one tells a sheet that is longer.
+pub fn read_sheet(rt: &HostRuntime, input: &mut [u8]) -> Result<usize>
     ensures { Fed (length input.old) result }
 {
     let mut from = rt.stdin();
     let mut n: usize = 0;
     while n < input.len() {
-        match from.read(&mut input[n..]) {
-            Ok(0) => break,
-            Ok(more) => n += more,
-            Err(error) => return Feed::Failed(error),
+        let more = from.read(&mut input[n..])?;
+        if more == 0 {
+            break;
         }
+        n += more;
     }
-    Feed::Bytes(n)
+    Ok(n)
 }
 
 // The first n bytes of a text, or all where it has fewer: what a program hands on to be written.

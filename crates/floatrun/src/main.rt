@@ -22,8 +22,8 @@ const LINE: usize = 13712;
 // A space and a side's distance.
 fn put_side(out: &mut [u8], at: usize, d: Distance) -> usize {
     match d {
-        Distance::At(x) => put_float(out, at, x),
-        Distance::Absent => put(out, at, b" -"),
+        Some(x) => put_float(out, at, x),
+        None => put(out, at, b" -"),
     }
 }
 
@@ -65,7 +65,7 @@ fn put_answer(out: &mut [u8], start: usize, answer: Answer, v: ValueVector) -> u
             put_vector(out, at, v)
         }
         Answer::OverCap(needed, budget, _) => put_cap(out, start, needed, budget),
-        Answer::Refused(number) => put_refusal(out, start, number),
+        Answer::Refused(refusal) => put_refusal(out, start, refusal.0),
     }
 }
 

@@ -2,17 +2,10 @@
 // that cannot be read, or output that cannot be written, is told on standard error.
 #![tactic(auto)]
 
-use printing::Printed;
 use sheet::Kind;
 
 fn main(rt: HostRuntime) {
-    match printing::print_sheet(&rt, Kind::Plan) {
-        Printed::All(_) => {}
-        Printed::NotRead(error) => {
-            let _ = eprintln!(rt; "horizon: standard input: {error}");
-        }
-        Printed::NotWritten(error) => {
-            let _ = eprintln!(rt; "horizon: standard output: {error}");
-        }
+    if let Err(error) = printing::print_sheet(&rt, Kind::Plan) {
+        let _ = eprintln!(rt; "horizon: {error}");
     }
 }

@@ -2,17 +2,10 @@
 // cannot be read, or output that cannot be written, is told on standard error.
 #![tactic(auto)]
 
-use printing::Printed;
 use sheet::Kind;
 
 fn main(rt: HostRuntime) {
-    match printing::print_sheet(&rt, Kind::Ladder) {
-        Printed::All(_) => {}
-        Printed::NotRead(error) => {
-            let _ = eprintln!(rt; "ladder: standard input: {error}");
-        }
-        Printed::NotWritten(error) => {
-            let _ = eprintln!(rt; "ladder: standard output: {error}");
-        }
+    if let Err(error) = printing::print_sheet(&rt, Kind::Ladder) {
+        let _ = eprintln!(rt; "ladder: {error}");
     }
 }

@@ -13,7 +13,7 @@ ghost use Rattle.std.specs.Prelude.{◌≤◌};
 
 use desk::{amount_at, config_at};
 use harness::{LARGEST_BOUND, first, make_room, put, put_number, put_refusal, read_block, word_at};
-use ladders::LadderAnswer;
+use quote::Refusal;
 use quote::refusals::LIMITS;
 use record::refusals::CUT_SHORT;
 
@@ -34,8 +34,8 @@ const BEFORE: u8 = 0xA5;
 const ANSWER: usize = ladders::MOST_LADDER + 10;
 
 // The line of a refusal.
-fn put_refused(out: &mut [u8], start: usize, number: u8) -> usize {
-    let end = put_refusal(out, start, number);
+fn put_refused(out: &mut [u8], start: usize, refusal: Refusal) -> usize {
+    let end = put_refusal(out, start, refusal.0);
     put(out, end, b"\n")
 }
 
@@ -68,22 +68,22 @@ fn put_rest(out: &mut [u8], at: usize, buffer: &[u8], from: usize) -> usize {
 }
 
 // An answer, and what the call left of the buffer.
-fn put_answer(out: &mut [u8], start: usize, a: LadderAnswer, buffer: &[u8]) -> usize {
+fn put_answer(out: &mut [u8], start: usize, a: Result<usize, Refusal>, buffer: &[u8]) -> usize {
     match a {
-        LadderAnswer::Written(n) => {
+        Ok(n) => {
             let at = put_written(out, start, buffer, n);
             put_rest(out, at, buffer, n)
         }
-        LadderAnswer::Refused(number) => {
-            let at = put_refused(out, start, number);
+        Err(refusal) => {
+            let at = put_refused(out, start, refusal);
             put_rest(out, at, buffer, 0)
         }
     }
 }
 
 // A refusal without a call.
-fn put_unasked(out: &mut [u8], start: usize, number: u8) -> usize {
-    let at = put_refused(out, start, number);
+fn put_unasked(out: &mut [u8], start: usize, refusal: Refusal) -> usize {
+    let at = put_refused(out, start, refusal);
     put(out, at, b"U\n")
 }
 

@@ -1,4 +1,5 @@
 -- The promises of a ladder: its lines are those of single calls, opposite lines mirror each other, one run, and what refuses it. Assumes nothing.
+use Rattle.std.specs.Prelude.{Result, Ok, Err}
 use mathlib.Core.Path.{◌≡◌, refl, sym, ap, ◌∙◌, subst}
 use mathlib.Core.Logic.{◌⊎◌, inl, inr}
 use Prim.Native.Nat.{ℕ, zero, suc, ◌+◌, ◌-◌, ◌*◌, ◌<◌, ◌≤◌}
@@ -14,15 +15,15 @@ use Rattle.model.specs.Configuration.{turned}
 use Rattle.model.specs.Model.{check_call}
 use Rattle.lots.specs.Reckoning.{reckoning, holding_of}
 use Rattle.model.specs.declared.GLFTConfig.{GLFTConfig}
-use Rattle.elementary.specs.declared.Check.{Check}
-use Rattle.elementary.specs.declared.Check.TheVariants as Check
 use Rattle.lots.proofs.Lots.{lots_are_single}
 use Rattle.lots.proofs.OneRun.{check_turned, lots_mirror, one_run, check_refusals}
 use Rattle.ladders.specs.Refusals.{small_ladder_buffer}
 use Rattle.lines.specs.Lines.{answer_line, text_left}
 use Rattle.ladders.specs.Ladder.{lot_at, ladder_line, ladder, ladder_room, ladder_if, ladder_for, ladder_answer, LadderIsSingle, LinesFace, LadderMirror, LadderOwnMirror, LadderMirrorRefusals, LadderOneRun, LadderFits, LaddersBounded, Unrefused, LadderRefusals}
-use Rattle.ladders.specs.declared.ladder.LadderAnswer.TheVariants as LadderAnswer
 use Rattle.ladders.proofs.Rungs.{lot_within, bound_checked, ladder_most}
+use Rattle.elementary.specs.declared.Refusal.{Refusal}
+use Rattle.elementary.specs.Checks.{by}
+use Rattle.elementary.proofs.Checks.{same_err}
 
 -- ---- single calls
 pub ladder_is_single : LadderIsSingle
@@ -94,11 +95,11 @@ pub ladder_own_mirror : LadderOwnMirror
 ladder_own_mirror mid c vol t z e i j k = subst (λ (d : GLFTConfig). LinesFace mid c d vol t i j) (turned_none c z) (ladder_mirror mid c vol t e i j k)
 
 -- the checks and the room are the same for both
-refused_too : (k : Check) (m : Bool) (t u : List ℕ) (n : ℕ) → ladder_answer (ladder_if k m t) ≡ LadderAnswer.Refused n → ladder_answer (ladder_if k m u) ≡ LadderAnswer.Refused n
+refused_too : (k : Result Unit Refusal) (m : Bool) (t u : List ℕ) (n : ℕ) → ladder_answer (ladder_if k m t) ≡ Err (by n) → ladder_answer (ladder_if k m u) ≡ Err (by n)
 unfolding ladder_answer ladder_if
-refused_too Check.Passes true t u n e = let z : ◌≡◌ {A = ℕ} 0 1 = cc in absurd (omega arith)
-refused_too Check.Passes false t u n e = e
-refused_too (Check.Refused r) m t u n e = e
+refused_too (Ok tt) true t u n e = let z : ◌≡◌ {A = ℕ} 0 1 = cc in absurd (omega arith)
+refused_too (Ok tt) false t u n e = e
+refused_too (Err r) m t u n e = e
 
 pub ladder_mirror_refusals : LadderMirrorRefusals
 unfolding ladder_for
@@ -110,11 +111,11 @@ ladder_one_run mid c vol t i j n m h g = one_run mid c (reckoning c vol t) (lot_
 
 -- ---- the room
 -- what was written passed the checks and had the room
-was_written : (k : Check) (m : Bool) (t : List ℕ) (n : ℕ) → ladder_answer (ladder_if k m t) ≡ LadderAnswer.Written n → (k ≡ Check.Passes) × (m ≡ true) × (n ≡ length t)
+was_written : (k : Result Unit Refusal) (m : Bool) (t : List ℕ) (n : ℕ) → ladder_answer (ladder_if k m t) ≡ Ok n → (k ≡ (Ok tt)) × (m ≡ true) × (n ≡ length t)
 unfolding ladder_answer ladder_if
-was_written Check.Passes true t n e = (refl, refl, cc)
-was_written Check.Passes false t n e = let z : ◌≡◌ {A = ℕ} 0 1 = cc in absurd (omega arith)
-was_written (Check.Refused r) m t n e = let z : ◌≡◌ {A = ℕ} 0 1 = cc in absurd (omega arith)
+was_written (Ok tt) true t n e = (refl, refl, cc)
+was_written (Ok tt) false t n e = let z : ◌≡◌ {A = ℕ} 0 1 = cc in absurd (omega arith)
+was_written (Err r) m t n e = let z : ◌≡◌ {A = ℕ} 0 1 = cc in absurd (omega arith)
 
 pub ladder_fits : LadderFits
 unfolding ladder_for
@@ -126,19 +127,19 @@ pub ladders_bounded : LaddersBounded
 ladders_bounded mid c vol t e = omega (arith, bound_checked mid c vol t e)
 
 -- ---- refusals
-was_refused : (k : Check) (m : Bool) (t b : List ℕ) (n : ℕ) → ladder_answer (ladder_if k m t) ≡ LadderAnswer.Refused n
-    → ((k ≡ Check.Refused n) ⊎ ((n ≡ small_ladder_buffer) × (k ≡ Check.Passes) × (m ≡ false))) × (text_left (ladder_if k m t) b ≡ b)
+was_refused : (k : Result Unit Refusal) (m : Bool) (t b : List ℕ) (n : ℕ) → ladder_answer (ladder_if k m t) ≡ Err (by n)
+    → ((k ≡ Err (by n)) ⊎ ((n ≡ small_ladder_buffer) × (k ≡ (Ok tt)) × (m ≡ false))) × (text_left (ladder_if k m t) b ≡ b)
 unfolding ladder_answer ladder_if text_left
-was_refused Check.Passes true t b n e = let z : ◌≡◌ {A = ℕ} 0 1 = cc in absurd (omega arith)
-was_refused Check.Passes false t b n e = (inr (cc, refl, refl), refl)
-was_refused (Check.Refused r) m t b n e = let z : r ≡ n = cc in (inl (ap Check.Refused z), refl)
+was_refused (Ok tt) true t b n e = let z : ◌≡◌ {A = ℕ} 0 1 = cc in absurd (omega arith)
+was_refused (Ok tt) false t b n e = (inr (sym (same_err e), refl, refl), refl)
+was_refused (Err r) m t b n e = let z : r ≡ by n = cc in (inl (ap Err z), refl)
 
 module _ (mid : ℤ) (c : GLFTConfig) (vol : ℤ) (t : ℕ) where
-  no_check : (k : Check) → check_call mid c vol t ≡ k → Unrefused mid c vol t → k ≡ Check.Passes
-  no_check Check.Passes e u = refl
-  no_check (Check.Refused n) e u = let x = (check_refusals mid c vol t n).0 e in absurd (u n x.0 x.1)
+  no_check : (k : Result Unit Refusal) → check_call mid c vol t ≡ k → Unrefused mid c vol t → k ≡ (Ok tt)
+  no_check (Ok tt) e u = refl
+  no_check (Err r) e u = let x = (check_refusals mid c vol t r.0).0 e in absurd (u r.0 x.0 x.1)
 
-  passes_all : check_call mid c vol t ≡ Check.Passes → Unrefused mid c vol t
+  passes_all : check_call mid c vol t ≡ (Ok tt) → Unrefused mid c vol t
   passes_all e n y x = let r = (check_refusals mid c vol t n).1 (y, x) in let z : ◌≡◌ {A = ℕ} 0 1 = cc in omega arith
 
 pub ladder_refusals : LadderRefusals
@@ -152,7 +153,7 @@ ladder_refusals mid c vol t b n = (
         ],
     λ x.
         elim x [
-          | inl k ↦ ap (λ (x : Check). ladder_answer (ladder_if x (leb (ladder_room c) (length b)) (ladder mid c vol t))) ((check_refusals mid c vol t n).1 k)
+          | inl k ↦ ap (λ (x : Result Unit Refusal). ladder_answer (ladder_if x (leb (ladder_room c) (length b)) (ladder mid c vol t))) ((check_refusals mid c vol t n).1 k)
           | inr k ↦ rw (no_check mid c vol t (check_call mid c vol t) refl k.1, lt-leb (ladder_room c) (length b) k.2, k.0)
         ],
   ),

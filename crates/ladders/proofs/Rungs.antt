@@ -1,4 +1,5 @@
 -- The lines of a ladder in a buffer: lots within the bound, replies that can be written, and a ladder of which some lines are in. Assumes nothing.
+use Rattle.std.specs.Prelude.{Ok, Err}
 use mathlib.Core.Path.{◌≡◌, refl, ap}
 use Prim.Native.Nat.{ℕ, zero, suc, ◌+◌, ◌-◌, ◌*◌, ◌<◌, ◌≤◌}
 use native.Mathlib.Nat.{le_refl}
@@ -15,7 +16,6 @@ use Rattle.model.specs.Model.{check_call}
 use Rattle.lots.specs.Reckoning.{reckoning, holding_of, quotes_of_lots}
 use Rattle.quote.specs.Replies.{ReplyKept}
 use Rattle.model.specs.declared.GLFTConfig.{GLFTConfig}
-use Rattle.elementary.specs.declared.Check.TheVariants as Check
 use Rattle.lots.specs.declared.Reckoning.{Reckoning}
 use Rattle.model.proofs.Passed.{bound_passed}
 use Rattle.quote.proofs.Replies.{replies_kept}
@@ -23,9 +23,10 @@ use Rattle.lots.proofs.Lots.{config_checked, lots_are_single}
 use Rattle.buffers.specs.Over.{over}
 use Rattle.lines.specs.Lines.{least_room, text_left}
 use Rattle.ladders.specs.Ladder.{rungs, lot_at, ladder_line, ladder_lines, ladder, ladder_room, ladder_if, ladder_for, ladder_answer, laddered, laddered_in}
-use Rattle.ladders.specs.declared.ladder.LadderAnswer.TheVariants as LadderAnswer
 use Rattle.buffers.proofs.Texts.{Wrote, wrote_none, wrote_length, wrote_part}
 use Rattle.lines.proofs.Widths.{reply_most}
+use Rattle.elementary.specs.Checks.{by}
+use Rattle.elementary.specs.declared.Refusal.{Refusal}
 
 -- ---- the lots of a line are within the bound, which is at most 200
 distance : (a b : ℕ) → a ≤ 2 * b → nat_abs (pos a -ℤ pos b) ≤ b
@@ -40,7 +41,7 @@ pub lot_within : (c : GLFTConfig) (i : ℕ) → i < rungs c → nat_abs (lot_at 
 unfolding lot_at
 lot_within c i h = distance i c.max_inventory_lots (omega arith)
 
-module _ (mid : ℤ) (c : GLFTConfig) (vol : ℤ) (t : ℕ) (e : check_call mid c vol t ≡ Check.Passes) where
+module _ (mid : ℤ) (c : GLFTConfig) (vol : ℤ) (t : ℕ) (e : check_call mid c vol t ≡ (Ok tt)) where
   pub bound_checked : c.max_inventory_lots ≤ 200
   bound_checked = let n = c.max_inventory_lots in leb-true n 200 ((and-eq-true_iff (leb 1 n) (leb n 200)).0 (bound_passed c (config_checked mid c vol t e))).1
 
@@ -48,7 +49,7 @@ module _ (mid : ℤ) (c : GLFTConfig) (vol : ℤ) (t : ℕ) (e : check_call mid 
   rung_kept i h = rw (lots_are_single mid c vol t (lot_at c i) e (lot_within c i h)) (replies_kept mid (holding_of c (lot_at c i)) c vol t)
 
 -- ---- a ladder takes at most 64 bytes a line
-module _ (mid : ℤ) (c : GLFTConfig) (vol : ℤ) (t : ℕ) (e : check_call mid c vol t ≡ Check.Passes) where
+module _ (mid : ℤ) (c : GLFTConfig) (vol : ℤ) (t : ℕ) (e : check_call mid c vol t ≡ (Ok tt)) where
   lines_most : (k : ℕ) → k ≤ rungs c → length (ladder_lines mid c (reckoning c vol t) k) ≤ least_room * k
   unfolding ladder_lines ladder_line
   lines_most zero h = omega arith
@@ -94,15 +95,15 @@ module _ (mid : ℤ) (c : GLFTConfig) (r : Reckoning) (l out : List ℕ) (at i :
 
 -- ---- what `write_ladder` answers, and what it leaves in a buffer b
 module _ (mid : ℤ) (c : GLFTConfig) (vol : ℤ) (t : ℕ) (b : List ℕ) where
-  pub ladder_refused : (n : ℕ) → check_call mid c vol t ≡ Check.Refused n → (LadderAnswer.Refused n ≡ laddered mid c vol t b) × (b ≡ laddered_in mid c vol t b)
+  pub ladder_refused : (r : Refusal) → check_call mid c vol t ≡ Err r → (Err r ≡ laddered mid c vol t b) × (b ≡ laddered_in mid c vol t b)
   unfolding ladder_for ladder_if ladder_answer text_left
-  ladder_refused n e = rw e (refl, refl)
+  ladder_refused r e = rw e (refl, refl)
 
-  pub ladder_small : check_call mid c vol t ≡ Check.Passes → length b < ladder_room c → (LadderAnswer.Refused 21 ≡ laddered mid c vol t b) × (b ≡ laddered_in mid c vol t b)
+  pub ladder_small : check_call mid c vol t ≡ (Ok tt) → length b < ladder_room c → (Err (by 21) ≡ laddered mid c vol t b) × (b ≡ laddered_in mid c vol t b)
   unfolding ladder_for ladder_if ladder_answer text_left
   ladder_small e h = rw (e, lt-leb (ladder_room c) (length b) h) (refl, refl)
 
-  pub ladder_written : (out : List ℕ) (n : ℕ) → check_call mid c vol t ≡ Check.Passes → ladder_room c ≤ length b → out ≡ over (ladder mid c vol t) b → n ≡ length (ladder mid c vol t)
-      → (LadderAnswer.Written n ≡ laddered mid c vol t b) × (out ≡ laddered_in mid c vol t b)
+  pub ladder_written : (out : List ℕ) (n : ℕ) → check_call mid c vol t ≡ (Ok tt) → ladder_room c ≤ length b → out ≡ over (ladder mid c vol t) b → n ≡ length (ladder mid c vol t)
+      → (Ok n ≡ laddered mid c vol t b) × (out ≡ laddered_in mid c vol t b)
   unfolding ladder_for ladder_if ladder_answer text_left
-  ladder_written out n e h o k = rw (e, le-leb (ladder_room c) (length b) h) (ap LadderAnswer.Written k, o)
+  ladder_written out n e h o k = rw (e, le-leb (ladder_room c) (length b) h) (ap Ok k, o)

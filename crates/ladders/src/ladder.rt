@@ -1,25 +1,18 @@
 // Writes the ladder of a desk: a line for each lot from minus the bound to the bound, lowest first,
 // from one reckoning.
-ghost use Rattle.std.specs.Prelude.{◌≡◌, ◌≤◌, length};
+ghost use Rattle.std.specs.Prelude.{◌≡◌, ◌≤◌, length, Ok};
 ghost use Rattle.model.specs.Model.{check_call};
-ghost use Rattle.elementary.specs.declared.Check.TheVariants as Check;
 ghost use Rattle.buffers.specs.Over.{over};
 ghost use Rattle.ladders.specs.Ladder.{rungs, lot_at, ladder, ladder_room, laddered, laddered_in};
 
 use crate::refusals::SMALL_LADDER_BUFFER;
-use lines::{LEAST_ROOM, LineWritten, write_answer};
-use quote::{Check, GLFTConfig};
+use elementary::Refusal;
+use lines::{LEAST_ROOM, write_answer};
+use quote::GLFTConfig;
 use vector::MAX_DIM;
 
 // The most bytes that a ladder takes: a line for each of 401 lots.
 pub const MOST_LADDER: usize = LEAST_ROOM * MAX_DIM;
-
-// The bytes that a ladder takes, or a refusal's number.
-#[derive(Clone, Copy)]
-pub enum LadderAnswer {
-    Written(usize),
-    Refused(u8),
-}
 
 // How many lines a ladder has.
 fn rungs_of(config: GLFTConfig) -> usize
@@ -45,7 +38,7 @@ fn write_rungs(
     volatility: i64,
     current_time: u64,
 ) -> usize
-    requires checked { check_call mid_price config volatility current_time ≡ Check.Passes }
+    requires checked { check_call mid_price config volatility current_time ≡ Ok tt }
     requires room { ladder_room config ≤ length out.old }
     ensures out_after { out.new ≡ over (ladder mid_price config volatility current_time) out.old }
     ensures value { result ≡ length (ladder mid_price config volatility current_time) }
@@ -69,7 +62,7 @@ fn write_rungs(
             a.vector.n,
             lot,
         );
-        let LineWritten::Written(k) = write_answer(&mut out[at..], answer) else {
+        let Ok(k) = write_answer(&mut out[at..], answer) else {
             return at;
         };
         at += k;
@@ -87,17 +80,13 @@ pub fn write_ladder(
     volatility: i64,
     current_time: u64,
     out: &mut [u8],
-) -> LadderAnswer
+) -> Result<usize, Refusal>
     ensures value { result ≡ laddered mid_price config volatility current_time out.old }
     ensures out_after { out.new ≡ laddered_in mid_price config volatility current_time out.old }
 {
-    match quote::check_call(mid_price, config, volatility, current_time) {
-        Check::Passes => {
-            if out.len() < LEAST_ROOM * rungs_of(config) {
-                return LadderAnswer::Refused(SMALL_LADDER_BUFFER);
-            }
-            LadderAnswer::Written(write_rungs(out, mid_price, config, volatility, current_time))
-        }
-        Check::Refused(number) => LadderAnswer::Refused(number),
+    quote::check_call(mid_price, config, volatility, current_time)?;
+    if out.len() < LEAST_ROOM * rungs_of(config) {
+        return Err(SMALL_LADDER_BUFFER);
     }
+    Ok(write_rungs(out, mid_price, config, volatility, current_time))
 }

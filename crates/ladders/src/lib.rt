@@ -4,4 +4,4 @@
 mod ladder;
 pub mod refusals;
 
-pub use ladder::{LadderAnswer, MOST_LADDER, write_ladder};
+pub use ladder::{MOST_LADDER, write_ladder};

@@ -1,4 +1,5 @@
 -- How long a field and a line are. Assumes nothing.
+use Rattle.std.specs.Prelude.{Option, Some, None}
 use mathlib.Core.Path.{◌≡◌, ap, ◌∙◌}
 use Prim.Native.Nat.{ℕ, suc, ◌+◌, ◌/◌, ◌^◌, ◌<◌, ◌≤◌}
 use native.Mathlib.Omega.{arith}
@@ -7,8 +8,6 @@ use lib.ListN.{length, length-append}
 use lib.IntN.{ℤ, pos, negsuc, nat_abs}
 use lib.Ieee.{Float, binary64, to_bits}
 use Rattle.quote.specs.Replies.{PriceKept, ReplyKept}
-use Rattle.prices.specs.declared.Price.{Price}
-use Rattle.prices.specs.declared.Price.TheVariants.{At, Absent}
 use Rattle.prices.specs.declared.GlftQuotes.{GlftQuotes}
 use Rattle.quote.specs.declared.ExactQuotes.{ExactQuotes}
 use Rattle.quote.specs.declared.ExactQuotes.TheVariants as ExactQuotes
@@ -17,6 +16,7 @@ use Rattle.lines.specs.Promises.{PriceHeld, AnswerHeld, PlanHeld, AnswersFit, Pl
 use Rattle.lines.specs.Inner.{most_side}
 use Rattle.plan.specs.declared.FirstPlan.TheVariants as FirstPlan
 use Rattle.lines.proofs.Digits.{places_most, length_digits, length_count}
+use Rattle.elementary.specs.Checks.{by}
 
 -- ---- fields
 pub length_price : (n : ℕ) → length (price n) ≡ length (count (n / 1_000_000_000)) + 10
@@ -40,10 +40,10 @@ unfolding signed
 signed_most (pos n) h = omega (arith, price_most n h)
 signed_most (negsuc n) h = omega (arith, price_most (suc n) h)
 
-side_most : (p : Price) → PriceHeld p → length (side p) ≤ most_side
+side_most : (p : Option ℤ) → PriceHeld p → length (side p) ≤ most_side
 unfolding side PriceHeld
-side_most (At z) h = signed_most z h
-side_most Absent h = omega arith
+side_most (Some z) h = signed_most z h
+side_most None h = omega arith
 
 -- ---- lines
 pub length_counted : (a n : ℕ) → length (joined (a ∷ []) (count n ∷ [])) ≡ length (count n) + 3
@@ -76,20 +76,20 @@ unfolding answer_line AnswerHeld
 answers_fit (ExactQuotes.Quotes q s) h =
     rw (length_quotes q s) (omega (arith, side_most q.bid h.0, side_most q.ask h.1, count_most 9 s (omega (arith, h.2))))
 answers_fit (ExactQuotes.OverStepCap need b s) h = cap_most need b h
-answers_fit (ExactQuotes.Refused n) h = refusal_most n h
+answers_fit (ExactQuotes.Refused r) h = refusal_most r.0 h
 
 pub plans_fit : PlansFit
 unfolding plan_line PlanHeld
 plans_fit (FirstPlan.Steps n) h = counted_most 78 n h
 plans_fit (FirstPlan.OverCap need b) h = cap_most need b h
-plans_fit (FirstPlan.Refused n) h = refusal_most n h
+plans_fit (FirstPlan.Refused r) h = refusal_most r.0 h
 
 -- such are those of every reply
-price_held : (p : Price) → PriceKept p → PriceHeld p
+price_held : (p : Option ℤ) → PriceKept p → PriceHeld p
 unfolding PriceKept PriceHeld
-price_held (At (pos n)) h = omega arith
-price_held (At (negsuc n)) h = absurd h
-price_held Absent h = tt
+price_held (Some (pos n)) h = omega arith
+price_held (Some (negsuc n)) h = absurd h
+price_held None h = tt
 
 reply_held : (a : ExactQuotes) → ReplyKept a → AnswerHeld a
 unfolding ReplyKept AnswerHeld

@@ -1,10 +1,8 @@
 -- Document 01, module 6: the line of an answer. Definitions only.
-use Rattle.std.specs.Prelude.{ℕ, zero, suc, ◌+◌, ◌/◌, ◌%◌, Bool, true, false, cond, List, [], ◌∷◌, ◌++◌, ℤ, pos, negsuc, length, ltb, leb, Float}
+use Rattle.std.specs.Prelude.{ℕ, zero, suc, ◌+◌, ◌/◌, ◌%◌, Bool, true, false, cond, List, [], ◌∷◌, ◌++◌, ℤ, pos, negsuc, length, ltb, leb, Float, Option, Some, None, Result, Ok, Err}
 use Rattle.std.specs.Float.{binary64}
 use Rattle.std.specs.Float.Ieee.{to_bits}
 use Rattle.amounts.specs.Amounts.{billion}
-use Rattle.prices.specs.declared.Price.{Price}
-use Rattle.prices.specs.declared.Price.TheVariants.{At, Absent}
 use Rattle.prices.specs.declared.GlftQuotes.{GlftQuotes}
 use Rattle.quote.specs.declared.ExactQuotes.{ExactQuotes}
 use Rattle.quote.specs.declared.ExactQuotes.TheVariants as ExactQuotes
@@ -12,8 +10,8 @@ use Rattle.plan.specs.declared.FirstPlan.{FirstPlan}
 use Rattle.plan.specs.declared.FirstPlan.TheVariants as FirstPlan
 use Rattle.buffers.specs.Over.{over}
 use Rattle.lines.specs.Refusals.{small_buffer}
-use Rattle.lines.specs.declared.line.LineWritten.{LineWritten}
-use Rattle.lines.specs.declared.line.LineWritten.TheVariants as LineWritten
+use Rattle.elementary.specs.declared.Refusal.{Refusal}
+use Rattle.elementary.specs.Checks.{by}
 
 -- ---- digits
 -- `0` to `9`, then `A` to `F`
@@ -49,9 +47,9 @@ signed (pos n) = price n
 signed (negsuc n) = 45 ∷ price (suc n)
 
 -- a side: its price, or `-`
-unfoldable pub side : Price → List ℕ
-side (At z) = signed z
-side Absent = 45 ∷ []
+unfoldable pub side : Option ℤ → List ℕ
+side (Some z) = signed z
+side None = 45 ∷ []
 
 -- a float's 16 hex digits
 unfoldable pub hex : Float → List ℕ
@@ -77,13 +75,13 @@ refusal_line n = joined (82 ∷ []) (count n ∷ [])
 unfoldable pub answer_line : ExactQuotes → List ℕ
 answer_line (ExactQuotes.Quotes q s) = quotes_line q s
 answer_line (ExactQuotes.OverStepCap need b s) = cap_line need b
-answer_line (ExactQuotes.Refused n) = refusal_line n
+answer_line (ExactQuotes.Refused r) = refusal_line r.0
 
 -- a first plan: `N` and the steps; or the line of a cap report or of a refusal
 unfoldable pub plan_line : FirstPlan → List ℕ
 plan_line (FirstPlan.Steps n) = joined (78 ∷ []) (count n ∷ [])
 plan_line (FirstPlan.OverCap need b) = cap_line need b
-plan_line (FirstPlan.Refused n) = refusal_line n
+plan_line (FirstPlan.Refused r) = refusal_line r.0
 
 -- ---- the least line buffer
 abbrev pub least_room : ℕ
@@ -106,9 +104,9 @@ abbrev pub line_for : List ℕ → List ℕ → Text
 line_for t b = line_if (has_room b) t
 
 -- what a writer answers, and what it leaves in the buffer
-unfoldable pub wrote : Text → LineWritten
-wrote (text t) = LineWritten.Written (length t)
-wrote (refusal n) = LineWritten.Refused n
+unfoldable pub wrote : Text → Result ℕ Refusal
+wrote (text t) = Ok (length t)
+wrote (refusal n) = Err (by n)
 
 unfoldable pub text_left : Text → List ℕ → List ℕ
 text_left (text t) b = over t b

@@ -6,4 +6,4 @@ mod line;
 pub mod refusals;
 
 pub use horizon::write_plan;
-pub use line::{LEAST_ROOM, LineWritten, write_answer, write_refusal};
+pub use line::{LEAST_ROOM, write_answer, write_refusal};

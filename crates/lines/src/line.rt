@@ -7,17 +7,11 @@ ghost use Rattle.buffers.specs.Over.{over};
 
 use crate::refusals::SMALL_BUFFER;
 use amounts::size_of;
+use elementary::Refusal;
 use quote::{BILLION, ExactQuotes, GlftQuotes, Price};
 
 // The least line buffer: no line is longer.
 pub const LEAST_ROOM: usize = 64;
-
-// The bytes that a line takes, or a refusal by 8.
-#[derive(Clone, Copy)]
-pub enum LineWritten {
-    Written(usize),
-    Refused(u8),
-}
 
 // How many decimal digits n has.
 fn count_places(n: u64) -> usize
@@ -102,8 +96,8 @@ fn write_side(out: &mut [u8], p: Price) -> usize
     ensures value { (result ≡ length (side p)) × (result ≤ most_side) }
 {
     match p {
-        Price::At(z) => write_signed(out, z),
-        Price::Absent => {
+        Some(z) => write_signed(out, z),
+        None => {
             out[0] = b'-';
             1
         }
@@ -171,34 +165,30 @@ pub(crate) fn write_counted(line: &mut [u8], letter: u8, n: u64) -> usize
     at + 1
 }
 
-// Writes the line of a refusal: refused by 8, which leaves the buffer as it is.
-pub fn write_refusal(line: &mut [u8], number: u8) -> LineWritten
-    ensures value { result ≡ wrote (line_for (refusal_line number) line.old) }
-    ensures line_after { line.new ≡ text_left (line_for (refusal_line number) line.old) line.old }
+// Writes the line of a refusal, and answers how many bytes it takes: refused by 8, which leaves the buffer
+// as it is.
+pub fn write_refusal(line: &mut [u8], refusal: Refusal) -> Result<usize, Refusal>
+    ensures value { result ≡ wrote (line_for (refusal_line refusal.0) line.old) }
+    ensures line_after { line.new ≡ text_left (line_for (refusal_line refusal.0) line.old) line.old }
 {
     if line.len() < LEAST_ROOM {
-        return LineWritten::Refused(SMALL_BUFFER);
+        return Err(SMALL_BUFFER);
     }
-    LineWritten::Written(write_counted(line, b'R', number as u64))
+    Ok(write_counted(line, b'R', refusal.0 as u64))
 }
 
-// Writes the line of any answer: refused by 8, which leaves the buffer as it is.
-pub fn write_answer(line: &mut [u8], answer: ExactQuotes) -> LineWritten
+// Writes the line of any answer, and answers how many bytes it takes: refused by 8, which leaves the
+// buffer as it is.
+pub fn write_answer(line: &mut [u8], answer: ExactQuotes) -> Result<usize, Refusal>
     ensures value { result ≡ wrote (line_for (answer_line answer) line.old) }
     ensures line_after { line.new ≡ text_left (line_for (answer_line answer) line.old) line.old }
 {
     if line.len() < LEAST_ROOM {
-        return LineWritten::Refused(SMALL_BUFFER);
+        return Err(SMALL_BUFFER);
     }
     match answer {
-        ExactQuotes::Quotes(q, steps) => LineWritten::Written(write_quotes(line, q, steps)),
-        ExactQuotes::OverStepCap(need, budget, _) => LineWritten::Written(write_cap(
-            line, need, budget,
-        )),
-        ExactQuotes::Refused(number) => LineWritten::Written(write_counted(
-            line,
-            b'R',
-            number as u64,
-        )),
+        ExactQuotes::Quotes(q, steps) => Ok(write_quotes(line, q, steps)),
+        ExactQuotes::OverStepCap(need, budget, _) => Ok(write_cap(line, need, budget)),
+        ExactQuotes::Refused(refusal) => Ok(write_counted(line, b'R', refusal.0 as u64)),
     }
 }

@@ -1,4 +1,5 @@
 // The number that refuses in this layer.
+use elementary::Refusal;
 
 // A line buffer under 64 bytes.
-pub const SMALL_BUFFER: u8 = 8;
+pub const SMALL_BUFFER: Refusal = Refusal(8);

@@ -1,4 +1,5 @@
 -- One reckoning for every holding: the holding of so many lots, and what a single call makes of it. Assumes nothing.
+use Rattle.std.specs.Prelude.{Result, Ok, Err}
 use mathlib.Core.Path.{◌≡◌, refl, sym, ap, ◌∙◌, subst}
 use mathlib.Core.Logic.{◌↔◌}
 use Prim.Native.Nat.{ℕ, suc, ◌*◌, ◌/◌, ◌≤◌}
@@ -13,8 +14,7 @@ use lib.Dec.{T, leb, ltb→lt}
 use lib.Ieee.{Float}
 use lib.Ieee.Bits.{is_true}
 use Rattle.elementary.specs.Elementary.{outside}
-use Rattle.elementary.specs.Checks.{verdict, first_of, first_failing, Passes, none, each}
-use Rattle.elementary.specs.declared.Check.TheVariants as Check
+use Rattle.elementary.specs.Checks.{verdict, first_of, first_failing, Passes, none, each, by}
 use Rattle.elementary.proofs.Checks.{none_failing, check_passes}
 use Rattle.vector.specs.Values.{refused_vector, value_vector}
 use Rattle.vector.specs.declared.ValueVector.{ValueVector}
@@ -32,10 +32,9 @@ use Rattle.quote.specs.Quotes.{exact_from, exact_answer, exact_by, exact_quotes,
 use Rattle.lots.specs.Reckoning.{reckon_if, reckoning, quotes_from, holding_of, lots_if, quotes_of_lots, FromVector, LotsAreSingle, beside, reckoned, lots_checks}
 use Rattle.model.specs.declared.GLFTConfig.{GLFTConfig}
 use Rattle.model.specs.declared.Model.{Model}
-use Rattle.model.specs.declared.ModelAnswer.{ModelAnswer}
-use Rattle.model.specs.declared.ModelAnswer.TheVariants as ModelAnswer
 use Rattle.amounts.proofs.Signed.{nat_abs_neg, quot_neg, rem_neg}
 use Rattle.model.proofs.Passed.{Made, stopped, passed, made, exact_passed, bound_passed, lots_passed, tau_passed, floats_passed, lot_passed, spread_passed, exact_amounts}
+use Rattle.elementary.specs.declared.Refusal.{Refusal}
 
 -- ---- so many lots of a size above zero: their magnitude, and that they are a whole number of lots
 nat_abs_times : (q : ℤ) (n : ℕ) → nat_abs (q *ℤ pos n) ≡ nat_abs q * n
@@ -90,11 +89,11 @@ module _ (mid h : ℤ) (c : GLFTConfig) (vol : ℤ) (t : ℕ) where
   tau = tau_of c.terminal_time t
 
   -- what the statement says of a model
-  Read : ModelAnswer → Type 0
-  Read (ModelAnswer.Model m q) = answer_from (value_vector (input_of m tau)) m.k m.base q ≡ (float_entry m.k m.base (input_of m tau) q).answer
-  Read (ModelAnswer.Refused r) = Unit {0}
+  Read : Result (Model × ℤ) Refusal → Type 0
+  Read (Ok (m, q)) = answer_from (value_vector (input_of m tau)) m.k m.base q ≡ (float_entry m.k m.base (input_of m tau) q).answer
+  Read (Err r) = Unit {0}
 
-  model_read : {a : ModelAnswer} → Made (exact_checks mid h c vol t) (model_of c vol) (lots h c) a → Read a
+  model_read : {a : Result (Model × ℤ) Refusal} → Made (exact_checks mid h c vol t) (model_of c vol) (lots h c) a → Read a
   unfolding Read model_of model_from model_by
   model_read (stopped k) = tt
   model_read (passed k) =
@@ -141,7 +140,7 @@ limits_with true h true false e = cc
 limits_with true h false z e = cc
 limits_with false h y z e = cc
 
-module _ (mid : ℤ) (c : GLFTConfig) (vol : ℤ) (t : ℕ) (e : check_call mid c vol t ≡ Check.Passes) where
+module _ (mid : ℤ) (c : GLFTConfig) (vol : ℤ) (t : ℕ) (e : check_call mid c vol t ≡ (Ok tt)) where
   checks : ((time_ok t && model_limits mid (pos 0) c vol) ≡ true) × (config_ok c ≡ true) × (market_ok mid vol ≡ true)
   unfolding check_call check_exact
   checks = market_passed ((none_failing _).0 (check_passes _ (sym e)))

@@ -1,4 +1,5 @@
 -- All replies from one reckoning: how they end, their steps, and opposite lots; and what refuses them all. Assumes nothing.
+use Rattle.std.specs.Prelude.{Option, Result, Ok, Err}
 use mathlib.Core.Path.{◌≡◌, refl, sym, ap, ◌∙◌}
 use mathlib.Core.Logic.{◌⊎◌, ◌↔◌, inl, inr}
 use Prim.Native.Nat.{ℕ, suc, ◌≤◌}
@@ -8,9 +9,9 @@ use mathlib.Core.List.{List, ◌∷◌, []}
 use lib.IntN.{ℤ, pos, negsuc, neg_ℤ, ◌*ℤ◌, *ℤ_comm, *ℤ-negsuc}
 use lib.Ieee.{Float}
 use Rattle.elementary.specs.Elementary.{outside}
-use Rattle.elementary.specs.Checks.{Verdict, verdict, first_of, first_failing, check_of, Refuses, here, later, Passes}
+use Rattle.elementary.specs.Checks.{Verdict, verdict, first_of, first_failing, check_of, Refuses, here, later, Passes, by}
 use Rattle.elementary.specs.Checks as Checks
-use Rattle.elementary.proofs.Checks.{first_failing_lem, none_failing, check_refused}
+use Rattle.elementary.proofs.Checks.{first_failing_lem, none_failing, check_refused, same_number}
 use Rattle.vector.specs.Refusals.{configuration}
 use Rattle.vector.specs.declared.ValueVector.{ValueVector}
 use Rattle.vector.specs.declared.Outcome.{Outcome}
@@ -18,9 +19,6 @@ use Rattle.vector.specs.declared.Outcome.TheVariants as Outcome
 use Rattle.distances.specs.Refusals.{holding}
 use Rattle.distances.specs.Distances.{exact_distances}
 use Rattle.distances.specs.Reading.{sides_with, read_by, answer_from}
-use Rattle.distances.specs.declared.Distance.{Distance}
-use Rattle.distances.specs.declared.Sides.{Sides}
-use Rattle.distances.specs.declared.Sides.TheVariants as Sides
 use Rattle.distances.specs.declared.Answer.TheVariants as Answer
 use Rattle.amounts.specs.Refusals.{limits}
 use Rattle.model.specs.Refusals.{market}
@@ -28,8 +26,6 @@ use Rattle.amounts.specs.Amounts.{amount_ok, time_ok}
 use Rattle.model.specs.Configuration.{config_ok, turned}
 use Rattle.model.specs.Model.{model_limits, check_call, market_checks, holding_checks, check_exact}
 use Rattle.prices.specs.Prices.{build_quotes}
-use Rattle.prices.specs.declared.QuotesAnswer.{QuotesAnswer}
-use Rattle.prices.specs.declared.QuotesAnswer.TheVariants.{Quotes as quoted, Refused as refused}
 use Rattle.quote.specs.Quotes.{with_steps, exact_by, from_if, quotes_by_answer}
 use Rattle.prices.specs.Refusing.{Priced, by_13, by_14}
 use Rattle.quote.specs.Promises.{PricedOf}
@@ -46,6 +42,8 @@ use Rattle.quote.proofs.Pairs.{exact_pairs}
 use Rattle.distances.proofs.Finite.{finite_distances}
 use Rattle.quote.proofs.Refusing.{exact_by_lem, exact_refusals}
 use Rattle.lots.proofs.Lots.{amounts_checked, lot_checked, lots_are_single}
+use Rattle.elementary.specs.declared.Refusal.{Refusal}
+use Rattle.prices.specs.declared.GlftQuotes.{GlftQuotes}
 
 -- ---- a reckoning that ends in a report or a refusal
 pub lots_end : LotsEnd
@@ -59,16 +57,16 @@ spent (Outcome.Done s) = s
 spent (Outcome.OverCap need b s) = s
 spent (Outcome.Refused r) = 0
 
-judged_carries : (s n : ℕ) (j : QuotesAnswer) → Carries (with_steps s j) n → s ≡ n
+judged_carries : (s n : ℕ) (j : Result GlftQuotes Refusal) → Carries (with_steps s j) n → s ≡ n
 unfolding Carries with_steps
-judged_carries s n (quoted q) h = h
-judged_carries s n (refused r) h = absurd h
+judged_carries s n (Ok q) h = h
+judged_carries s n (Err r) h = absurd h
 
 module _ (mid least : ℤ) (v : ValueVector) (k base : Float) (q : ℤ) (n : ℕ) where
-  sides_carry : (s : ℕ) (x : Sides) → Carries (exact_by mid least (sides_with s x)) n → s ≡ n
+  sides_carry : (s : ℕ) (x : Result (Option Float × Option Float) Refusal) → Carries (exact_by mid least (sides_with s x)) n → s ≡ n
   unfolding Carries exact_by sides_with
-  sides_carry s (Sides.Distances b a) h = judged_carries s n (build_quotes mid least b a) h
-  sides_carry s (Sides.Refused r) h = absurd h
+  sides_carry s (Ok (b, a)) h = judged_carries s n (build_quotes mid least b a) h
+  sides_carry s (Err r) h = absurd h
 
   outcome_carries : (o : Outcome) → Carries (exact_by mid least (read_by o v k base q)) n → spent o ≡ n
   unfolding Carries exact_by read_by spent
@@ -141,7 +139,7 @@ early_market y (later l (later v (later m (here e)))) = not_early 4 (omega arith
 early_market y (later l (later v (later m (later h (here e))))) = not_early 5 (omega arith) y
 early_market {f = f} {n = n} y (later l (later v (later m (later h (later _ x))))) = elim x [ ]
 
-priced_late : {mid least : ℤ} {b a : Distance} {n : ℕ} → Priced mid least b a n → 4 ≤ n
+priced_late : {mid least : ℤ} {b a : Option Float} {n : ℕ} → Priced mid least b a n → 4 ≤ n
 priced_late (by_13 h) = omega arith
 priced_late (by_14 h k) = omega arith
 
@@ -149,7 +147,7 @@ pub check_refusals : CheckRefusals
 unfolding check_call check_exact check_of
 check_refusals mid c vol t n =
     let l = market_checks (time_ok t && model_limits mid (pos 0) c vol) mid c vol in (
-      λ e. let k = (first_failing_lem l n).0 (check_refused (first_failing l) n (sym e)) in (market_early k, (exact_refusals mid (pos 0) c vol t n).1 (inl (refuses_more (holding_checks (pos 0) c vol) k))),
+      λ e. let k = (first_failing_lem l n).0 (check_refused (first_failing l) (by n) (sym e)) in (market_early k, (exact_refusals mid (pos 0) c vol t n).1 (inl (refuses_more (holding_checks (pos 0) c vol) k))),
       λ x.
           elim ((exact_refusals mid (pos 0) c vol t n).0 x.1) [
             | inl k ↦ rw ((first_failing_lem l n).1 (early_market x.0 k))
@@ -162,19 +160,19 @@ pub from_refusals : FromRefusals
 unfolding quotes_from quotes_by_answer from_if
 from_refusals mid least k base q a n = (to (amount_ok mid && amount_ok least) refl, λ x. elim x [ inl y ↦ rw (y.1, y.0) | inr y ↦ rw y.0 ((exact_by_lem mid least (answer_from a k base q) n (finite_distances.answer a k base q)).1 y.1) ])
   where
-    to : (t : Bool) → (amount_ok mid && amount_ok least) ≡ t → from_if t (exact_by mid least (answer_from a k base q)) ≡ Exact.Refused n
+    to : (t : Bool) → (amount_ok mid && amount_ok least) ≡ t → from_if t (exact_by mid least (answer_from a k base q)) ≡ Exact.Refused (by n)
         → ((n ≡ limits) × ((amount_ok mid && amount_ok least) ≡ false))
-        ⊎ (((amount_ok mid && amount_ok least) ≡ true) × ((answer_from a k base q ≡ Answer.Refused n) ⊎ PricedOf mid least (answer_from a k base q) n))
-    to false h e = inl (cc, h)
+        ⊎ (((amount_ok mid && amount_ok least) ≡ true) × ((answer_from a k base q ≡ Answer.Refused (by n)) ⊎ PricedOf mid least (answer_from a k base q) n))
+    to false h e = inl (same_number (let z : by n ≡ by limits = cc in z), h)
     to true h e = inr (h, (exact_by_lem mid least (answer_from a k base q) n (finite_distances.answer a k base q)).0 e)
 
-lots_refused : (l : List (Bool × ℕ)) (x : ExactQuotes) (n : ℕ) → (lots_if (first_failing l) x ≡ Exact.Refused n) ↔ (Refuses l n ⊎ (Passes l × (x ≡ Exact.Refused n)))
+lots_refused : (l : List (Bool × ℕ)) (x : ExactQuotes) (n : ℕ) → (lots_if (first_failing l) x ≡ Exact.Refused (by n)) ↔ (Refuses l n ⊎ (Passes l × (x ≡ Exact.Refused (by n))))
 unfolding lots_if
 lots_refused l x n = (to (first_failing l) refl, λ y. elim y [ inl k ↦ rw ((first_failing_lem l n).1 k) | inr k ↦ rw ((none_failing l).1 k.0) k.1 ])
   where
-    to : (v : Verdict) → first_failing l ≡ v → lots_if v x ≡ Exact.Refused n → Refuses l n ⊎ (Passes l × (x ≡ Exact.Refused n))
+    to : (v : Verdict) → first_failing l ≡ v → lots_if v x ≡ Exact.Refused (by n) → Refuses l n ⊎ (Passes l × (x ≡ Exact.Refused (by n)))
     to Checks.passes k e = inr ((none_failing l).0 k, e)
-    to (Checks.refused r) k e = let z : r ≡ n = cc in inl ((first_failing_lem l n).0 (k ∙ ap Checks.refused z))
+    to (Checks.refused r) k e = let z : r ≡ n = same_number (let y : by r ≡ by n = cc in y) in inl ((first_failing_lem l n).0 (k ∙ ap Checks.refused z))
 
 pub lots_refusals : LotsRefusals
 unfolding quotes_of_lots

@@ -1,9 +1,8 @@
 -- Change request 4: one reckoning for every holding. Definitions only.
-use Rattle.std.specs.Prelude.{◌≡◌, ◌⊎◌, ◌↔◌, ℕ, ◌≤◌, Bool, true, false, ◌&&◌, List, ◌∷◌, [], ℤ, pos, neg_ℤ, nat_abs, ◌*ℤ◌, Float}
+use Rattle.std.specs.Prelude.{◌≡◌, ◌⊎◌, ◌↔◌, ℕ, ◌≤◌, Bool, true, false, ◌&&◌, List, ◌∷◌, [], ℤ, pos, neg_ℤ, nat_abs, ◌*ℤ◌, Float, Ok, Err}
 use Rattle.elementary.specs.Float.{0ᶠ}
 use Rattle.elementary.specs.Elementary.{outside}
-use Rattle.elementary.specs.Checks.{Verdict, passes, refused, first_failing, Refuses, Passes}
-use Rattle.elementary.specs.declared.Check.TheVariants as Check
+use Rattle.elementary.specs.Checks.{Verdict, passes, refused, first_failing, Refuses, Passes, by}
 use Rattle.vector.specs.Refusals.{configuration}
 use Rattle.vector.specs.Values.{refused_vector, value_vector}
 use Rattle.vector.specs.declared.Outcome.{Outcome}
@@ -23,7 +22,6 @@ use Rattle.prices.specs.Facing.{Pair}
 use Rattle.quote.specs.Promises.{PricedOf}
 use Rattle.model.specs.declared.GLFTConfig.{GLFTConfig}
 use Rattle.model.specs.declared.Model.{Model}
-use Rattle.model.specs.declared.ModelAnswer.TheVariants as ModelAnswer
 use Rattle.prices.specs.declared.GlftQuotes.{GlftQuotes}
 use Rattle.quote.specs.declared.ExactQuotes.{ExactQuotes}
 use Rattle.quote.specs.declared.ExactQuotes.TheVariants as ExactQuotes
@@ -32,7 +30,7 @@ use Rattle.lots.specs.declared.Reckoning.{Reckoning}
 -- ---- the reckoning
 -- a value vector, or 5 in its place where a float of the model is not fine
 unfoldable pub reckon_if : Bool → VectorAnswer → VectorAnswer
-reckon_if false a = refused_vector outside
+reckon_if false a = refused_vector (by outside)
 reckon_if true a = a
 
 -- a number beside a vector; a report or a refusal stands alone, with 0.0 beside it
@@ -61,7 +59,7 @@ lots_checks c q = (above0 c.lot_size, configuration) ∷ (amount_ok (holding_of 
 
 unfoldable pub lots_if : Verdict → ExactQuotes → ExactQuotes
 lots_if passes x = x
-lots_if (refused n) x = ExactQuotes.Refused n
+lots_if (refused n) x = ExactQuotes.Refused (by n)
 
 unfoldable pub quotes_of_lots : ℤ → GLFTConfig → Reckoning → ℤ → ExactQuotes
 quotes_of_lots mid c r q = lots_if (first_failing (lots_checks c q)) (quotes_from mid c.min_spread r.k r.base q r.vector)
@@ -73,21 +71,21 @@ lent_reckoning k base e n w o = record { k = k; base = base; vector = record { o
 -- ==== statements
 -- where a call's model is made, the quotes from its value vector are those of `exact_quotes`
 abbrev pub FromVector : Type 0
-FromVector = (mid h : ℤ) (c : GLFTConfig) (vol : ℤ) (t : ℕ) (m : Model) (q : ℤ) → exact_model mid h c vol t ≡ ModelAnswer.Model m q
+FromVector = (mid h : ℤ) (c : GLFTConfig) (vol : ℤ) (t : ℕ) (m : Model) (q : ℤ) → exact_model mid h c vol t ≡ Ok (m, q)
     → quotes_from mid c.min_spread m.k m.base q (value_vector (input_of m (tau_of c.terminal_time t))) ≡ exact_quotes mid h c vol t
 
 -- where a call's numbers pass, the quotes of so many lots, within the bound, from its reckoning are those of `exact_quotes` at their holding
 abbrev pub LotsAreSingle : Type 0
-LotsAreSingle = (mid : ℤ) (c : GLFTConfig) (vol : ℤ) (t : ℕ) (q : ℤ) → check_call mid c vol t ≡ Check.Passes → nat_abs q ≤ c.max_inventory_lots
+LotsAreSingle = (mid : ℤ) (c : GLFTConfig) (vol : ℤ) (t : ℕ) (q : ℤ) → check_call mid c vol t ≡ (Ok tt) → nat_abs q ≤ c.max_inventory_lots
     → quotes_of_lots mid c (reckoning c vol t) q ≡ exact_quotes mid (holding_of c q) c vol t
 
 -- where the reckoning ends in a report or a refusal, so do the quotes of any lots whose holding is within the limit; beyond it they are refused by 2 all the same
 pub data Ends (r : Reckoning) : ExactQuotes → Type 0 where
   by_report : {need : Float} {b s : ℕ} → r.vector.outcome ≡ Outcome.OverCap need b s → Ends r (ExactQuotes.OverStepCap need b s)
-  by_refusal : {n : ℕ} → r.vector.outcome ≡ Outcome.Refused n → Ends r (ExactQuotes.Refused n)
+  by_refusal : {n : ℕ} → r.vector.outcome ≡ Outcome.Refused (by n) → Ends r (ExactQuotes.Refused (by n))
 
 abbrev pub LotsEnd : Type 0
-LotsEnd = (mid : ℤ) (c : GLFTConfig) (vol : ℤ) (t : ℕ) (q : ℤ) (x : ExactQuotes) → check_call mid c vol t ≡ Check.Passes → Ends (reckoning c vol t) x
+LotsEnd = (mid : ℤ) (c : GLFTConfig) (vol : ℤ) (t : ℕ) (q : ℤ) (x : ExactQuotes) → check_call mid c vol t ≡ (Ok tt) → Ends (reckoning c vol t) x
     → quotes_of_lots mid c (reckoning c vol t) q ≡ lots_if (first_failing ((amount_ok (holding_of c q), limits) ∷ [])) x
 
 -- the steps that a reply carries
@@ -106,7 +104,7 @@ Opposed mid c vol t h g = exact_answer mid g (turned c) vol t ≡ exchanged (exa
 
 -- opposite lots and drifts: opposed before prices; where both end in quotes, their prices face each other
 abbrev pub LotsMirror : Type 0
-LotsMirror = (mid : ℤ) (c : GLFTConfig) (vol : ℤ) (t : ℕ) (q : ℤ) → check_call mid c vol t ≡ Check.Passes → nat_abs q ≤ c.max_inventory_lots
+LotsMirror = (mid : ℤ) (c : GLFTConfig) (vol : ℤ) (t : ℕ) (q : ℤ) → check_call mid c vol t ≡ (Ok tt) → nat_abs q ≤ c.max_inventory_lots
     → Opposed mid c vol t (holding_of c q) (holding_of c (neg_ℤ q))
     × ((x y : GlftQuotes) (s r : ℕ) → quotes_of_lots mid c (reckoning c vol t) q ≡ ExactQuotes.Quotes x s → quotes_of_lots mid (turned c) (reckoning (turned c) vol t) (neg_ℤ q) ≡ ExactQuotes.Quotes y r → Pair mid x y)
 
@@ -115,17 +113,17 @@ abbrev pub Early : ℕ → Type 0
 Early n = (n ≡ limits) ⊎ ((n ≡ configuration) ⊎ (n ≡ market))
 
 abbrev pub CheckRefusals : Type 0
-CheckRefusals = (mid : ℤ) (c : GLFTConfig) (vol : ℤ) (t n : ℕ) → (check_call mid c vol t ≡ Check.Refused n) ↔ (Early n × (exact_quotes mid (pos 0) c vol t ≡ ExactQuotes.Refused n))
+CheckRefusals = (mid : ℤ) (c : GLFTConfig) (vol : ℤ) (t n : ℕ) → (check_call mid c vol t ≡ Err (by n)) ↔ (Early n × (exact_quotes mid (pos 0) c vol t ≡ ExactQuotes.Refused (by n)))
 
 -- quotes from a vector are refused by 2 where the mid or the min spread is beyond the limit; else where the answer from the vector is, or its prices
 abbrev pub FromRefusals : Type 0
 FromRefusals = (mid least : ℤ) (k base : Float) (q : ℤ) (a : VectorAnswer) (n : ℕ)
-    → (quotes_from mid least k base q a ≡ ExactQuotes.Refused n)
+    → (quotes_from mid least k base q a ≡ ExactQuotes.Refused (by n))
     ↔ (((n ≡ limits) × ((amount_ok mid && amount_ok least) ≡ false))
-    ⊎ (((amount_ok mid && amount_ok least) ≡ true) × ((answer_from a k base q ≡ Answer.Refused n) ⊎ PricedOf mid least (answer_from a k base q) n)))
+    ⊎ (((amount_ok mid && amount_ok least) ≡ true) × ((answer_from a k base q ≡ Answer.Refused (by n)) ⊎ PricedOf mid least (answer_from a k base q) n)))
 
 -- those of so many lots by 1 where the lot size is not positive, by 2 where the holding is beyond the limit; else where those from the vector are
 abbrev pub LotsRefusals : Type 0
 LotsRefusals = (mid : ℤ) (c : GLFTConfig) (r : Reckoning) (q : ℤ) (n : ℕ)
-    → (quotes_of_lots mid c r q ≡ ExactQuotes.Refused n)
-    ↔ (Refuses (lots_checks c q) n ⊎ (Passes (lots_checks c q) × (quotes_from mid c.min_spread r.k r.base q r.vector ≡ ExactQuotes.Refused n)))
+    → (quotes_of_lots mid c r q ≡ ExactQuotes.Refused (by n))
+    ↔ (Refuses (lots_checks c q) n ⊎ (Passes (lots_checks c q) × (quotes_from mid c.min_spread r.k r.base q r.vector ≡ ExactQuotes.Refused (by n))))

@@ -1,25 +1,25 @@
 -- Checks put together as the code does are those of the lists put together. Assumes nothing.
+use Rattle.std.specs.Prelude.{Result, Ok, Err}
 use mathlib.Core.Path.{◌≡◌, refl, sym, ap}
 use Prim.Native.Nat.{ℕ}
 use mathlib.Core.Bool.{Bool, true, false}
 use mathlib.Core.List.{List, ◌∷◌, ◌++◌, []}
-use Rattle.elementary.specs.Checks.{Verdict, passes, refused, verdict, first_of, first_failing, check_of, Refuses, here, later}
-use Rattle.elementary.specs.declared.Check.{Check}
-use Rattle.elementary.specs.declared.Check.TheVariants as Check
+use Rattle.elementary.specs.Checks.{Verdict, passes, refused, verdict, first_of, first_failing, check_of, Refuses, here, later, by}
 use Rattle.elementary.proofs.Checks.{failing_joined}
 use Rattle.model.specs.Checks.{verdict_of, one_check, first_refusal}
+use Rattle.elementary.specs.declared.Refusal.{Refusal}
 
 pub verdict_told : (v : Verdict) → verdict_of (check_of v) ≡ v
 unfolding verdict_of check_of
 verdict_told passes = refl
 verdict_told (refused n) = refl
 
-pub first_passed : (k : Check) → first_refusal Check.Passes k ≡ k
+pub first_passed : (k : Result Unit Refusal) → first_refusal (Ok tt) k ≡ k
 unfolding first_refusal first_of verdict_of check_of
-first_passed Check.Passes = refl
-first_passed (Check.Refused n) = refl
+first_passed (Ok tt) = refl
+first_passed (Err n) = refl
 
-pub one_told : (b : Bool) (n : ℕ) → one_check b n ≡ check_of (first_failing ((b, n) ∷ []))
+pub one_told : (b : Bool) (n : ℕ) → one_check b (by n) ≡ check_of (first_failing ((b, n) ∷ []))
 unfolding one_check first_failing first_of verdict
 one_told true n = refl
 one_told false n = refl

@@ -1,4 +1,5 @@
 -- The checks of numbers either stop a call or all pass, and what it says that they pass. Assumes nothing.
+use Rattle.std.specs.Prelude.{Result, Ok, Err}
 use mathlib.Core.Path.{◌≡◌, refl, sym, subst}
 use Prim.Native.Nat.{ℕ, ◌-◌, ◌^◌, ◌≤◌}
 use native.Mathlib.Nat.{le_trans, sub-le}
@@ -14,7 +15,7 @@ use lib.Ieee.Fits.{round-fits}
 use lib.Ieee.Bits.{is_true}
 use lib.Ieee.Exact.{HasValue}
 use Rattle.elementary.specs.Float.{◌⊘◌, whole, 0ᶠ, finite, positive}
-use Rattle.elementary.specs.Checks.{Verdict, passes, refused, verdict, first_of, first_failing, check_of, Refuses, Passes, none, each}
+use Rattle.elementary.specs.Checks.{Verdict, passes, refused, verdict, first_of, first_failing, check_of, Refuses, Passes, none, each, by}
 use Rattle.elementary.proofs.Checks.{first_failing_lem, none_failing, failing_joined}
 use Rattle.elementary.proofs.Signs.{nonneg}
 use Rattle.elementary.proofs.Exact.{whole_value, div_one_f}
@@ -29,15 +30,14 @@ use Rattle.model.specs.Configuration.{config_limits, config_ok}
 use Rattle.model.specs.Model.{lots, holding_ok, model_if, model_ok, model_limits, market_ok, model_of, input_of, driftless, holding_checks, exact_checks, closed_checks, exact_model, closed_model, model_after}
 use Rattle.model.specs.declared.GLFTConfig.{GLFTConfig}
 use Rattle.model.specs.declared.Model.{Model}
-use Rattle.model.specs.declared.ModelAnswer.{ModelAnswer}
-use Rattle.model.specs.declared.ModelAnswer.TheVariants.{Refused, Model as Given}
 use Rattle.model.proofs.Joined.{verdict_told}
 use mir.Facts.{and_yes}
+use Rattle.elementary.specs.declared.Refusal.{Refusal}
 
 -- ---- by the checks
-pub data Made (l : List (Bool × ℕ)) (b : Model) (q : ℤ) : ModelAnswer → Type 0 where
-  stopped : {n : ℕ} → Refuses l n → Made l b q (Refused n)
-  passed : Passes l → Made l b q (Given b q)
+pub data Made (l : List (Bool × ℕ)) (b : Model) (q : ℤ) : Result (Model × ℤ) Refusal → Type 0 where
+  stopped : {n : ℕ} → Refuses l n → Made l b q (Err (by n))
+  passed : Passes l → Made l b q (Ok (b, q))
 
 pub made : (l : List (Bool × ℕ)) (b : Model) (q : ℤ) → Made l b q (model_if (first_failing l) b q)
 unfolding model_if
@@ -47,11 +47,11 @@ made l b q = go (first_failing l) refl
     go passes e = passed ((none_failing l).0 e)
     go (refused n) e = stopped ((first_failing_lem l n).0 e)
 
-pub stops : {l : List (Bool × ℕ)} {n : ℕ} (b : Model) (q : ℤ) → Refuses l n → model_if (first_failing l) b q ≡ Refused n
+pub stops : {l : List (Bool × ℕ)} {n : ℕ} (b : Model) (q : ℤ) → Refuses l n → model_if (first_failing l) b q ≡ Err (by n)
 unfolding model_if
 stops {l} {n} b q k = rw ((first_failing_lem l n).1 k)
 
-pub goes_on : {l : List (Bool × ℕ)} (b : Model) (q : ℤ) → Passes l → model_if (first_failing l) b q ≡ Given b q
+pub goes_on : {l : List (Bool × ℕ)} (b : Model) (q : ℤ) → Passes l → model_if (first_failing l) b q ≡ Ok (b, q)
 unfolding model_if
 goes_on {l} b q k = rw ((none_failing l).1 k)
 
@@ -176,17 +176,17 @@ limits_passed mid h c vol k =
 
 -- so too where a model is made, whose first check is l and that of those numbers
 pub made_amounts : (l : Bool) (mid h : ℤ) (c : GLFTConfig) (vol : ℤ) → (l ≡ true → model_limits mid h c vol ≡ true) → (r : List (Bool × ℕ)) (b m : Model) (p q : ℤ)
-    → model_if (first_failing ((l, limits) ∷ r)) b p ≡ Given m q → T (amount_ok mid) × T (amount_ok c.min_spread)
+    → model_if (first_failing ((l, limits) ∷ r)) b p ≡ Ok (m, q) → T (amount_ok mid) × T (amount_ok c.min_spread)
 unfolding model_if first_failing first_of verdict
 made_amounts true mid h c vol f r b m p q e = limits_passed mid h c vol (f refl)
 made_amounts false mid h c vol f r b m p q e = let z : ◌≡◌ {A = ℕ} 0 1 = cc in absurd (omega arith)
 
-pub exact_amounts : (mid h : ℤ) (c : GLFTConfig) (vol : ℤ) (t : ℕ) (m : Model) (q : ℤ) → exact_model mid h c vol t ≡ Given m q → T (amount_ok mid) × T (amount_ok c.min_spread)
+pub exact_amounts : (mid h : ℤ) (c : GLFTConfig) (vol : ℤ) (t : ℕ) (m : Model) (q : ℤ) → exact_model mid h c vol t ≡ Ok (m, q) → T (amount_ok mid) × T (amount_ok c.min_spread)
 unfolding exact_model
 exact_amounts mid h c vol t m q e =
     made_amounts (time_ok t && model_limits mid h c vol) mid h c vol (λ k. ((and-eq-true_iff (time_ok t) (model_limits mid h c vol)).0 k).1) _ _ m _ q e
 
-pub closed_amounts : (mid h : ℤ) (c : GLFTConfig) (vol : ℤ) (m : Model) (q : ℤ) → closed_model mid h c vol ≡ Given m q → T (amount_ok mid) × T (amount_ok c.min_spread)
+pub closed_amounts : (mid h : ℤ) (c : GLFTConfig) (vol : ℤ) (m : Model) (q : ℤ) → closed_model mid h c vol ≡ Ok (m, q) → T (amount_ok mid) × T (amount_ok c.min_spread)
 unfolding closed_model
 closed_amounts mid h c vol m q e = made_amounts (model_limits mid h c vol) mid h c vol (λ k. k) _ _ m _ q e
 

@@ -1,14 +1,13 @@
 -- Document 01, module 4: the configuration with its limits. Definitions only.
-use Rattle.std.specs.Prelude.{ℕ, Bool, ◌&&◌, List, ◌∷◌, [], pos, neg_ℤ, ltb}
+use Rattle.std.specs.Prelude.{ℕ, Bool, ◌&&◌, List, ◌∷◌, [], pos, neg_ℤ, ltb, Result, Ok, Err}
 use Rattle.std.specs.Int.Signed.{le_z}
-use Rattle.elementary.specs.Checks.{Verdict, passes, refused, first_failing}
+use Rattle.elementary.specs.Checks.{Verdict, passes, refused, first_failing, by}
 use Rattle.plan.specs.Refusals.{configuration}
 use Rattle.plan.specs.Plan.{bound_ok}
 use Rattle.amounts.specs.Refusals.{limits}
 use Rattle.model.specs.declared.GLFTConfig.{GLFTConfig}
-use Rattle.model.specs.declared.ConfigAnswer.{ConfigAnswer}
-use Rattle.model.specs.declared.ConfigAnswer.TheVariants as ConfigAnswer
 use Rattle.amounts.specs.Amounts.{amount_ok, above0, time_ok}
+use Rattle.elementary.specs.declared.Refusal.{Refusal}
 
 -- every amount and the time within their limits, or 2
 unfoldable pub config_limits : GLFTConfig → Bool
@@ -30,11 +29,11 @@ number_checks f c = (f, limits) ∷ (config_ok c, configuration) ∷ []
 abbrev pub config_checks : GLFTConfig → List (Bool × ℕ)
 config_checks c = number_checks (config_limits c) c
 
-unfoldable pub config_if : Verdict → GLFTConfig → ConfigAnswer
-config_if passes c = ConfigAnswer.Config c
-config_if (refused n) c = ConfigAnswer.Refused n
+unfoldable pub config_if : Verdict → GLFTConfig → Result GLFTConfig Refusal
+config_if passes c = Ok c
+config_if (refused n) c = Err (by n)
 
-unfoldable pub new_config : GLFTConfig → ConfigAnswer
+unfoldable pub new_config : GLFTConfig → Result GLFTConfig Refusal
 new_config c = config_if (first_failing (config_checks c)) c
 
 -- the same with the drift of the other sign

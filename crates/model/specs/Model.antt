@@ -1,11 +1,10 @@
 -- Document 01, module 4, and change request 7: the model, one record of eight floats and the bound, and the holding in lots. Definitions only.
-use Rattle.std.specs.Prelude.{ℕ, Bool, ◌&&◌, List, ◌∷◌, ◌++◌, [], ℤ, pos, nat_abs, eqb, Float}
+use Rattle.std.specs.Prelude.{ℕ, Bool, ◌&&◌, List, ◌∷◌, ◌++◌, [], ℤ, pos, nat_abs, eqb, Float, Result, Ok, Err}
 use Rattle.std.specs.Int.Signed.{quot_z, rem_z}
 use Rattle.std.specs.Float.Ieee.{neg}
 use Rattle.elementary.specs.Float.{◌⊕◌, ◌⊗◌, ◌⊘◌, whole, 1ᶠ, 2ᶠ, finite, positive}
 use Rattle.elementary.specs.Elementary.{LN1P, EXP, outside, or_nan}
-use Rattle.elementary.specs.Checks.{Verdict, passes, refused, first_of, first_failing, check_of}
-use Rattle.elementary.specs.declared.Check.{Check}
+use Rattle.elementary.specs.Checks.{Verdict, passes, refused, first_of, first_failing, check_of, by}
 use Rattle.plan.specs.Refusals.{configuration}
 use Rattle.distances.specs.Refusals.{holding}
 use Rattle.plan.specs.declared.RunInput.{RunInput}
@@ -16,8 +15,7 @@ use Rattle.model.specs.Checks.{verdict_of}
 use Rattle.model.specs.Configuration.{config_limits, number_checks}
 use Rattle.model.specs.declared.GLFTConfig.{GLFTConfig}
 use Rattle.model.specs.declared.Model.{Model}
-use Rattle.model.specs.declared.ModelAnswer.{ModelAnswer}
-use Rattle.model.specs.declared.ModelAnswer.TheVariants as ModelAnswer
+use Rattle.elementary.specs.declared.Refusal.{Refusal}
 
 -- ---- the holding
 unfoldable pub lots : ℤ → GLFTConfig → ℤ
@@ -100,30 +98,30 @@ abbrev pub closed_checks : ℤ → ℤ → GLFTConfig → ℤ → List (Bool × 
 closed_checks mid h c vol = closed_market_checks (model_limits mid h c vol) mid c vol ++ holding_checks h c vol
 
 -- ---- the model and the lots, where the checks pass
-unfoldable pub model_if : Verdict → Model → ℤ → ModelAnswer
-model_if passes m q = ModelAnswer.Model m q
-model_if (refused n) m q = ModelAnswer.Refused n
+unfoldable pub model_if : Verdict → Model → ℤ → Result (Model × ℤ) Refusal
+model_if passes m q = Ok (m, q)
+model_if (refused n) m q = Err (by n)
 
-unfoldable pub new_model : ℤ → ℤ → GLFTConfig → ℤ → ModelAnswer
+unfoldable pub new_model : ℤ → ℤ → GLFTConfig → ℤ → Result (Model × ℤ) Refusal
 new_model mid h c vol = model_if (first_failing (model_checks mid h c vol)) (model_of c vol) (lots h c)
 
-unfoldable pub exact_model : ℤ → ℤ → GLFTConfig → ℤ → ℕ → ModelAnswer
+unfoldable pub exact_model : ℤ → ℤ → GLFTConfig → ℤ → ℕ → Result (Model × ℤ) Refusal
 exact_model mid h c vol t = model_if (first_failing (exact_checks mid h c vol t)) (model_of c vol) (lots h c)
 
-unfoldable pub closed_model : ℤ → ℤ → GLFTConfig → ℤ → ModelAnswer
+unfoldable pub closed_model : ℤ → ℤ → GLFTConfig → ℤ → Result (Model × ℤ) Refusal
 closed_model mid h c vol = model_if (first_failing (closed_checks mid h c vol)) (model_of c vol) (lots h c)
 
 -- after any checks: what they refuse; then 1, where the lot size is not positive, and the holding's checks
-unfoldable pub model_after : Check → ℤ → GLFTConfig → ℤ → ModelAnswer
+unfoldable pub model_after : Result Unit Refusal → ℤ → GLFTConfig → ℤ → Result (Model × ℤ) Refusal
 model_after k h c vol = model_if (first_of (verdict_of k) (first_failing ((above0 c.lot_size, configuration) ∷ holding_checks h c vol))) (model_of c vol) (lots h c)
 
 -- ---- what is refused before the holding's checks: by 2, 1 or 3, and in the closed form by 22
-unfoldable pub check_exact : ℤ → ℤ → GLFTConfig → ℤ → ℕ → Check
+unfoldable pub check_exact : ℤ → ℤ → GLFTConfig → ℤ → ℕ → Result Unit Refusal
 check_exact mid h c vol t = check_of (first_failing (market_checks (time_ok t && model_limits mid h c vol) mid c vol))
 
-unfoldable pub check_closed_form : ℤ → ℤ → GLFTConfig → ℤ → Check
+unfoldable pub check_closed_form : ℤ → ℤ → GLFTConfig → ℤ → Result Unit Refusal
 check_closed_form mid h c vol = check_of (first_failing (closed_market_checks (model_limits mid h c vol) mid c vol))
 
 -- at holding 0
-unfoldable pub check_call : ℤ → GLFTConfig → ℤ → ℕ → Check
+unfoldable pub check_call : ℤ → GLFTConfig → ℤ → ℕ → Result Unit Refusal
 check_call mid c vol t = check_exact mid (pos 0) c vol t

@@ -1,6 +1,6 @@
 // The checks of a call, in order, each with the number that refuses where it fails.
 ghost use Rattle.std.specs.Prelude.{◌≡◌};
-ghost use Rattle.elementary.specs.Checks.{first_failing, check_of};
+ghost use Rattle.elementary.specs.Checks.{first_failing, check_of, by};
 ghost use Rattle.model.specs.Refusals.{market};
 ghost use Rattle.model.specs.Checks.{one_check, first_refusal};
 ghost use Rattle.model.specs.Configuration.{number_checks};
@@ -10,31 +10,28 @@ use crate::parameters::limits_fit;
 use crate::{GLFTConfig, config, refusals};
 use amounts::refusals::LIMITS;
 use amounts::{is_positive, time_fits};
-use elementary::Check;
+use elementary::Refusal;
 use plan::refusals::CONFIGURATION;
 
-// One check: passed, or refused by its number.
-pub fn one_check(passes: bool, number: u8) -> Check
-    ensures { result ≡ one_check passes number }
+// One check: passed, or refused.
+pub fn one_check(passes: bool, refusal: Refusal) -> Result<(), Refusal>
+    ensures { result ≡ one_check passes refusal }
 {
     if passes {
-        return Check::Passes;
+        return Ok(());
     }
-    Check::Refused(number)
+    Err(refusal)
 }
 
 // Of two checks the first that refuses.
-pub fn first_refusal(first: Check, second: Check) -> Check
+pub fn first_refusal(first: Result<(), Refusal>, second: Result<(), Refusal>) -> Result<(), Refusal>
     ensures { result ≡ first_refusal first second }
 {
-    match first {
-        Check::Passes => second,
-        Check::Refused(number) => Check::Refused(number),
-    }
+    first.and(second)
 }
 
 // 2, where the numbers of a call do not fit, then 1.
-pub(crate) fn check_numbers(fit: bool, config: GLFTConfig) -> Check
+pub(crate) fn check_numbers(fit: bool, config: GLFTConfig) -> Result<(), Refusal>
     ensures { result ≡ check_of (first_failing (number_checks fit config)) }
 {
     first_refusal(
@@ -44,8 +41,8 @@ pub(crate) fn check_numbers(fit: bool, config: GLFTConfig) -> Check
 }
 
 // 3.
-fn check_prices(mid_price: i64, volatility: i64) -> Check
-    ensures { result ≡ one_check (market_ok mid_price volatility) market }
+fn check_prices(mid_price: i64, volatility: i64) -> Result<(), Refusal>
+    ensures { result ≡ one_check (market_ok mid_price volatility) (by market) }
 {
     one_check(
         is_positive(mid_price) & is_positive(volatility),
@@ -60,7 +57,7 @@ pub fn check_exact(
     config: GLFTConfig,
     volatility: i64,
     current_time: u64,
-) -> Check
+) -> Result<(), Refusal>
     ensures { result ≡ check_exact mid_price inventory config volatility current_time }
 {
     let fit = time_fits(current_time) & limits_fit(mid_price, inventory, config, volatility);
@@ -76,7 +73,7 @@ pub fn check_closed_form(
     inventory: i64,
     config: GLFTConfig,
     volatility: i64,
-) -> Check
+) -> Result<(), Refusal>
     ensures { result ≡ check_closed_form mid_price inventory config volatility }
 {
     let fit = limits_fit(mid_price, inventory, config, volatility);
@@ -91,7 +88,12 @@ pub fn check_closed_form(
 }
 
 // Whether the numbers of a call pass, whatever the holding: refused by 2, then 1, then 3.
-pub fn check_call(mid_price: i64, config: GLFTConfig, volatility: i64, current_time: u64) -> Check
+pub fn check_call(
+    mid_price: i64,
+    config: GLFTConfig,
+    volatility: i64,
+    current_time: u64,
+) -> Result<(), Refusal>
     ensures { result ≡ check_call mid_price config volatility current_time }
 {
     check_exact(mid_price, 0, config, volatility, current_time)

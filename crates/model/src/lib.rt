@@ -12,7 +12,7 @@ ghost use Rattle.model.specs.Configuration.{new_config};
 ghost use Rattle.model.specs.Model.{new_model, exact_model, closed_model, model_after};
 
 pub use checks::{check_call, check_closed_form, check_exact, first_refusal, one_check};
-pub use elementary::Check;
+pub use elementary::Refusal;
 pub use parameters::{floats_fit, limits_fit, model_of, run_input};
 
 // The configuration. The drift is an amount of price a year. Its fields are public, so every call
@@ -29,12 +29,6 @@ pub struct GLFTConfig {
     pub drift: i64,
 }
 
-#[derive(Clone, Copy)]
-pub enum ConfigAnswer {
-    Config(GLFTConfig),
-    Refused(u8),
-}
-
 // The model in floats, per second and per lot, beside the bound.
 #[derive(Clone, Copy)]
 pub struct Model {
@@ -47,13 +41,6 @@ pub struct Model {
     pub base: f64,
     pub beta: f64,
     pub q_max: u32,
-}
-
-// A model with the holding in lots.
-#[derive(Clone, Copy)]
-pub enum ModelAnswer {
-    Model(Model, i64),
-    Refused(u8),
 }
 
 impl GLFTConfig {
@@ -73,7 +60,7 @@ impl GLFTConfig {
         terminal_time: u64,
         min_spread: i64,
         drift: i64,
-    ) -> ConfigAnswer
+    ) -> Result<GLFTConfig, Refusal>
         ensures { result ≡ new_config (record {
           risk_aversion = risk_aversion;
           order_intensity_k = order_intensity_k;
@@ -95,16 +82,19 @@ impl GLFTConfig {
             min_spread,
             drift,
         };
-        match checks::check_numbers(config::within_limits(c), c) {
-            Check::Passes => ConfigAnswer::Config(c),
-            Check::Refused(number) => ConfigAnswer::Refused(number),
-        }
+        checks::check_numbers(config::within_limits(c), c)?;
+        Ok(c)
     }
 }
 
 impl Model {
     // The model and the holding in lots: refused by 2, then 1, 3, 4 and 5.
-    pub fn new(mid_price: i64, inventory: i64, config: GLFTConfig, volatility: i64) -> ModelAnswer
+    pub fn new(
+        mid_price: i64,
+        inventory: i64,
+        config: GLFTConfig,
+        volatility: i64,
+    ) -> Result<(Model, i64), Refusal>
         ensures { result ≡ new_model mid_price inventory config volatility }
     {
         Model::exact(mid_price, inventory, config, volatility, 0)
@@ -117,7 +107,7 @@ impl Model {
         config: GLFTConfig,
         volatility: i64,
         current_time: u64,
-    ) -> ModelAnswer
+    ) -> Result<(Model, i64), Refusal>
         ensures { result ≡ exact_model mid_price inventory config volatility current_time }
     {
         let check = check_exact(mid_price, inventory, config, volatility, current_time);
@@ -130,7 +120,7 @@ impl Model {
         inventory: i64,
         config: GLFTConfig,
         volatility: i64,
-    ) -> ModelAnswer
+    ) -> Result<(Model, i64), Refusal>
         ensures { result ≡ closed_model mid_price inventory config volatility }
     {
         let check = check_closed_form(mid_price, inventory, config, volatility);
@@ -139,12 +129,15 @@ impl Model {
 
     // The model after a call's checks: refused as they are, by 1 where the lot size is not positive, then
     // by 4 and 5.
-    pub fn after(check: Check, inventory: i64, config: GLFTConfig, volatility: i64) -> ModelAnswer
+    pub fn after(
+        check: Result<(), Refusal>,
+        inventory: i64,
+        config: GLFTConfig,
+        volatility: i64,
+    ) -> Result<(Model, i64), Refusal>
         ensures { result ≡ model_after check inventory config volatility }
     {
-        match check {
-            Check::Passes => parameters::of_holding(inventory, config, volatility),
-            Check::Refused(number) => ModelAnswer::Refused(number),
-        }
+        check?;
+        parameters::of_holding(inventory, config, volatility)
     }
 }

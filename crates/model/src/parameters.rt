@@ -1,11 +1,11 @@
 // The model's floats, and the holding in lots.
-ghost use Rattle.std.specs.Prelude.{◌≡◌, T};
-ghost use Rattle.elementary.specs.declared.Check.TheVariants as Check;
+ghost use Rattle.std.specs.Prelude.{◌≡◌, T, Ok};
 ghost use Rattle.amounts.specs.Amounts.{above0};
 ghost use Rattle.model.specs.Model.{lots, holding_ok, model_from, model_of, model_ok, model_limits, input_of, model_after};
 
-use crate::{GLFTConfig, Model, ModelAnswer};
+use crate::{GLFTConfig, Model};
 use amounts::{amount_fits, is_positive, to_f64};
+use elementary::Refusal;
 use plan::RunInput;
 
 const SECONDS_PER_YEAR: f64 = 31536000.0;
@@ -99,18 +99,22 @@ pub fn floats_fit(m: Model) -> bool
 }
 
 // The model after checks that pass: refused by 1 where the lot size is not positive, then by 4 and 5.
-pub(crate) fn of_holding(inventory: i64, config: GLFTConfig, volatility: i64) -> ModelAnswer
-    ensures { result ≡ model_after Check.Passes inventory config volatility }
+pub(crate) fn of_holding(
+    inventory: i64,
+    config: GLFTConfig,
+    volatility: i64,
+) -> Result<(Model, i64), Refusal>
+    ensures { result ≡ model_after (Ok tt) inventory config volatility }
 {
     if is_positive(config.lot_size) {
         if holding_fits(inventory, config) {
             let m = model_of(config, volatility);
             if floats_fit(m) {
-                return ModelAnswer::Model(m, lots_of(inventory, config));
+                return Ok((m, lots_of(inventory, config)));
             }
-            return ModelAnswer::Refused(elementary::OUTSIDE);
+            return Err(elementary::OUTSIDE);
         }
-        return ModelAnswer::Refused(distances::refusals::HOLDING);
+        return Err(distances::refusals::HOLDING);
     }
-    ModelAnswer::Refused(plan::refusals::CONFIGURATION)
+    Err(plan::refusals::CONFIGURATION)
 }

@@ -4,7 +4,7 @@ use lib.Dec.{not_T}
 use lib.Ieee.{Float, lt, le}
 use lib.Ieee.Bits.{is_true, is_false}
 use Rattle.elementary.specs.Float.{◌⊗◌, whole, 0ᶠ, 1ᶠ, finite, positive}
-use Rattle.elementary.specs.Checks.{Verdict, passes, refused, first_failing, Refuses, here}
+use Rattle.elementary.specs.Checks.{Verdict, passes, refused, first_failing, Refuses, here, by}
 use Rattle.elementary.specs.Checks as Checks
 use Rattle.elementary.proofs.Checks.{first_failing_lem}
 use Rattle.elementary.proofs.Order.{lt→not_ge}
@@ -46,7 +46,7 @@ module _ (p : Fixed) (tau : Float) where
   unfolding plan_for
   ahead_is e = ap plan_in (begins true e) ∙ planned (le (needed size_of) (whole (pos cap)))
 
-  pub ahead_fails : positive size_of ≡ false → plan_in (whole_plan p tau) ≡ FirstPlan.Refused numerical
+  pub ahead_fails : positive size_of ≡ false → plan_in (whole_plan p tau) ≡ FirstPlan.Refused (by numerical)
   unfolding start plan_in
   ahead_fails e = ap plan_in (begins false e)
 
@@ -71,7 +71,7 @@ module _ (x : RunInput) where
   unfolding fixed first_if
   all_rows d e f = rw (f, e)
 
-  pub no_rows : rows_finite ≡ false → FirstPlan.Refused numerical ≡ plan_in (first_turn (fixed x) x.tau)
+  pub no_rows : rows_finite ≡ false → FirstPlan.Refused (by numerical) ≡ plan_in (first_turn (fixed x) x.tau)
   unfolding fixed first_if plan_in
   no_rows f = rw f
 
@@ -119,7 +119,7 @@ pub first_plans : FirstPlans
 unfolding first_plan plan_over plan_if
 first_plans x r = (to (first_failing (input_checks x)) refl, from r)
   where
-    checked : (n : ℕ) → Refuses (input_checks x) n → FirstPlanIs x (FirstPlan.Refused n)
+    checked : (n : ℕ) → Refuses (input_checks x) n → FirstPlanIs x (FirstPlan.Refused (by n))
     checked n (here f) = by_5 f
     checked n (Checks.later f (here b)) = by_1 f b
     checked n (Checks.later f (Checks.later _ x)) = elim x [ ]

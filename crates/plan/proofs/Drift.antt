@@ -3,7 +3,7 @@ use Rattle.std.proofs.Common.{◌≡◌, ℕ, suc, ◌-◌, ◌<◌, ◌≤◌, 
 use lib.Ieee.{Float, binary64, minus, eq, of_bits}
 use lib.Ieee.Fits.{mul-fits}
 use Rattle.elementary.specs.Float.{◌⊕◌, ◌⊗◌, whole, 0ᶠ, 1ᶠ, 2ᶠ, finite, positive}
-use Rattle.elementary.specs.Checks.{Verdict, passes, refused, first_failing}
+use Rattle.elementary.specs.Checks.{Verdict, passes, refused, first_failing, by}
 use Rattle.elementary.proofs.Signs.{nonneg, of_int_neg, finite_neg}
 use Rattle.elementary.proofs.Exact.{zero_is}
 use Rattle.elementary.proofs.Zeros.{zero_test, zero_times, zero_finite, sub_nothing}
@@ -97,7 +97,7 @@ module _ (x : RunInput) (ok : bound_ok x.bound ≡ true) (pa : positive x.alpha 
       ap (λ (y : Float). ahead_of (plan_for y x.tau cap)) (sym sizes)
       ∙ sym (ap plan_in begun_driftless ∙ ahead_is driftless x.tau (ap positive sizes ∙ e))
 
-  pub two_fail : positive (x.tau ⊗ two_norm) ≡ false → FirstPlan.Refused numerical ≡ plan_in (first_turn (fixed x) x.tau)
+  pub two_fail : positive (x.tau ⊗ two_norm) ≡ false → FirstPlan.Refused (by numerical) ≡ plan_in (first_turn (fixed x) x.tau)
   two_fail e = sym (ap plan_in begun_driftless ∙ ahead_fails driftless x.tau (ap positive sizes ∙ e))
 
 pub two_rows : TwoRows

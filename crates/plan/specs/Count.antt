@@ -3,7 +3,7 @@ use Rattle.std.specs.Prelude.{◌≡◌, ℕ, ◌-◌, ◌≤◌, Bool, true, fa
 use Rattle.std.specs.Float.Ieee.{eq, lt, le, to_unsigned}
 use Rattle.elementary.specs.Float.{◌⊕◌, ◌⊗◌, whole, 0ᶠ, 1ᶠ, 2ᶠ, positive}
 use Rattle.elementary.specs.Elementary.{outside}
-use Rattle.elementary.specs.Checks.{Verdict, passes, refused, first_failing}
+use Rattle.elementary.specs.Checks.{Verdict, passes, refused, first_failing, by}
 use Rattle.plan.specs.Refusals.{configuration}
 use Rattle.series.specs.Refusals.{numerical}
 use Rattle.operator.specs.Vectors.{tab, fill, larger}
@@ -17,7 +17,7 @@ use Rattle.plan.specs.declared.FirstPlan.{FirstPlan}
 unfoldable pub plan_in : Turn → FirstPlan
 plan_in (going g) = FirstPlan.Steps g.steps
 plan_in (ended (over_cap need b)) = FirstPlan.OverCap need b
-plan_in (ended (failed s)) = FirstPlan.Refused numerical
+plan_in (ended (failed s)) = FirstPlan.Refused (by numerical)
 plan_in (ended (vector w o s)) = FirstPlan.Steps s
 
 -- is there time left; else nothing is planned
@@ -32,7 +32,7 @@ plan_ahead x = plan_when (lt 0ᶠ x.tau) (first_turn (fixed x) x.tau)
 -- ---- the reply, by the checks and the plan
 unfoldable pub plan_if : Verdict → FirstPlan → FirstPlan
 plan_if passes p = p
-plan_if (refused n) p = FirstPlan.Refused n
+plan_if (refused n) p = FirstPlan.Refused (by n)
 
 unfoldable pub plan_over : FirstPlan → RunInput → FirstPlan
 plan_over p x = plan_if (first_failing (input_checks x)) p
@@ -61,8 +61,8 @@ TwoRows = (x : RunInput) → bound_ok x.bound ≡ true → positive x.alpha ≡ 
 -- where the floats and the bound pass: no time is left; an entry of the diagonal is not finite; tau × norm is not finite and positive; the steps needed are above the budget; or they are within it
 pub data FirstIs (x : RunInput) : FirstPlan → Type 0 where
   no_time : lt 0ᶠ x.tau ≡ false → FirstIs x (FirstPlan.Steps 0)
-  not_finite : lt 0ᶠ x.tau ≡ true → diagonal_finite (fixed x) ≡ false → FirstIs x (FirstPlan.Refused numerical)
-  fails : lt 0ᶠ x.tau ≡ true → diagonal_finite (fixed x) ≡ true → positive (first_size x) ≡ false → FirstIs x (FirstPlan.Refused numerical)
+  not_finite : lt 0ᶠ x.tau ≡ true → diagonal_finite (fixed x) ≡ false → FirstIs x (FirstPlan.Refused (by numerical))
+  fails : lt 0ᶠ x.tau ≡ true → diagonal_finite (fixed x) ≡ true → positive (first_size x) ≡ false → FirstIs x (FirstPlan.Refused (by numerical))
   over : lt 0ᶠ x.tau ≡ true → diagonal_finite (fixed x) ≡ true → positive (first_size x) ≡ true
       → T (lt (whole (pos cap)) (needed (first_size x))) → FirstIs x (FirstPlan.OverCap (needed (first_size x)) cap)
   kept : lt 0ᶠ x.tau ≡ true → diagonal_finite (fixed x) ≡ true → positive (first_size x) ≡ true
@@ -70,8 +70,8 @@ pub data FirstIs (x : RunInput) : FirstPlan → Type 0 where
 
 -- in order: the floats, the bound, and what the plan is
 pub data FirstPlanIs (x : RunInput) : FirstPlan → Type 0 where
-  by_5 : rates_ok x ≡ false → FirstPlanIs x (FirstPlan.Refused outside)
-  by_1 : rates_ok x ≡ true → bound_ok x.bound ≡ false → FirstPlanIs x (FirstPlan.Refused configuration)
+  by_5 : rates_ok x ≡ false → FirstPlanIs x (FirstPlan.Refused (by outside))
+  by_1 : rates_ok x ≡ true → bound_ok x.bound ≡ false → FirstPlanIs x (FirstPlan.Refused (by configuration))
   passed : {r : FirstPlan} → rates_ok x ≡ true → bound_ok x.bound ≡ true → FirstIs x r → FirstPlanIs x r
 
 abbrev pub FirstPlans : Type 0

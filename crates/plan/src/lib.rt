@@ -15,7 +15,7 @@ ghost use Rattle.plan.specs.Plan.{room};
 ghost use Rattle.plan.specs.Input.{rates_ok, input_checks};
 ghost use Rattle.plan.specs.Count.{first_plan};
 
-use elementary::Check;
+use elementary::Refusal;
 pub use plan::Planned;
 pub use reals::larger_of;
 pub use slices::set_plan;
@@ -40,13 +40,13 @@ pub struct RunInput {
     pub tau: f64,
 }
 
-// The first plan of a run: its steps; or the steps needed, above the budget left; or a refusal's
-// number.
+// The first plan of a run: its steps; or the steps needed, above the budget left; or a refusal. A report
+// is no refusal, so the three stand beside one another.
 #[derive(Clone, Copy)]
 pub enum FirstPlan {
     Steps(u32),
     OverCap(f64, u32),
-    Refused(u8),
+    Refused(Refusal),
 }
 
 // A vector's array with 0.0 in every place. A name for it keeps its 401 entries out of the goals.
@@ -67,16 +67,16 @@ fn floats_fit(input: RunInput) -> bool
 }
 
 // Whether a run can be made from an input: refused by 5, then 1.
-pub fn check_input(input: RunInput) -> Check
+pub fn check_input(input: RunInput) -> Result<(), Refusal>
     ensures { result ≡ check_of (first_failing (input_checks input)) }
 {
     if floats_fit(input) {
         if (1 <= input.bound) & (input.bound <= MAX_INVENTORY_LOTS) {
-            return Check::Passes;
+            return Ok(());
         }
-        return Check::Refused(refusals::CONFIGURATION);
+        return Err(refusals::CONFIGURATION);
     }
-    Check::Refused(elementary::OUTSIDE)
+    Err(elementary::OUTSIDE)
 }
 
 // The first plan of the run from an input, before anything runs; 0 steps where no time is left. Refused by
@@ -85,7 +85,7 @@ pub fn first_plan(input: RunInput) -> FirstPlan
     ensures { result ≡ first_plan input }
 {
     match check_input(input) {
-        Check::Passes => count::plan_within(input),
-        Check::Refused(number) => FirstPlan::Refused(number),
+        Ok(()) => count::plan_within(input),
+        Err(refusal) => FirstPlan::Refused(refusal),
     }
 }

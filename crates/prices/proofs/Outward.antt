@@ -1,4 +1,5 @@
 -- No price lies inside its reckoned distance: the count is not below it, and a widening moves outward. Assumes nothing.
+use Rattle.std.specs.Prelude.{Option, Some, None}
 use mathlib.Core.Path.{◌≡◌, refl, sym, ap, subst}
 use Prim.Native.Nat.{ℕ, ◌+◌, ◌*◌, ◌/◌}
 use native.Mathlib.Omega.{arith}
@@ -8,13 +9,9 @@ use lib.Dec.{T}
 use lib.Ieee.{Float, nan, inf, fin, down}
 use Rattle.elementary.specs.Float.{finite}
 use Rattle.distances.specs.Distances.{fine}
-use Rattle.distances.specs.declared.Distance.{Distance}
-use Rattle.distances.specs.declared.Distance.TheVariants as Distance
 use Rattle.amounts.specs.Rounding.{billionths, exactly, AtMost}
 use Rattle.prices.specs.Prices.{side, half_up, widening, bid_price, ask_price, widened}
 use Rattle.prices.specs.Outward.{OnSide, BuiltOutside}
-use Rattle.prices.specs.declared.Price.{Price}
-use Rattle.prices.specs.declared.Price.TheVariants.{At, Absent}
 use Rattle.amounts.proofs.Differences.{over, under, add_parts, over_times, under_times, le_parts, parts_le}
 use Rattle.amounts.proofs.Least.{rounding_is_right}
 use Rattle.prices.proofs.Facing.{built_finite, built_is}
@@ -40,11 +37,11 @@ above_mid : (m u : ℤ) → (m +ℤ u) -ℤ m ≡ u
 above_mid m u = rw (+ℤ_comm m u) (+ℤ-neg_ℤ_cancel u m)
 
 -- ---- quotes from finite distances
-moved : (least : ℤ) (b a : Price) → (n : ℕ) × (widening least b a ≡ pos n)
+moved : (least : ℤ) (b a : Option ℤ) → (n : ℕ) × (widening least b a ≡ pos n)
 unfolding widening half_up
-moved least Absent a = (0, refl)
-moved least (At b) Absent = (0, refl)
-moved least (At b) (At a) = half (least -ℤ (b +ℤ a))
+moved least None a = (0, refl)
+moved least (Some b) None = (0, refl)
+moved least (Some b) (Some a) = half (least -ℤ (b +ℤ a))
   where
     half : (z : ℤ) → (n : ℕ) × (half_up z ≡ pos n)
     half (pos n) = ((n + 1) / 2, refl)
@@ -54,15 +51,15 @@ moved least (At b) (At a) = half (least -ℤ (b +ℤ a))
 counted : (d : Float) (n : ℕ) → finite d ≡ true → AtMost d (billionths d +ℤ pos n)
 counted d n f = further d (billionths d) n (rounding_is_right d (subst T (sym f) tt)).0
 
-bid_outside : (mid : ℤ) (n : ℕ) (b : Distance) → fine b ≡ true → OnSide (λ d p. AtMost d (mid -ℤ p)) b (bid_price mid (pos n) (side b))
+bid_outside : (mid : ℤ) (n : ℕ) (b : Option Float) → fine b ≡ true → OnSide (λ d p. AtMost d (mid -ℤ p)) b (bid_price mid (pos n) (side b))
 unfolding fine side bid_price OnSide
-bid_outside mid n (Distance.At d) f = rw (below_mid mid (billionths d +ℤ pos n)) (counted d n f)
-bid_outside mid n Distance.Absent f = tt
+bid_outside mid n (Some d) f = rw (below_mid mid (billionths d +ℤ pos n)) (counted d n f)
+bid_outside mid n None f = tt
 
-ask_outside : (mid : ℤ) (n : ℕ) (a : Distance) → fine a ≡ true → OnSide (λ d p. AtMost d (p -ℤ mid)) a (ask_price mid (pos n) (side a))
+ask_outside : (mid : ℤ) (n : ℕ) (a : Option Float) → fine a ≡ true → OnSide (λ d p. AtMost d (p -ℤ mid)) a (ask_price mid (pos n) (side a))
 unfolding fine side ask_price OnSide
-ask_outside mid n (Distance.At d) f = rw (above_mid mid (billionths d +ℤ pos n)) (counted d n f)
-ask_outside mid n Distance.Absent f = tt
+ask_outside mid n (Some d) f = rw (above_mid mid (billionths d +ℤ pos n)) (counted d n f)
+ask_outside mid n None f = tt
 
 pub built_outside : BuiltOutside
 unfolding widened

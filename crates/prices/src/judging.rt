@@ -4,27 +4,28 @@ ghost use Rattle.amounts.specs.Amounts.{above0};
 ghost use Rattle.prices.specs.Prices.{each, in_order, judge};
 
 use crate::refusals::CROSSED;
-use crate::{GlftQuotes, Price, QuotesAnswer, side_fits};
+use crate::{GlftQuotes, Price, side_fits};
 use amounts::is_positive;
 use amounts::refusals::BEYOND;
+use elementary::Refusal;
 
 // Whether a side is absent or its price positive.
 fn side_positive(p: Price) -> bool
     ensures { result ≡ each above0 p }
 {
     match p {
-        Price::At(x) => is_positive(x),
-        Price::Absent => true,
+        Some(x) => is_positive(x),
+        None => true,
     }
 }
 
 // Whether a bid is below an ask, where there is one.
 fn below(b: i64, ask: Price) -> bool
-    ensures { result ≡ in_order (Price.At b) ask }
+    ensures { result ≡ in_order (Some b) ask }
 {
     match ask {
-        Price::At(a) => b < a,
-        Price::Absent => true,
+        Some(a) => b < a,
+        None => true,
     }
 }
 
@@ -33,23 +34,23 @@ fn in_order(bid: Price, ask: Price) -> bool
     ensures { result ≡ in_order bid ask }
 {
     match bid {
-        Price::At(b) => below(b, ask),
-        Price::Absent => true,
+        Some(b) => below(b, ask),
+        None => true,
     }
 }
 
 // Two prices as quotes: refused by 13 where one is beyond the limit, then by 14 where one is not
 // positive or the bid is not below the ask.
-pub fn judge(quotes: GlftQuotes) -> QuotesAnswer
+pub fn judge(quotes: GlftQuotes) -> Result<GlftQuotes, Refusal>
     ensures { result ≡ judge quotes }
 {
     let bid = quotes.bid;
     let ask = quotes.ask;
     if side_fits(bid) & side_fits(ask) {
         if side_positive(bid) & side_positive(ask) & in_order(bid, ask) {
-            return QuotesAnswer::Quotes(quotes);
+            return Ok(quotes);
         }
-        return QuotesAnswer::Refused(CROSSED);
+        return Err(CROSSED);
     }
-    QuotesAnswer::Refused(BEYOND)
+    Err(BEYOND)
 }

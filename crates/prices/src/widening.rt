@@ -3,9 +3,10 @@ ghost use Rattle.std.specs.Prelude.{◌≡◌, ◌*◌, ◌≤◌, nat_abs, T};
 ghost use Rattle.amounts.specs.Amounts.{amount_limit, amount_ok};
 ghost use Rattle.prices.specs.Prices.{each, half_up, widening, bid_price, ask_price, widen, price_sides};
 
-use crate::{GlftQuotes, Price, QuotesAnswer, side_fits};
+use crate::{GlftQuotes, Price, side_fits};
 use amounts::amount_fits;
 use amounts::refusals::{BEYOND, LIMITS};
+use elementary::Refusal;
 
 // Half of what a spread is short of the minimum, rounded up.
 fn half_shortfall(short: i64) -> i64
@@ -21,11 +22,11 @@ fn half_shortfall(short: i64) -> i64
 // How far each price moves outward where there is a bid.
 fn moved_with(least: i64, b: i64, ask: Price) -> i64
     requires { T (amount_ok least) × T (amount_ok b) × T (each amount_ok ask) }
-    ensures { result ≡ widening least (Price.At b) ask }
+    ensures { result ≡ widening least (Some b) ask }
 {
     match ask {
-        Price::At(a) => half_shortfall(least - (b + a)),
-        Price::Absent => 0,
+        Some(a) => half_shortfall(least - (b + a)),
+        None => 0,
     }
 }
 
@@ -35,8 +36,8 @@ fn moved(least: i64, bid: Price, ask: Price) -> i64
     ensures { result ≡ widening least bid ask }
 {
     match bid {
-        Price::At(b) => moved_with(least, b, ask),
-        Price::Absent => 0,
+        Some(b) => moved_with(least, b, ask),
+        None => 0,
     }
 }
 
@@ -45,8 +46,8 @@ fn bid_price(mid: i64, w: i64, bid: Price) -> Price
     ensures { result ≡ bid_price mid w bid }
 {
     match bid {
-        Price::At(d) => Price::At(mid - (d + w)),
-        Price::Absent => Price::Absent,
+        Some(d) => Some(mid - (d + w)),
+        None => None,
     }
 }
 
@@ -55,43 +56,43 @@ fn ask_price(mid: i64, w: i64, ask: Price) -> Price
     ensures { result ≡ ask_price mid w ask }
 {
     match ask {
-        Price::At(d) => Price::At(mid + (d + w)),
-        Price::Absent => Price::Absent,
+        Some(d) => Some(mid + (d + w)),
+        None => None,
     }
 }
 
 // The prices of two sides' distances around a mid. Where both are there and the spread is short of the
 // minimum, each is moved outward by half the shortfall, rounded up. Refused by 2 where the mid or the
 // min spread is beyond the limit, by 13 where a distance is. The prices are not judged.
-pub fn widen(mid: i64, min_spread: i64, bid: Price, ask: Price) -> QuotesAnswer
+pub fn widen(mid: i64, min_spread: i64, bid: Price, ask: Price) -> Result<GlftQuotes, Refusal>
     ensures { result ≡ widen mid min_spread bid ask }
 {
     if amount_fits(mid) & amount_fits(min_spread) {
         if side_fits(bid) & side_fits(ask) {
             let w = moved(min_spread, bid, ask);
-            return QuotesAnswer::Quotes(GlftQuotes {
+            return Ok(GlftQuotes {
                 bid: bid_price(mid, w, bid),
                 ask: ask_price(mid, w, ask),
             });
         }
-        return QuotesAnswer::Refused(BEYOND);
+        return Err(BEYOND);
     }
-    QuotesAnswer::Refused(LIMITS)
+    Err(LIMITS)
 }
 
 // The prices of two sides' distances around a mid, whatever their spread. Refused by 2 where the mid is
 // beyond the limit, by 13 where a distance is. The prices are not judged.
-pub fn price_sides(mid: i64, bid: Price, ask: Price) -> QuotesAnswer
+pub fn price_sides(mid: i64, bid: Price, ask: Price) -> Result<GlftQuotes, Refusal>
     ensures { result ≡ price_sides mid bid ask }
 {
     if amount_fits(mid) {
         if side_fits(bid) & side_fits(ask) {
-            return QuotesAnswer::Quotes(GlftQuotes {
+            return Ok(GlftQuotes {
                 bid: bid_price(mid, 0, bid),
                 ask: ask_price(mid, 0, ask),
             });
         }
-        return QuotesAnswer::Refused(BEYOND);
+        return Err(BEYOND);
     }
-    QuotesAnswer::Refused(LIMITS)
+    Err(LIMITS)
 }

@@ -1,4 +1,5 @@
 -- What is handed on, fill by fill, is what is printed for the sheet. Assumes nothing.
+use Rattle.std.specs.Prelude.{Result, Ok, Err}
 use mathlib.Core.Path.{◌≡◌, refl, sym, ap, ◌∙◌, subst}
 use Prim.Native.Nat.{ℕ, suc, ◌+◌, ◌-◌, ◌*◌, ◌≤◌}
 use native.Mathlib.Nat.{mul-le-mul_left, min-le_right}
@@ -12,16 +13,12 @@ use Rattle.sheet.specs.Kinds.{printed_as}
 use Rattle.sheet.specs.Fill.{filled_as, left_as}
 use Rattle.sheet.specs.Promises.{Followed}
 use Rattle.sheet.specs.declared.text.Kind.{Kind}
-use Rattle.sheet.specs.declared.fill.FillAnswer.TheVariants.{Filled}
 use Rattle.sheet.proofs.Texts.{room_most}
 use Rattle.sheet.proofs.Whole.{steps_make_the_whole, printed_bounded}
 use Rattle.sheet.proofs.Fills.{fill_first, nothing_left}
 use Rattle.printing.specs.Printing.{Next, HandedOn, Counted, OfSomeSheet}
 use Rattle.printing.specs.declared.output.Done.{Done}
-use Rattle.printing.specs.declared.output.Handed.{Handed}
-use Rattle.printing.specs.declared.output.Handed.TheVariants.{On, Failed}
-use Rattle.printing.specs.declared.Printed.{Printed}
-use Rattle.printing.specs.declared.Printed.TheVariants.{All, NotRead, NotWritten}
+use Rattle.printing.specs.declared.PrintError.{PrintError}
 
 -- ---- a text that comes next: with it no more is done than the longest print has
 pub next_most : (k : Kind) (s : List ℕ) (done : ℕ) (t : List ℕ) → Next k s done t → done + length t ≤ most_bytes * most_ladder
@@ -31,10 +28,10 @@ next_most k s done t h =
     omega (arith, h.0, some, min-le_right (length t) (length (drop done all)), length-drop done all, printed_bounded k s, mul-le-mul_left most_bytes (room_most k))
 
 -- how many are done, from what was answered
-pub handed_on : (m : ℕ) (d : Done) (r : Handed) → r ≡ On d → HandedOn m r → d.count ≡ m
+pub handed_on : {E : Type 0} (m : ℕ) (d : Done) (r : Result Done E) → r ≡ Ok d → HandedOn m r → d.count ≡ m
 unfolding HandedOn
-handed_on m d (On x) e h = let z : x ≡ d = cc in ap (λ (y : Done). y.count) (sym z) ∙ h
-handed_on m d (Failed error) e h = let z : ◌≡◌ {A = ℕ} 0 1 = cc in absurd (omega arith)
+handed_on m d (Ok x) e h = let z : x ≡ d = cc in ap (λ (y : Done). y.count) (sym z) ∙ h
+handed_on m d (Err error) e h = let z : ◌≡◌ {A = ℕ} 0 1 = cc in absurd (omega arith)
 
 -- ---- so many bytes are handed on, and what is left of all follows from a place on
 pub record Handing (k : Kind) (s : List ℕ) (at done : ℕ) : Type 0 where
@@ -49,7 +46,7 @@ module _ (k : Kind) (s : List ℕ) (at done : ℕ) (h : Handing k s at done) whe
   all = printed_as k s
 
   -- the texts of a fill come next
-  pub handing_next : (b text : List ℕ) (n next : ℕ) → filled_as k s at b ≡ Filled n next → text ≡ take n (left_as k s at b) → Next k s done text × Handing k s next (done + length text)
+  pub handing_next : (b text : List ℕ) (n next : ℕ) → filled_as k s at b ≡ Ok (n, next) → text ≡ take n (left_as k s at b) → Next k s done text × Handing k s next (done + length text)
   handing_next b text n next e t =
       let f = fill_first k s at b n next (drop done all) e h.left in
       let u = f.0 in
@@ -70,8 +67,7 @@ module _ (k : Kind) (s : List ℕ) (at done : ℕ) (h : Handing k s at done) whe
 pub read_most : (n : ℕ) (s l : List ℕ) → s ≡ take n l → length s ≤ length l
 read_most n s l e = omega (arith, ap length e ∙ length-take n l, min-le_right n (length l))
 
-pub of_sheet : (k : Kind) (s : List ℕ) (r : Printed) → length s ≤ suc most_bytes → Counted (length (printed_as k s)) r → OfSomeSheet k r
+pub of_sheet : (k : Kind) (s : List ℕ) (r : Result ℕ PrintError) → length s ≤ suc most_bytes → Counted (length (printed_as k s)) r → OfSomeSheet k r
 unfolding Counted OfSomeSheet
-of_sheet k s (All n) h e = (s, h, e)
-of_sheet k s (NotRead error) h e = tt
-of_sheet k s (NotWritten error) h e = tt
+of_sheet k s (Ok n) h e = (s, h, e)
+of_sheet k s (Err error) h e = tt

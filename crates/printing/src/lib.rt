@@ -3,28 +3,36 @@
 
 mod output;
 
-ghost use Rattle.std.specs.Prelude.{◌≡◌, ◌+◌, ◌<◌, ◌≤◌, length};
+ghost use Rattle.std.specs.Prelude.{◌≡◌, ◌+◌, ◌<◌, ◌≤◌, length, Ok};
 ghost use Rattle.feed.specs.Feed.{Fed};
 ghost use Rattle.sheet.specs.Sheet.{most_bytes};
 ghost use Rattle.sheet.specs.Kinds.{room_of, printed_as};
 ghost use Rattle.sheet.specs.Fill.{filled_as, left_as};
-ghost use Rattle.sheet.specs.declared.fill.FillAnswer.TheVariants.{Filled};
 ghost use Rattle.printing.specs.Printing.{Counted, OfSomeSheet};
 
-use feed::{Feed, first};
-use output::{Handed, count_of, hand_on, none_done};
-use sheet::{FillAnswer, Kind};
-use std::io::Error;
+use feed::first;
+use output::{count_of, hand_on, none_done};
+use sheet::Kind;
+use std::fmt;
+use std::io::{Error, Result as IoResult};
 
 // One byte more than the longest sheet, which tells one that is longer.
 const ROOM: usize = sheet::MOST_BYTES + 1;
 
-// All was written, so many bytes; standard input could not be read; or standard output did not take all.
+// Why a sheet is not printed: standard input could not be read, or standard output did not take all.
 #[derive(Drop)]
-pub enum Printed {
-    All(usize),
+pub enum PrintError {
     NotRead(Error),
     NotWritten(Error),
+}
+
+impl fmt::Display for PrintError {
+    fn fmt<W: fmt::Write>(&self, f: &mut fmt::Formatter<W>) -> fmt::Result {
+        match self {
+            PrintError::NotRead(error) => write!(f, "standard input: {error}"),
+            PrintError::NotWritten(error) => write!(f, "standard output: {error}"),
+        }
+    }
 }
 
 // What a fill put into the buffer, and the place after it.
@@ -37,17 +45,17 @@ struct Texts {
 // Puts the texts from a place of a sheet on into a buffer that has the room.
 fn fill(s: &[u8], at: usize, out: &mut [u8], kind: Kind) -> Texts
     requires { room_of kind ≤ length out.old }
-    ensures filled { filled_as kind s.now at out.old ≡ Filled result.count result.next }
+    ensures filled { filled_as kind s.now at out.old ≡ Ok (result.count, result.next) }
     ensures out_after { out.new ≡ left_as kind s.now at out.old }
 {
     match sheet::fill_texts(s, at, out, kind) {
-        FillAnswer::Filled(count, next) => Texts { count, next },
-        FillAnswer::Refused(_) => Texts { count: 0, next: at },
+        Ok((count, next)) => Texts { count, next },
+        Err(_) => Texts { count: 0, next: at },
     }
 }
 
-// Writes what is printed for a sheet, many texts with one call.
-pub fn print_texts(rt: &HostRuntime, s: &[u8], kind: Kind) -> Printed
+// Writes what is printed for a sheet, many texts with one call, and answers how many bytes that were.
+pub fn print_texts(rt: &HostRuntime, s: &[u8], kind: Kind) -> Result<usize, PrintError>
     ensures { Counted (length (printed_as kind s.now)) result }
 {
     let mut out = io::large_buffer();
@@ -55,13 +63,14 @@ pub fn print_texts(rt: &HostRuntime, s: &[u8], kind: Kind) -> Printed
     let mut done = none_done();
     while at < s.len() {
         let texts = fill(s, at, &mut out, kind);
+        // Under `map_err` and `?` no proof sees which error is handed on, and `Counted` names it.
         match hand_on(rt, s, kind, done, first(&out, texts.count)) {
-            Handed::On(more) => done = more,
-            Handed::Failed(error) => return Printed::NotWritten(error),
+            Ok(more) => done = more,
+            Err(error) => return Err(PrintError::NotWritten(error)),
         }
         at = texts.next;
     }
-    Printed::All(count_of(done))
+    Ok(count_of(done))
 }
 
 fn blank() -> [u8; ROOM]
@@ -71,20 +80,18 @@ fn blank() -> [u8; ROOM]
 }
 
 // Reads a sheet into a buffer that tells one that is too long.
-fn read(rt: &HostRuntime, input: &mut [u8]) -> Feed
+fn read(rt: &HostRuntime, input: &mut [u8]) -> IoResult<usize>
     requires { most_bytes < length input.old }
     ensures { Fed (length input.old) result }
 {
     feed::read_sheet(rt, input)
 }
 
-// Reads a sheet from standard input and writes what is printed for it.
-pub fn print_sheet(rt: &HostRuntime, kind: Kind) -> Printed
+// Reads a sheet from standard input and writes what is printed for it: so many bytes.
+pub fn print_sheet(rt: &HostRuntime, kind: Kind) -> Result<usize, PrintError>
     ensures { OfSomeSheet kind result }
 {
     let mut input = blank();
-    match read(rt, &mut input) {
-        Feed::Bytes(n) => print_texts(rt, first(&input, n), kind),
-        Feed::Failed(error) => Printed::NotRead(error),
-    }
+    let n = read(rt, &mut input).map_err(PrintError::NotRead)?;
+    print_texts(rt, first(&input, n), kind)
 }

@@ -3,19 +3,12 @@ ghost use Rattle.std.specs.Prelude.{◌≡◌, ◌+◌, length};
 ghost use Rattle.printing.specs.Printing.{Next, HandedOn};
 
 use sheet::Kind;
-use std::io::Error;
+use std::io::Result;
 
 // How many bytes are handed on. No other file can make one, so whoever has one has handed on so many.
 #[derive(Drop)]
 pub(crate) struct Done {
     count: usize,
-}
-
-// So many are done then, or the write failed.
-#[derive(Drop)]
-pub(crate) enum Handed {
-    On(Done),
-    Failed(Error),
 }
 
 // At the start.
@@ -32,15 +25,19 @@ pub(crate) fn count_of(done: Done) -> usize
 }
 
 // Writes a text, which is what comes next of all that is printed for a sheet, after the bytes that are
-// done.
-pub(crate) fn hand_on(rt: &HostRuntime, s: &[u8], kind: Kind, done: Done, text: &[u8]) -> Handed
+// done: so many are done then.
+pub(crate) fn hand_on(
+    rt: &HostRuntime,
+    s: &[u8],
+    kind: Kind,
+    done: Done,
+    text: &[u8],
+) -> Result<Done>
     requires { Next kind s.now done.count text.now }
     ensures { HandedOn (done.count + length text.now) result }
 {
-    if let Err(error) = rt.write_all(text) {
-        return Handed::Failed(error);
-    }
-    Handed::On(Done {
+    rt.write_all(text)?;
+    Ok(Done {
         count: done.count + text.len(),
     })
 }

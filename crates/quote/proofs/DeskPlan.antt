@@ -1,4 +1,5 @@
 -- A desk's plan is the count of its model's floats, so what ties that to the float entry ties it to the exact quotes. Assumes nothing.
+use Rattle.std.specs.Prelude.{Result, Ok, Err}
 use Rattle.std.proofs.Common.{◌≡◌, ℕ, suc, Bool, true, false, ◌&&◌, ◌↔◌, ℤ, sym, refl, ◌∙◌, arith}
 use mathlib.Core.Logic.Iff
 use lib.Ieee.{Float, lt}
@@ -20,22 +21,22 @@ use Rattle.amounts.specs.Amounts.{tau_of}
 use Rattle.model.specs.Model.{lots, model_of, model_from, model_by, input_of, exact_checks, exact_model}
 use Rattle.prices.specs.Prices.{build_quotes}
 use Rattle.quote.specs.Horizon.{plan_from, desk_plan, DeskPlanIsFirst, DeskPlanRefusals}
-use Rattle.prices.specs.declared.QuotesAnswer.{QuotesAnswer}
-use Rattle.prices.specs.declared.QuotesAnswer.TheVariants.{Quotes as quoted, Refused as refused}
 use Rattle.quote.specs.Quotes.{exact_from, exact_answer, with_steps, exact_by, exact_quotes, steps_from, exact_steps}
 use Rattle.model.specs.declared.GLFTConfig.{GLFTConfig}
 use Rattle.model.specs.declared.Model.{Model}
-use Rattle.model.specs.declared.ModelAnswer.{ModelAnswer}
-use Rattle.model.specs.declared.ModelAnswer.TheVariants as ModelAnswer
 use Rattle.quote.specs.declared.ExactQuotes.TheVariants as ExactQuotes
 use Rattle.model.proofs.Passed.{exact_passed, bound_passed, lots_passed, tau_passed, floats_passed}
 use Rattle.quote.proofs.Refusing.{after_checks, late, right}
+use Rattle.elementary.specs.declared.Refusal.{Refusal}
+use Rattle.elementary.specs.Checks.{by}
+use Rattle.prices.specs.declared.GlftQuotes.{GlftQuotes}
+use Rattle.elementary.proofs.Checks.{same_number}
 
 -- ---- the report of an exact call is that of its answer
-judged_report : (s : ℕ) (j : QuotesAnswer) (need : Float) (b : ℕ) → with_steps s j ≡ ExactQuotes.OverStepCap need b 0 → ◌≡◌ {A = ℕ} 0 1
+judged_report : (s : ℕ) (j : Result GlftQuotes Refusal) (need : Float) (b : ℕ) → with_steps s j ≡ ExactQuotes.OverStepCap need b 0 → ◌≡◌ {A = ℕ} 0 1
 unfolding with_steps
-judged_report s (quoted q) need b e = cc
-judged_report s (refused r) need b e = cc
+judged_report s (Ok q) need b e = cc
+judged_report s (Err r) need b e = cc
 
 report_of : (mid least : ℤ) (a : Answer) (need : Float) (b : ℕ) → exact_by mid least a ≡ ExactQuotes.OverStepCap need b 0 → a ≡ Answer.OverCap need b 0
 unfolding exact_by
@@ -48,30 +49,30 @@ module _ (mid h : ℤ) (c : GLFTConfig) (vol : ℤ) (t : ℕ) where
   tau = tau_of c.terminal_time t
 
   -- by the model that the call has
-  over_to : (a : ModelAnswer) (need : Float) (b : ℕ) → plan_from a tau ≡ FirstPlan.OverCap need b → exact_from a tau ≡ Answer.OverCap need b 0
+  over_to : (a : Result (Model × ℤ) Refusal) (need : Float) (b : ℕ) → plan_from a tau ≡ FirstPlan.OverCap need b → exact_from a tau ≡ Answer.OverCap need b 0
   unfolding plan_from exact_from
-  over_to (ModelAnswer.Refused r) need b e = let z : ◌≡◌ {A = ℕ} 0 1 = cc in absurd (omega arith)
-  over_to (ModelAnswer.Model m q) need b e = (count_is_first_plan.over _ _ (input_of m tau) q need b).0 e
+  over_to (Err r) need b e = let z : ◌≡◌ {A = ℕ} 0 1 = cc in absurd (omega arith)
+  over_to (Ok (m, q)) need b e = (count_is_first_plan.over _ _ (input_of m tau) q need b).0 e
 
-  over_from : (a : ModelAnswer) (need : Float) (b : ℕ) → exact_from a tau ≡ Answer.OverCap need b 0 → plan_from a tau ≡ FirstPlan.OverCap need b
+  over_from : (a : Result (Model × ℤ) Refusal) (need : Float) (b : ℕ) → exact_from a tau ≡ Answer.OverCap need b 0 → plan_from a tau ≡ FirstPlan.OverCap need b
   unfolding plan_from exact_from
-  over_from (ModelAnswer.Refused r) need b e = let z : ◌≡◌ {A = ℕ} 0 1 = cc in absurd (omega arith)
-  over_from (ModelAnswer.Model m q) need b e = (count_is_first_plan.over _ _ (input_of m tau) q need b).1 e
+  over_from (Err r) need b e = let z : ◌≡◌ {A = ℕ} 0 1 = cc in absurd (omega arith)
+  over_from (Ok (m, q)) need b e = (count_is_first_plan.over _ _ (input_of m tau) q need b).1 e
 
-  refusing : (a : ModelAnswer) (n : ℕ) → plan_from a tau ≡ FirstPlan.Refused n → exact_from a tau ≡ Answer.Refused n
+  refusing : (a : Result (Model × ℤ) Refusal) (n : ℕ) → plan_from a tau ≡ FirstPlan.Refused (by n) → exact_from a tau ≡ Answer.Refused (by n)
   unfolding plan_from exact_from
-  refusing (ModelAnswer.Refused r) n e = cc
-  refusing (ModelAnswer.Model m q) n e = (count_is_first_plan.refused _ _ (input_of m tau) q n e).0
+  refusing (Err r) n e = let z : r ≡ by n = cc in rw z
+  refusing (Ok (m, q)) n e = (count_is_first_plan.refused _ _ (input_of m tau) q n e).0
 
-  going_on : (a : ModelAnswer) (s : ℕ) → plan_from a tau ≡ FirstPlan.Steps (suc s) → (m : Model) × (q : ℤ) × (a ≡ ModelAnswer.Model m q) × FirstGoes (input_of m tau) (suc s)
+  going_on : (a : Result (Model × ℤ) Refusal) (s : ℕ) → plan_from a tau ≡ FirstPlan.Steps (suc s) → (m : Model) × (q : ℤ) × (a ≡ Ok (m, q)) × FirstGoes (input_of m tau) (suc s)
   unfolding plan_from
-  going_on (ModelAnswer.Refused r) s e = let z : ◌≡◌ {A = ℕ} 0 1 = cc in absurd (omega arith)
-  going_on (ModelAnswer.Model m q) s e = (m, q, refl, (count_is_first_plan.steps _ _ (input_of m tau) q s e).0)
+  going_on (Err r) s e = let z : ◌≡◌ {A = ℕ} 0 1 = cc in absurd (omega arith)
+  going_on (Ok (m, q)) s e = (m, q, refl, (count_is_first_plan.steps _ _ (input_of m tau) q s e).0)
 
-  spending : (a : ModelAnswer) → plan_from a tau ≡ FirstPlan.Steps 0 → steps_from a tau ≡ 0
+  spending : (a : Result (Model × ℤ) Refusal) → plan_from a tau ≡ FirstPlan.Steps 0 → steps_from a tau ≡ 0
   unfolding plan_from steps_from
-  spending (ModelAnswer.Refused r) e = refl
-  spending (ModelAnswer.Model m q) e = (count_is_first_plan.none _ _ (input_of m tau) q e).1
+  spending (Err r) e = refl
+  spending (Ok (m, q)) e = (count_is_first_plan.none _ _ (input_of m tau) q e).1
 
 pub desk_plan_is_first : DeskPlanIsFirst
 unfolding desk_plan exact_quotes exact_answer exact_by exact_steps tau
@@ -93,7 +94,7 @@ module _ (k base : Float) (x : RunInput) (q : ℤ) (f : floats_ok k base x ≡ t
   abbrev Why : FirstPlan → Type 0
   Why (FirstPlan.Steps s) = Unit {0}
   Why (FirstPlan.OverCap need l) = Unit {0}
-  Why (FirstPlan.Refused n) = (n ≡ numerical) × Fails
+  Why (FirstPlan.Refused n) = (n.0 ≡ numerical) × Fails
 
   plan_why : {r : FirstPlan} → FirstIs x r → Why r
   plan_why (no_time l) = tt
@@ -109,26 +110,26 @@ module _ (k base : Float) (x : RunInput) (q : ℤ) (f : floats_ok k base x ≡ t
   count_why (counted e i j c) = plan_why c
 
   failing : lt 0ᶠ x.tau ≡ true → (d s : Bool) → diagonal_finite (fixed x) ≡ d → positive (first_size x) ≡ s → (d && s) ≡ false
-      → FirstIs x (FirstPlan.Refused numerical)
+      → FirstIs x (FirstPlan.Refused (by numerical))
   failing l false s u v e = not_finite l u
   failing l true false u v e = fails l u v
   failing l true true u v e = never e
 
-  count_fails : (n : ℕ) → (step_count k base x q ≡ FirstPlan.Refused n) ↔ ((n ≡ numerical) × Fails)
+  count_fails : (n : ℕ) → (step_count k base x q ≡ FirstPlan.Refused (by n)) ↔ ((n ≡ numerical) × Fails)
   count_fails n = (
-    λ e. count_why ((step_counts k base x q (FirstPlan.Refused n)).0 e),
-    λ e. rw e.0 ((step_counts k base x q (FirstPlan.Refused numerical)).1 (counted f b w (failing e.1.0 _ _ refl refl e.1.1))),
+    λ e. count_why ((step_counts k base x q (FirstPlan.Refused (by n))).0 e),
+    λ e. rw e.0 ((step_counts k base x q (FirstPlan.Refused (by numerical))).1 (counted f b w (failing e.1.0 _ _ refl refl e.1.1))),
   )
 
-same_plan : (r n : ℕ) → FirstPlan.Refused r ≡ FirstPlan.Refused n → r ≡ n
-same_plan r n e = cc
+same_plan : (r n : ℕ) → FirstPlan.Refused (by r) ≡ FirstPlan.Refused (by n) → r ≡ n
+same_plan r n e = same_number (let z : by r ≡ by n = cc in z)
 
 pub desk_plan_refusals : DeskPlanRefusals
 unfolding desk_plan exact_model plan_from model_of model_from model_by
 desk_plan_refusals mid h c vol t n =
     let tau = tau_of c.terminal_time t in
     let m = model_of c vol in
-    Iff.trans (after_checks FirstPlan.Refused (λ x. plan_from x tau) (λ r. refl) same_plan (exact_checks mid h c vol t) m (lots h c) n)
+    Iff.trans (after_checks (λ r. FirstPlan.Refused (by r)) (λ x. plan_from x tau) (λ r. refl) same_plan (exact_checks mid h c vol t) m (lots h c) n)
     (right (late (λ k.
     let p = exact_passed mid h c vol t k in
     count_fails m.k m.base (input_of m tau) (lots h c) (floats_passed m tau p.4 (tau_passed mid h c vol t p.0)) (bound_passed c p.1) (lots_passed h c p.3) n)))

@@ -1,9 +1,10 @@
 -- At drift 0 the checks are the driftless ones and beta is a zero, so what the layers below say of a zero beta carries over. Assumes nothing.
+use Rattle.std.specs.Prelude.{Result}
 use Rattle.std.proofs.Common.{◌≡◌, ℕ, Bool, true, false, ◌&&◌, T, ℤ, pos, refl, ap, ◌∙◌, eq-eqb}
 use mathlib.Core.Bool.{and-true}
 use lib.Ieee.{Float, binary64, eq}
 use Rattle.elementary.specs.Float.{0ᶠ, finite, positive}
-use Rattle.elementary.specs.Checks.{verdict, first_of, first_failing}
+use Rattle.elementary.specs.Checks.{verdict, first_of, first_failing, by}
 use Rattle.elementary.proofs.Zeros.{Zero, zero_equal, zero_finite}
 use Rattle.plan.specs.declared.FirstPlan.{FirstPlan}
 use Rattle.plan.specs.declared.FirstPlan.TheVariants as FirstPlan
@@ -19,10 +20,10 @@ use Rattle.quote.specs.Quotes.{exact_from, exact_answer, exact_by, exact_quotes,
 use Rattle.quote.specs.Horizon.{plan_from, desk_plan}
 use Rattle.model.specs.declared.GLFTConfig.{GLFTConfig}
 use Rattle.model.specs.declared.Model.{Model}
-use Rattle.model.specs.declared.ModelAnswer.{ModelAnswer}
 use Rattle.model.proofs.Turned.{beta_none}
 use Rattle.model.proofs.Passed.{Made, stopped, passed, made, exact_passed, positive_number, k_passed}
 use Rattle.distances.specs.Drift.{driftless_entry, driftless_steps as entry_steps, driftless_count}
+use Rattle.elementary.specs.declared.Refusal.{Refusal}
 
 -- ---- a test less at the end, where it follows from the first
 one_less : (k g a s x y z t : Bool) → (k ≡ true → t ≡ true) → (k && g && a && s && x && y && z && t) ≡ (k && g && a && s && x && y && z)
@@ -88,7 +89,7 @@ module _ (mid h : ℤ) (c : GLFTConfig) (vol : ℤ) (t : ℕ) (e : c.drift ≡ p
   abbrev count : Model → ℤ → FirstPlan
   count m q = driftless_count m.k m.base m.alpha m.eta m.q_max tau q
 
-  from_same : {a : ModelAnswer} → Made (exact_checks mid h c vol t) (model_of c vol) (lots h c) a
+  from_same : {a : Result (Model × ℤ) Refusal} → Made (exact_checks mid h c vol t) (model_of c vol) (lots h c) a
       → (exact_from a tau ≡ from_model Answer.Refused entry a) × (steps_from a tau ≡ from_model (λ r. 0) spent a) × (plan_from a tau ≡ from_model FirstPlan.Refused count a)
   unfolding exact_from steps_from plan_from from_model
   from_same (stopped k) = (refl, refl, refl)
@@ -128,7 +129,7 @@ drift_zero = record {
   exact = λ mid h c vol t e. ap (exact_by mid c.min_spread) (answer_same mid h c vol t e);
   steps = steps_same;
   optimal = λ mid h c vol t e. ap (λ (a : Answer). wrapped (exact_by mid c.min_spread a)) (answer_same mid h c vol t e);
-  closed = λ mid h c vol e. ap (λ (a : ModelAnswer). closed_by mid c.min_spread (closed_from a)) (closed_same c e vol mid h);
+  closed = λ mid h c vol e. ap (λ (a : Result (Model × ℤ) Refusal). closed_by mid c.min_spread (closed_from a)) (closed_same c e vol mid h);
   plan = plan_same;
   check = λ mid c vol t e. rw (limits_with c e vol mid (pos 0));
 }

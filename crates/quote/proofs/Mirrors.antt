@@ -1,4 +1,5 @@
 -- The two calls of demand 3 before prices: at the opposite holding and drift the model has the opposite lots and beta, so distances change sides. Assumes nothing.
+use Rattle.std.specs.Prelude.{Some, Result, Ok, Err}
 use Rattle.std.proofs.Common.{◌≡◌, ℕ, zero, suc, ◌*◌, ◌^◌, ◌<◌, ◌≤◌, Bool, true, false, T, ℤ, pos, negsuc, ◌+ℤ◌, ◌*ℤ◌, neg_ℤ, nat_abs, sym, refl, ap, ◌∙◌, le_trans, zero-lt-suc, mul-le-mul_left, arith, lit≤, lt-ltb}
 use lib.IntN.{neg_ℤ-neg_ℤ, neg_ℤ-+ℤ}
 use lib.Signed.{lt_z, quot_z}
@@ -13,7 +14,6 @@ use Rattle.vector.specs.Promises.{turned_input}
 use Rattle.plan.specs.declared.RunInput.{RunInput}
 use Rattle.distances.specs.Promises.{Counted, exchanged, exchanged_sides}
 use Rattle.distances.specs.FloatEntry.{float_entry, float_steps}
-use Rattle.distances.specs.declared.Distance.TheVariants.{At}
 use Rattle.distances.specs.declared.FloatAnswer.{FloatAnswer}
 use Rattle.distances.proofs.Drift.{drift_zero_entry}
 use Rattle.distances.proofs.FloatMirror.{float_mirror, sides_exchanged}
@@ -26,17 +26,16 @@ use Rattle.quote.specs.Quotes.{exact_from, exact_answer, closed_from, closed_ans
 use Rattle.quote.specs.Promises.{ExactMirror, ClosedMirror}
 use Rattle.model.specs.declared.GLFTConfig.{GLFTConfig}
 use Rattle.model.specs.declared.Model.{Model}
-use Rattle.model.specs.declared.ModelAnswer.{ModelAnswer}
-use Rattle.model.specs.declared.ModelAnswer.TheVariants as ModelAnswer
 use Rattle.amounts.proofs.Signed.{nat_abs_neg, quot_neg, rem_neg, times_neg, whole_neg, lt_z_neg}
 use Rattle.model.proofs.Turned.{beta_of, beta_neg, beta_none, limits_turned, model_ok_turned, driftless_turned}
 use Rattle.model.proofs.Passed.{Made, stopped, passed, made, exact_passed, closed_passed, k_passed, few_lots}
+use Rattle.elementary.specs.declared.Refusal.{Refusal}
 
 -- ---- the model
 -- another model, and the lots with the other sign
-opposed : Model → ModelAnswer → ModelAnswer
-opposed n (ModelAnswer.Model m q) = ModelAnswer.Model n (neg_ℤ q)
-opposed n (ModelAnswer.Refused r) = ModelAnswer.Refused r
+opposed : Model → Result (Model × ℤ) Refusal → Result (Model × ℤ) Refusal
+opposed n (Ok (m, q)) = Ok (n, neg_ℤ q)
+opposed n (Err r) = Err r
 
 if_opposed : (v : Verdict) (b n : Model) (q : ℤ) → model_if v n (neg_ℤ q) ≡ opposed n (model_if v b q)
 unfolding opposed model_if
@@ -95,7 +94,7 @@ module _ (k base : Float) (q : ℤ) where
   opposite h alpha eta bound tau (pos (suc n)) = rw (beta_neg k (pos (suc n)) (zero-lt-suc n)) (by_mirror (drifting alpha eta bound tau (pos (suc n))))
   opposite h alpha eta bound tau (negsuc n) = rw (beta_neg k (negsuc n) (zero-lt-suc n)) (by_mirror (drifting alpha eta bound tau (negsuc n)))
 
-from_opposed : (mid h : ℤ) (c : GLFTConfig) (vol : ℤ) (t : ℕ) {a : ModelAnswer} → Made (exact_checks mid h c vol t) (model_of c vol) (lots h c) a
+from_opposed : (mid h : ℤ) (c : GLFTConfig) (vol : ℤ) (t : ℕ) {a : Result (Model × ℤ) Refusal} → Made (exact_checks mid h c vol t) (model_of c vol) (lots h c) a
     → let tau = tau_of c.terminal_time t in
     (exact_from (opposed (model_of (turned c) vol) a) tau ≡ exchanged (exact_from a tau)) × (steps_from (opposed (model_of (turned c) vol) a) tau ≡ steps_from a tau)
 unfolding opposed exact_from steps_from exchanged model_of model_from model_by Opposite
@@ -103,19 +102,19 @@ from_opposed mid h c vol t (stopped k) = (refl, refl)
 from_opposed mid h c vol t (passed k) =
     let m = model_of c vol in opposite m.k m.base (lots h c) (k_passed m (exact_passed mid h c vol t k).4) m.alpha m.eta m.q_max (tau_of c.terminal_time t) c.drift
 
-from_counted : (a : ModelAnswer) (tau : Float) → Counted (exact_from a tau) (steps_from a tau) × (steps_from a tau ≤ cap)
+from_counted : (a : Result (Model × ℤ) Refusal) (tau : Float) → Counted (exact_from a tau) (steps_from a tau) × (steps_from a tau ≤ cap)
 unfolding exact_from steps_from Counted
-from_counted (ModelAnswer.Model m q) tau = steps_counted m.k m.base (input_of m tau) q
-from_counted (ModelAnswer.Refused r) tau = (tt, omega arith)
+from_counted (Ok (m, q)) tau = steps_counted m.k m.base (input_of m tau) q
+from_counted (Err r) tau = (tt, omega arith)
 
 module _ (mid h : ℤ) (c : GLFTConfig) (vol : ℤ) (t : ℕ) where
   answer_exchanged : exact_answer mid (neg_ℤ h) (turned c) vol t ≡ exchanged (exact_answer mid h c vol t)
   unfolding exact_answer exact_model
-  answer_exchanged = ap (λ (a : ModelAnswer). exact_from a (tau_of c.terminal_time t)) (exact_opposed mid h c vol t) ∙ (from_opposed mid h c vol t (made _ _ _)).0
+  answer_exchanged = ap (λ (a : Result (Model × ℤ) Refusal). exact_from a (tau_of c.terminal_time t)) (exact_opposed mid h c vol t) ∙ (from_opposed mid h c vol t (made _ _ _)).0
 
   steps_same : exact_steps mid (neg_ℤ h) (turned c) vol t ≡ exact_steps mid h c vol t
   unfolding exact_steps exact_model
-  steps_same = ap (λ (a : ModelAnswer). steps_from a (tau_of c.terminal_time t)) (exact_opposed mid h c vol t) ∙ (from_opposed mid h c vol t (made _ _ _)).1
+  steps_same = ap (λ (a : Result (Model × ℤ) Refusal). steps_from a (tau_of c.terminal_time t)) (exact_opposed mid h c vol t) ∙ (from_opposed mid h c vol t (made _ _ _)).1
 
   -- an exact answer carries the steps of the defined run
   pub exact_counted : Counted (exact_answer mid h c vol t) (exact_steps mid h c vol t) × (exact_steps mid h c vol t ≤ cap)
@@ -149,7 +148,7 @@ unfolding form_bid form_ask
 form_side false base c q h = refl
 form_side true base c q h =
     let x = 2ᶠ ⊗ whole q ⊕ 1ᶠ in
-    ap At (rw (odd_turned q h, div_neg_left binary64 x 2ᶠ, mul_neg_left binary64 (x ⊘ 2ᶠ) c, sub_neg binary64 base (x ⊘ 2ᶠ ⊗ c)))
+    ap Some (rw (odd_turned q h, div_neg_left binary64 x 2ᶠ, mul_neg_left binary64 (x ⊘ 2ᶠ) c, sub_neg binary64 base (x ⊘ 2ᶠ ⊗ c)))
 
 module _ (m : Model) (q : ℤ) (h : nat_abs q ≤ largest_bound) where
   bid_opposed : bid_form m (neg_ℤ q) ≡ ask_form m q
@@ -177,7 +176,7 @@ form_turned c vol q = go (positive (slope (model_of c vol)))
     go true = refl
     go false = refl
 
-closed_exchanged : (mid h : ℤ) (c : GLFTConfig) (vol : ℤ) {a : ModelAnswer} → Made (closed_checks mid h c vol) (model_of c vol) (lots h c) a
+closed_exchanged : (mid h : ℤ) (c : GLFTConfig) (vol : ℤ) {a : Result (Model × ℤ) Refusal} → Made (closed_checks mid h c vol) (model_of c vol) (lots h c) a
     → closed_from (opposed (model_of (turned c) vol) a) ≡ exchanged_sides (closed_from a)
 unfolding opposed closed_from exchanged_sides
 closed_exchanged mid h c vol (stopped k) = refl

@@ -1,14 +1,14 @@
 -- Every reply of an exact call keeps its prices, steps and number within their limits. Assumes nothing.
+use Rattle.std.specs.Prelude.{Option, Some, None, Result, Ok, Err}
 use Rattle.std.proofs.Common.{◌≡◌, ℕ, ◌≤◌, Bool, true, false, not, ◌&&◌, T, ℤ, pos, negsuc, sym, refl, ap, subst, inl, inr, arith, ltb-true, leb-true}
 use mathlib.Core.Bool.{and-eq-true_iff}
 use lib.Ieee.{Float, nan, inf, fin, lt, is_nan}
 use Rattle.elementary.specs.Float.{whole}
-use Rattle.elementary.specs.Checks.{Refuses, here, later}
+use Rattle.elementary.specs.Checks.{Refuses, here, later, by}
 use Rattle.plan.specs.Plan.{cap}
 use Rattle.plan.specs.declared.RunInput.{RunInput}
 use Rattle.distances.specs.FloatEntry.{float_entry}
 use Rattle.distances.specs.Promises.{Counted}
-use Rattle.distances.specs.declared.Distance.{Distance}
 use Rattle.distances.specs.declared.Answer.{Answer}
 use Rattle.distances.specs.declared.Answer.TheVariants as Answer
 use Rattle.distances.proofs.Refusing.{float_reports}
@@ -20,22 +20,20 @@ use Rattle.quote.specs.Quotes.{with_steps, exact_from, exact_answer, exact_by, e
 use Rattle.prices.specs.Refusing.{Priced, by_13, by_14}
 use Rattle.quote.specs.Replies.{PriceKept, ReplyKept, RepliesKept}
 use Rattle.model.specs.declared.GLFTConfig.{GLFTConfig}
-use Rattle.model.specs.declared.ModelAnswer.{ModelAnswer}
-use Rattle.model.specs.declared.ModelAnswer.TheVariants as ModelAnswer
-use Rattle.prices.specs.declared.Price.{Price}
 use Rattle.prices.specs.declared.GlftQuotes.{GlftQuotes}
-use Rattle.prices.specs.declared.Price.TheVariants.{At, Absent}
 use Rattle.quote.specs.declared.ExactQuotes.TheVariants as Exact
 use Rattle.quote.proofs.Mirrors.{exact_counted}
 use Rattle.quote.proofs.Refusing.{exact_refusals}
-use Rattle.distances.specs.Distances.{fine}
+use Rattle.distances.specs.Distances.{fine, distance}
+use Rattle.elementary.specs.declared.Refusal.{Refusal}
+use Rattle.model.specs.declared.Model.{Model}
 
 -- ---- a price that passed 13 and 14
-price_kept : (p : Price) → each amount_ok p ≡ true → each above0 p ≡ true → PriceKept p
+price_kept : (p : Option ℤ) → each amount_ok p ≡ true → each above0 p ≡ true → PriceKept p
 unfolding PriceKept each amount_ok above0
-price_kept Absent a h = tt
-price_kept (At (pos n)) a h = (ltb-true 0 n h, leb-true n amount_limit a)
-price_kept (At (negsuc n)) a h = let z : false ≡ true = h in absurd (subst T (sym z) tt)
+price_kept None a h = tt
+price_kept (Some (pos n)) a h = (ltb-true 0 n h, leb-true n amount_limit a)
+price_kept (Some (negsuc n)) a h = let z : false ≡ true = h in absurd (subst T (sym z) tt)
 
 -- are the prices within the limit, are they positive and in order
 judged_kept : (s : ℕ) (q : GlftQuotes) → s ≤ cap → ReplyKept (with_steps s (judge q))
@@ -52,7 +50,7 @@ judged_kept s q h = go _ _ refl refl
         (price_kept q.bid u.0 v.0, price_kept q.ask u.1 v.1, h)
 
 -- from distances: a rounding that is refused is so by 11 or 13
-quotes_kept : (s : ℕ) (mid least : ℤ) (b a : Distance) → s ≤ cap → ReplyKept (with_steps s (build_quotes mid least b a))
+quotes_kept : (s : ℕ) (mid least : ℤ) (b a : Option Float) → s ≤ cap → ReplyKept (with_steps s (build_quotes mid least b a))
 unfolding build_quotes quotes_by rounded rounded_if with_steps ReplyKept
 quotes_kept s mid least b a h = go (fine b && fine a) (each amount_ok (side b) && each amount_ok (side a))
   where
@@ -84,10 +82,10 @@ float_reported k base x q = go (float_entry k base x q).answer refl
     go (Answer.OverCap need b s) e = number_above (whole (pos b)) need ((float_reports k base x q need b s).0 e).report.above
     go (Answer.Refused r) e = tt
 
-from_reported : (m : ModelAnswer) (tau : Float) → Reported (exact_from m tau)
+from_reported : (m : Result (Model × ℤ) Refusal) (tau : Float) → Reported (exact_from m tau)
 unfolding Reported exact_from
-from_reported (ModelAnswer.Model m q) tau = float_reported m.k m.base (input_of m tau) q
-from_reported (ModelAnswer.Refused r) tau = tt
+from_reported (Ok (m, q)) tau = float_reported m.k m.base (input_of m tau) q
+from_reported (Err r) tau = tt
 
 -- ---- a refusal's number
 checked_small : (mid h : ℤ) (c : GLFTConfig) (vol : ℤ) (t : ℕ) {n : ℕ} → Refuses (exact_checks mid h c vol t) n → n ≤ crossed
@@ -98,7 +96,7 @@ checked_small mid h c vol t (later _ (later _ (later _ (here e)))) = omega arith
 checked_small mid h c vol t (later _ (later _ (later _ (later _ (here e))))) = omega arith
 checked_small mid h c vol t {n = n} (later _ (later _ (later _ (later _ (later _ x))))) = elim x [ ]
 
-priced_small : {mid least : ℤ} {b a : Distance} {n : ℕ} → Priced mid least b a n → n ≤ crossed
+priced_small : {mid least : ℤ} {b a : Option Float} {n : ℕ} → Priced mid least b a n → n ≤ crossed
 priced_small (by_13 h) = omega arith
 priced_small (by_14 h k) = omega arith
 
@@ -107,7 +105,7 @@ module _ (mid h : ℤ) (c : GLFTConfig) (vol : ℤ) (t : ℕ) where
   unfolding Reported exact_answer
   answer_reported = from_reported (exact_model mid h c vol t) (tau_of c.terminal_time t)
 
-  refusal_small : (n : ℕ) → exact_quotes mid h c vol t ≡ Exact.Refused n → n ≤ crossed
+  refusal_small : (n : ℕ) → exact_quotes mid h c vol t ≡ Exact.Refused (by n) → n ≤ crossed
   refusal_small n e = elim ((exact_refusals mid h c vol t n).0 e) [ inl k ↦ checked_small mid h c vol t k | inr x ↦ elim x [ inl k ↦ omega (arith, k.0) | inr k ↦ priced_small k.4 ] ]
 
   answer_kept : (a : Answer) → exact_answer mid h c vol t ≡ a → ReplyKept (exact_by mid c.min_spread a)
@@ -118,7 +116,7 @@ module _ (mid h : ℤ) (c : GLFTConfig) (vol : ℤ) (t : ℕ) where
       quotes_kept s _ _ _ _ (omega (arith, n, k.1))
   answer_kept (Answer.OverCap need b s) e =
       (subst Reported e answer_reported, (subst (λ (x : Answer). Counted x (exact_steps mid h c vol t)) e (exact_counted mid h c vol t).0).1)
-  answer_kept (Answer.Refused r) e = refusal_small r (ap (exact_by mid c.min_spread) e)
+  answer_kept (Answer.Refused r) e = refusal_small r.0 (ap (exact_by mid c.min_spread) e)
 
 pub replies_kept : RepliesKept
 unfolding exact_quotes

@@ -1,9 +1,8 @@
 -- Change request 7: at drift 0 every reply of this layer is the one that is reckoned without any drift. What is driftless stands here, over what a drift does not touch. The statement is proved once, in proofs/. Definitions only.
-use Rattle.std.specs.Prelude.{◌≡◌, ℕ, Bool, ◌&&◌, List, [], ◌∷◌, ◌++◌, ℤ, pos}
+use Rattle.std.specs.Prelude.{◌≡◌, ℕ, Bool, ◌&&◌, List, [], ◌∷◌, ◌++◌, ℤ, pos, Result, Ok, Err}
 use Rattle.elementary.specs.Float.{positive}
 use Rattle.elementary.specs.Elementary.{outside}
-use Rattle.elementary.specs.Checks.{first_failing, check_of}
-use Rattle.elementary.specs.declared.Check.{Check}
+use Rattle.elementary.specs.Checks.{first_failing, check_of, by}
 use Rattle.plan.specs.declared.FirstPlan.{FirstPlan}
 use Rattle.plan.specs.declared.FirstPlan.TheVariants as FirstPlan
 use Rattle.distances.specs.Drift.{driftless_entry, driftless_steps as entry_steps, driftless_count}
@@ -17,8 +16,7 @@ use Rattle.quote.specs.Quotes.{exact_by, exact_quotes, wrapped, optimal_quotes, 
 use Rattle.quote.specs.Horizon.{desk_plan}
 use Rattle.model.specs.declared.GLFTConfig.{GLFTConfig}
 use Rattle.model.specs.declared.Model.{Model}
-use Rattle.model.specs.declared.ModelAnswer.{ModelAnswer}
-use Rattle.model.specs.declared.ModelAnswer.TheVariants as ModelAnswer
+use Rattle.elementary.specs.declared.Refusal.{Refusal}
 
 -- ---- the limits without that of a drift, of a configuration and of a call; and the model's seven floats without beta
 unfoldable pub driftless_config : GLFTConfig → Bool
@@ -37,15 +35,15 @@ driftless_floats m =
 abbrev pub driftless_checks : Bool → ℤ → ℤ → GLFTConfig → ℤ → List (Bool × ℕ)
 driftless_checks f mid h c vol = market_checks f mid c vol ++ (holding_ok h c, holding) ∷ (driftless_floats (model_of c vol), outside) ∷ []
 
-unfoldable pub driftless_model : Bool → ℤ → ℤ → GLFTConfig → ℤ → ModelAnswer
+unfoldable pub driftless_model : Bool → ℤ → ℤ → GLFTConfig → ℤ → Result (Model × ℤ) Refusal
 driftless_model f mid h c vol = model_if (first_failing (driftless_checks f mid h c vol)) (model_of c vol) (lots h c)
 
 -- ---- the entries: what g gives of a model, or r of its refusal
-unfoldable pub from_model : {A : Type 0} → (ℕ → A) → (Model → ℤ → A) → ModelAnswer → A
-from_model r g (ModelAnswer.Refused n) = r n
-from_model r g (ModelAnswer.Model m q) = g m q
+unfoldable pub from_model : {A : Type 0} → (Refusal → A) → (Model → ℤ → A) → Result (Model × ℤ) Refusal → A
+from_model f g (Err r) = f r
+from_model f g (Ok (m, q)) = g m q
 
-abbrev pub driftless_exact : ℤ → ℤ → GLFTConfig → ℤ → ℕ → ModelAnswer
+abbrev pub driftless_exact : ℤ → ℤ → GLFTConfig → ℤ → ℕ → Result (Model × ℤ) Refusal
 driftless_exact mid h c vol t = driftless_model (time_ok t && driftless_limits mid h c vol) mid h c vol
 
 unfoldable pub driftless_answer : ℤ → ℤ → GLFTConfig → ℤ → ℕ → Answer
@@ -60,7 +58,7 @@ driftless_plan mid h c vol t =
     from_model FirstPlan.Refused (λ m q. driftless_count m.k m.base m.alpha m.eta m.q_max (tau_of c.terminal_time t) q) (driftless_exact mid h c vol t)
 
 -- for a ladder: what refuses it as a whole
-unfoldable pub driftless_check : ℤ → GLFTConfig → ℤ → ℕ → Check
+unfoldable pub driftless_check : ℤ → GLFTConfig → ℤ → ℕ → Result Unit Refusal
 driftless_check mid c vol t = check_of (first_failing (market_checks (time_ok t && driftless_limits mid (pos 0) c vol) mid c vol))
 
 -- ---- the limits, the constructors, the answers before prices, the quotes, the steps, the plan; and for a ladder the check

@@ -1,14 +1,12 @@
 -- The buyer's first and third demands for the entries of this layer, as named statements. Each is proved once, in proofs/. Definitions only.
-use Rattle.std.specs.Prelude.{◌≡◌, ℕ, ◌≤◌, true, false, ◌⊎◌, ◌↔◌, ℤ, neg_ℤ, Float}
+use Rattle.std.specs.Prelude.{◌≡◌, ℕ, ◌≤◌, true, false, ◌⊎◌, ◌↔◌, ℤ, neg_ℤ, Float, Option, Ok, Err}
 use Rattle.elementary.specs.Float.{positive}
-use Rattle.elementary.specs.Checks.{Refuses, Passes}
+use Rattle.elementary.specs.Checks.{Refuses, Passes, by}
 use Rattle.vector.specs.Refusals.{numerical}
 use Rattle.plan.specs.Plan.{cap}
 use Rattle.distances.specs.Distances.{fine}
 use Rattle.distances.specs.Refusing.{EntryFails}
 use Rattle.distances.specs.Promises.{exchanged, exchanged_sides}
-use Rattle.distances.specs.declared.Distance.{Distance}
-use Rattle.distances.specs.declared.Sides.TheVariants as Sides
 use Rattle.distances.specs.declared.Answer.{Answer}
 use Rattle.distances.specs.declared.Answer.TheVariants as Answer
 use Rattle.quote.specs.Refusals.{capped}
@@ -21,8 +19,6 @@ use Rattle.model.specs.declared.GLFTConfig.{GLFTConfig}
 use Rattle.model.specs.declared.Model.{Model}
 use Rattle.prices.specs.declared.GlftQuotes.{GlftQuotes}
 use Rattle.quote.specs.declared.ExactQuotes.TheVariants as Exact
-use Rattle.quote.specs.declared.OptimalQuotes.TheVariants as Optimal
-use Rattle.quote.specs.declared.ClosedFormQuotes.TheVariants as Closed
 use Rattle.prices.specs.Refusing.{Priced}
 use Rattle.prices.specs.Facing.{Pair}
 
@@ -56,11 +52,11 @@ OptimalPriced = (mid h : ℤ) (c : GLFTConfig) (vol : ℤ) (t : ℕ) → optimal
 
 abbrev pub OptimalPairs : Type 0
 OptimalPairs = (mid h : ℤ) (c : GLFTConfig) (vol : ℤ) (t : ℕ) (q q' : GlftQuotes) (s s' : ℕ)
-    → optimal_quotes mid h c vol t ≡ Optimal.Quotes q s → optimal_quotes mid (neg_ℤ h) (turned c) vol t ≡ Optimal.Quotes q' s' → Pair mid q q' × (s ≡ s') × (s ≡ exact_steps mid h c vol t)
+    → optimal_quotes mid h c vol t ≡ Ok (q, s) → optimal_quotes mid (neg_ℤ h) (turned c) vol t ≡ Ok (q', s') → Pair mid q q' × (s ≡ s') × (s ≡ exact_steps mid h c vol t)
 
 abbrev pub ClosedPairs : Type 0
 ClosedPairs = (mid h : ℤ) (c : GLFTConfig) (vol : ℤ) (q q' : GlftQuotes)
-    → closed_form_quotes mid h c vol ≡ Closed.Quotes q → closed_form_quotes mid (neg_ℤ h) (turned c) vol ≡ Closed.Quotes q' → Pair mid q q'
+    → closed_form_quotes mid h c vol ≡ Ok q → closed_form_quotes mid (neg_ℤ h) (turned c) vol ≡ Ok q' → Pair mid q q'
 
 -- ==== Demand 1: each refusal is the reply in just the situation that document 01 names
 -- 11: the checks all pass, and the float entry fails from the model's floats: its run does, or a read of its vector
@@ -81,28 +77,28 @@ ClosedFails mid h c vol =
 
 -- an answer has distances, and their prices are refused
 abbrev pub PricedOf : ℤ → ℤ → Answer → ℕ → Type 0
-PricedOf mid least r n = (b : Distance) × (a : Distance) × (s : ℕ) × (r ≡ Answer.Distances b a s) × Priced mid least b a n
+PricedOf mid least r n = (b : Option Float) × (a : Option Float) × (s : ℕ) × (r ≡ Answer.Distances b a s) × Priced mid least b a n
 
 abbrev pub ExactPriced : ℤ → ℤ → GLFTConfig → ℤ → ℕ → ℕ → Type 0
 ExactPriced mid h c vol t n = PricedOf mid c.min_spread (exact_answer mid h c vol t) n
 
 abbrev pub ClosedPriced : ℤ → ℤ → GLFTConfig → ℤ → ℕ → Type 0
-ClosedPriced mid h c vol n = (b : Distance) × (a : Distance) × (closed_answer mid h c vol ≡ Sides.Distances b a) × Priced mid c.min_spread b a n
+ClosedPriced mid h c vol n = (b : Option Float) × (a : Option Float) × (closed_answer mid h c vol ≡ Ok (b, a)) × Priced mid c.min_spread b a n
 
 -- exact_quotes refuses by n just where the checks do, by 11 where the float entry fails after them, or where the prices do
 abbrev pub ExactRefused : ℤ → ℤ → GLFTConfig → ℤ → ℕ → ℕ → Type 0
 ExactRefused mid h c vol t n = Refuses (exact_checks mid h c vol t) n ⊎ (((n ≡ numerical) × ExactFails mid h c vol t) ⊎ ExactPriced mid h c vol t n)
 
 abbrev pub ExactRefusals : Type 0
-ExactRefusals = (mid h : ℤ) (c : GLFTConfig) (vol : ℤ) (t n : ℕ) → (exact_quotes mid h c vol t ≡ Exact.Refused n) ↔ ExactRefused mid h c vol t n
+ExactRefusals = (mid h : ℤ) (c : GLFTConfig) (vol : ℤ) (t n : ℕ) → (exact_quotes mid h c vol t ≡ Exact.Refused (by n)) ↔ ExactRefused mid h c vol t n
 
 -- the wrapper refuses where exact_quotes does, and by 12 just where that reports the cap
 abbrev pub OptimalRefusals : Type 0
 OptimalRefusals = (mid h : ℤ) (c : GLFTConfig) (vol : ℤ) (t n : ℕ)
-    → (optimal_quotes mid h c vol t ≡ Optimal.Refused n)
-    ↔ ((exact_quotes mid h c vol t ≡ Exact.Refused n) ⊎ ((n ≡ capped) × ((need : Float) × (b : ℕ) × (s : ℕ) × (exact_quotes mid h c vol t ≡ Exact.OverStepCap need b s))))
+    → (optimal_quotes mid h c vol t ≡ Err (by n))
+    ↔ ((exact_quotes mid h c vol t ≡ Exact.Refused (by n)) ⊎ ((n ≡ capped) × ((need : Float) × (b : ℕ) × (s : ℕ) × (exact_quotes mid h c vol t ≡ Exact.OverStepCap need b s))))
 
 -- the closed form never reports the cap: its answer has no such case
 abbrev pub ClosedRefusals : Type 0
 ClosedRefusals = (mid h : ℤ) (c : GLFTConfig) (vol : ℤ) (n : ℕ)
-    → (closed_form_quotes mid h c vol ≡ Closed.Refused n) ↔ (Refuses (closed_checks mid h c vol) n ⊎ (((n ≡ numerical) × ClosedFails mid h c vol) ⊎ ClosedPriced mid h c vol n))
+    → (closed_form_quotes mid h c vol ≡ Err (by n)) ↔ (Refuses (closed_checks mid h c vol) n ⊎ (((n ≡ numerical) × ClosedFails mid h c vol) ⊎ ClosedPriced mid h c vol n))

@@ -18,18 +18,18 @@ fn bid_of(allowed: bool, base: f64, c: f64, q: f64) -> Distance
     ensures { result ≡ form_bid allowed base c q }
 {
     if allowed {
-        return Distance::At(base + (2.0 * q + 1.0) / 2.0 * c);
+        return Some(base + (2.0 * q + 1.0) / 2.0 * c);
     }
-    Distance::Absent
+    None
 }
 
 fn ask_of(allowed: bool, base: f64, c: f64, q: f64) -> Distance
     ensures { result ≡ form_ask allowed base c q }
 {
     if allowed {
-        return Distance::At(base - (2.0 * q - 1.0) / 2.0 * c);
+        return Some(base - (2.0 * q - 1.0) / 2.0 * c);
     }
-    Distance::Absent
+    None
 }
 
 // The two distances at q lots: refused by 11.
@@ -43,8 +43,8 @@ pub(crate) fn distances(m: Model, q: i64) -> Sides
         let bid = bid_of(q < bound, m.base, c, qf);
         let ask = ask_of(0 - bound < q, m.base, c, qf);
         if distances::is_fine(bid) & distances::is_fine(ask) {
-            return Sides::Distances(bid, ask);
+            return Ok((bid, ask));
         }
     }
-    Sides::Refused(vector::refusals::NUMERICAL)
+    Err(vector::refusals::NUMERICAL)
 }

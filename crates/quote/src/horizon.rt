@@ -3,7 +3,7 @@ ghost use Rattle.std.specs.Prelude.{◌≡◌};
 ghost use Rattle.quote.specs.Horizon.{desk_plan};
 
 use amounts::seconds_to_terminal;
-use model::{GLFTConfig, Model, ModelAnswer};
+use model::{GLFTConfig, Model};
 use vector::FirstPlan;
 
 // The steps of the first plan that `exact_quotes` makes, or its cap report; 0 where no time is left.
@@ -19,10 +19,10 @@ pub fn first_plan(
 {
     let terminal = config.terminal_time;
     match Model::exact(mid_price, inventory, config, volatility, current_time) {
-        ModelAnswer::Model(m, q) => {
+        Ok((m, q)) => {
             let tau = seconds_to_terminal(terminal, current_time);
             distances::step_count(m.k, m.base, model::run_input(m, tau), q)
         }
-        ModelAnswer::Refused(number) => FirstPlan::Refused(number),
+        Err(refusal) => FirstPlan::Refused(refusal),
     }
 }

@@ -9,33 +9,20 @@ pub mod refusals;
 ghost use Rattle.std.specs.Prelude.{◌≡◌};
 ghost use Rattle.quote.specs.Quotes.{exact_quotes, optimal_quotes, closed_form_quotes};
 
-pub use amounts::{BILLION, Billionths, to_billionths};
-pub use elementary::Check;
+pub use amounts::{BILLION, to_billionths};
+pub use elementary::Refusal;
 pub use horizon::first_plan;
-pub use model::{ConfigAnswer, GLFTConfig, Model, ModelAnswer, check_call, limits_fit};
+pub use model::{GLFTConfig, Model, check_call, limits_fit};
 pub use prices::{GlftQuotes, Price};
 pub use quotes::quotes_by;
 
 // The exact quotes with the steps spent; or the steps needed, the budget left and the steps spent; or
-// a refusal's number.
+// a refusal. A report is no refusal, so the three stand beside one another.
 #[derive(Clone, Copy)]
 pub enum ExactQuotes {
     Quotes(GlftQuotes, u32),
     OverStepCap(f64, u32, u32),
-    Refused(u8),
-}
-
-// The wrapper's: over the cap is refusal 12.
-#[derive(Clone, Copy)]
-pub enum OptimalQuotes {
-    Quotes(GlftQuotes, u32),
-    Refused(u8),
-}
-
-#[derive(Clone, Copy)]
-pub enum ClosedFormQuotes {
-    Quotes(GlftQuotes),
-    Refused(u8),
+    Refused(Refusal),
 }
 
 #[derive(Clone, Copy)]
@@ -56,11 +43,11 @@ impl GLFTStrategy {
         let terminal = config.terminal_time;
         let least = config.min_spread;
         match Model::exact(mid_price, inventory, config, volatility, current_time) {
-            ModelAnswer::Model(m, q) => {
+            Ok((m, q)) => {
                 let tau = amounts::seconds_to_terminal(terminal, current_time);
                 quotes::exact_of(mid_price, least, m, q, tau)
             }
-            ModelAnswer::Refused(number) => ExactQuotes::Refused(number),
+            Err(refusal) => ExactQuotes::Refused(refusal),
         }
     }
 
@@ -72,13 +59,13 @@ impl GLFTStrategy {
         config: GLFTConfig,
         volatility: i64,
         current_time: u64,
-    ) -> OptimalQuotes
+    ) -> Result<(GlftQuotes, u32), Refusal>
         ensures { result ≡ optimal_quotes mid_price inventory config volatility current_time }
     {
         match GLFTStrategy::exact_quotes(mid_price, inventory, config, volatility, current_time) {
-            ExactQuotes::Quotes(q, steps) => OptimalQuotes::Quotes(q, steps),
-            ExactQuotes::OverStepCap(_, _, _) => OptimalQuotes::Refused(refusals::CAPPED),
-            ExactQuotes::Refused(number) => OptimalQuotes::Refused(number),
+            ExactQuotes::Quotes(q, steps) => Ok((q, steps)),
+            ExactQuotes::OverStepCap(_, _, _) => Err(refusals::CAPPED),
+            ExactQuotes::Refused(refusal) => Err(refusal),
         }
     }
 
@@ -89,17 +76,11 @@ impl GLFTStrategy {
         inventory: i64,
         config: GLFTConfig,
         volatility: i64,
-    ) -> ClosedFormQuotes
+    ) -> Result<GlftQuotes, Refusal>
         ensures { result ≡ closed_form_quotes mid_price inventory config volatility }
     {
         let least = config.min_spread;
-        match Model::closed_form(mid_price, inventory, config, volatility) {
-            ModelAnswer::Model(m, q) => quotes::closed_of(
-                mid_price,
-                least,
-                closed_form::distances(m, q),
-            ),
-            ModelAnswer::Refused(number) => ClosedFormQuotes::Refused(number),
-        }
+        let (m, q) = Model::closed_form(mid_price, inventory, config, volatility)?;
+        quotes::closed_of(mid_price, least, closed_form::distances(m, q))
     }
 }

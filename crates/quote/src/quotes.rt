@@ -6,41 +6,37 @@ ghost use Rattle.quote.specs.Quotes.{with_steps, exact_by, closed_by, quotes_by_
 ghost use Rattle.prices.specs.Prices.{each, widened, judge, build_quotes};
 ghost use Rattle.model.specs.Model.{input_of};
 
-use crate::{ClosedFormQuotes, ExactQuotes};
+use crate::ExactQuotes;
 use amounts::amount_fits;
 use amounts::refusals::LIMITS;
 use distances::{Answer, Distance, Sides};
+use elementary::Refusal;
 use model::Model;
-use prices::{Price, QuotesAnswer, Rounded};
+use prices::{GlftQuotes, Price};
 
 // The quotes of two sides in whole billionths: widened to the min spread, then judged.
-fn priced(mid: i64, least: i64, bid: Price, ask: Price) -> QuotesAnswer
+fn priced(mid: i64, least: i64, bid: Price, ask: Price) -> Result<GlftQuotes, Refusal>
     requires { T (amount_ok mid) × T (amount_ok least) × T (each amount_ok bid) × T (each amount_ok ask) }
     ensures { result ≡ judge (widened mid least bid ask) }
 {
-    match prices::widen(mid, least, bid, ask) {
-        QuotesAnswer::Quotes(q) => prices::judge(q),
-        QuotesAnswer::Refused(number) => QuotesAnswer::Refused(number),
-    }
+    prices::judge(prices::widen(mid, least, bid, ask)?)
 }
 
 // Builds the quotes from the distances: rounded, widened and judged.
-fn build_quotes(mid: i64, least: i64, bid: Distance, ask: Distance) -> QuotesAnswer
+fn build_quotes(mid: i64, least: i64, bid: Distance, ask: Distance) -> Result<GlftQuotes, Refusal>
     requires { T (amount_ok mid) × T (amount_ok least) }
     ensures { result ≡ build_quotes mid least bid ask }
 {
-    match prices::round_sides(bid, ask) {
-        Rounded::Sides(b, a) => priced(mid, least, b, a),
-        Rounded::Refused(number) => QuotesAnswer::Refused(number),
-    }
+    let (b, a) = prices::round_sides(bid, ask)?;
+    priced(mid, least, b, a)
 }
 
-fn with_steps(b: QuotesAnswer, steps: u32) -> ExactQuotes
+fn with_steps(b: Result<GlftQuotes, Refusal>, steps: u32) -> ExactQuotes
     ensures { result ≡ with_steps steps b }
 {
     match b {
-        QuotesAnswer::Quotes(q) => ExactQuotes::Quotes(q, steps),
-        QuotesAnswer::Refused(number) => ExactQuotes::Refused(number),
+        Ok(q) => ExactQuotes::Quotes(q, steps),
+        Err(refusal) => ExactQuotes::Refused(refusal),
     }
 }
 
@@ -52,7 +48,7 @@ pub(crate) fn from_answer(mid: i64, least: i64, answer: Answer) -> ExactQuotes
     match answer {
         Answer::Distances(bid, ask, steps) => with_steps(build_quotes(mid, least, bid, ask), steps),
         Answer::OverCap(need, budget, steps) => ExactQuotes::OverStepCap(need, budget, steps),
-        Answer::Refused(number) => ExactQuotes::Refused(number),
+        Answer::Refused(refusal) => ExactQuotes::Refused(refusal),
     }
 }
 
@@ -67,19 +63,12 @@ pub(crate) fn exact_of(mid: i64, least: i64, m: Model, q: i64, tau: f64) -> Exac
 }
 
 // The quotes of the closed form's distances.
-pub(crate) fn closed_of(mid: i64, least: i64, sides: Sides) -> ClosedFormQuotes
+pub(crate) fn closed_of(mid: i64, least: i64, sides: Sides) -> Result<GlftQuotes, Refusal>
     requires { T (amount_ok mid) × T (amount_ok least) }
     ensures { result ≡ closed_by mid least sides }
 {
-    match sides {
-        Sides::Distances(bid, ask) => {
-            match build_quotes(mid, least, bid, ask) {
-                QuotesAnswer::Quotes(q) => ClosedFormQuotes::Quotes(q),
-                QuotesAnswer::Refused(number) => ClosedFormQuotes::Refused(number),
-            }
-        }
-        Sides::Refused(number) => ClosedFormQuotes::Refused(number),
-    }
+    let (bid, ask) = sides?;
+    build_quotes(mid, least, bid, ask)
 }
 
 // The exact quotes of any answer before prices: refused by 2 where the mid or the min spread is beyond

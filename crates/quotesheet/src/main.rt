@@ -2,24 +2,18 @@
 // be written, is told on standard error.
 #![tactic(auto)]
 
-use printing::Printed;
+use printing::PrintError;
 use sheet::Kind;
 
 // This and `run` are functions of their own for speed alone: here the compiler learns the kind and drops the code of the
 // others, and in `run` it joins what has one caller left. With both in `main` a record with time left takes 0.9 µs more.
-fn print_lines(rt: &HostRuntime) -> Printed {
+fn print_lines(rt: &HostRuntime) -> Result<usize, PrintError> {
     printing::print_sheet(rt, Kind::Line)
 }
 
 fn run(rt: &HostRuntime) {
-    match print_lines(rt) {
-        Printed::All(_) => {}
-        Printed::NotRead(error) => {
-            let _ = eprintln!(rt; "quotesheet: standard input: {error}");
-        }
-        Printed::NotWritten(error) => {
-            let _ = eprintln!(rt; "quotesheet: standard output: {error}");
-        }
+    if let Err(error) = print_lines(rt) {
+        let _ = eprintln!(rt; "quotesheet: {error}");
     }
 }
 

@@ -1,4 +1,5 @@
 -- A number and a record's numbers over their bytes: which bytes make a whole number, and which are refused by 6 or by 7. Assumes nothing.
+use Rattle.std.specs.Prelude.{Err}
 use mathlib.Core.Path.{◌≡◌, refl, sym, ap, ◌∙◌, subst}
 use mathlib.Core.Logic.{◌⊎◌, inl, inr, ◌↔◌}
 use Prim.Native.Nat.{ℕ, zero, suc, ◌+◌, ◌-◌, ◌*◌, ◌%◌, ◌<◌, ◌≤◌}
@@ -12,9 +13,10 @@ use lib.Dec.{leb, eqb}
 use Rattle.record.specs.Refusals.{cut_short, malformed}
 use Rattle.record.specs.Record.{Read, taken, refused, ◌then◌, group, groups, most_groups, number, numbers, numbers_answer, numbers_left}
 use Rattle.record.specs.Refusing.{all_top, WholeNumber, EndsInside, NinthGroup, ZeroLast, After, at_once, further, StoppedBefore, NumbersRefusals, by_6, by_7_ninth, by_7_zero}
-use Rattle.record.specs.declared.record.NumbersAnswer.TheVariants as NumbersAnswer
 use Rattle.record.proofs.Left.{after}
 use Rattle.record.proofs.Reading.{number_refused}
+use Rattle.elementary.specs.Checks.{by}
+use Rattle.elementary.proofs.Checks.{same_err}
 
 -- ---- a reading without its value
 bare : Read ℕ → Read ℕ
@@ -216,6 +218,6 @@ unfolding numbers_answer numbers_left
 numbers_refusals s at out k = go (numbers (length out) (drop at s)) (numbers_stopped (length out) (drop at s) k)
   where
     go : (x : Read (List ℕ)) → (x ≡ refused k) ↔ StoppedBefore (length out) (drop at s) k
-        → ((numbers_answer (length s) x ≡ NumbersAnswer.Refused k) ↔ StoppedBefore (length out) (drop at s) k) × (numbers_answer (length s) x ≡ NumbersAnswer.Refused k → numbers_left x out ≡ out)
+        → ((numbers_answer (length s) x ≡ Err (by k)) ↔ StoppedBefore (length out) (drop at s) k) × (numbers_answer (length s) x ≡ Err (by k) → numbers_left x out ≡ out)
     go (taken v r) f = ((λ e. let z : ◌≡◌ {A = ℕ} 0 1 = cc in absurd (omega arith), λ h. let e = f.1 h in let z : ◌≡◌ {A = ℕ} 0 1 = cc in absurd (omega arith)), λ e. let z : ◌≡◌ {A = ℕ} 0 1 = cc in absurd (omega arith))
-    go (refused j) f = ((λ e. let z : j ≡ k = cc in f.0 (ap refused z), λ h. let e = f.1 h in let z : j ≡ k = cc in ap NumbersAnswer.Refused z), λ e. refl)
+    go (refused j) f = ((λ e. f.0 (ap refused (same_err e)), λ h. let e = f.1 h in let z : j ≡ k = cc in ap (λ (i : ℕ). Err (by i)) z), λ e. refl)

@@ -1,4 +1,5 @@
 -- Reading a number group by group, and a record number by number. Assumes nothing.
+use Rattle.std.specs.Prelude.{Ok, Err}
 use mathlib.Core.Path.{◌≡◌, refl, sym, ap, ◌∙◌}
 use Prim.Native.Nat.{ℕ, zero, suc, ◌+◌, ◌-◌, ◌*◌, ◌%◌, ◌^◌, ◌<◌, ◌≤◌}
 use native.Mathlib.Nat.{add-zero, zero-add, add-suc, suc-add, mul-le-mul_right, pow-suc, pow-le-pow_right}
@@ -12,8 +13,9 @@ use lib.Seq.{drop-cons}
 use lib.Dec.{ltb, eqb, lit<}
 use Rattle.record.specs.Refusals.{cut_short, malformed}
 use Rattle.record.specs.Inner.{Stored}
-use Rattle.record.specs.declared.record.NumbersAnswer.TheVariants as NumbersAnswer
 use Rattle.record.specs.Record.{Read, taken, refused, ◌then◌, group, groups, most_groups, number, numbers, numbers_answer}
+use Rattle.elementary.specs.Checks.{by}
+use Rattle.elementary.specs.declared.Refusal.{Refusal}
 
 -- a number whose groups so far make a, the next being worth u
 pub scaled : ℕ → ℕ → Read ℕ → Read ℕ
@@ -133,21 +135,21 @@ module _ (s : List ℕ) (at n : ℕ) (values : List ℕ) (next i : ℕ) (p : Pas
   pub passed_all : n ≤ i → numbers n (drop at s) ≡ taken values (drop next s)
   passed_all h = let e : i ≡ n = omega (arith, p.few) in rw e at p.so_far
 
-  pub answer_refused : (k : ℕ) → i < n → number (drop next s) ≡ refused k → NumbersAnswer.Refused k ≡ numbers_answer (length s) (numbers n (drop at s))
+  pub answer_refused : (r : Refusal) → i < n → number (drop next s) ≡ refused r.0 → Err r ≡ numbers_answer (length s) (numbers n (drop at s))
   unfolding numbers_answer
-  answer_refused k h e = rw (passed_refused k h e)
+  answer_refused r h e = rw (passed_refused r.0 h e)
 
-  pub answer_taken : n ≤ i → NumbersAnswer.Taken next ≡ numbers_answer (length s) (numbers n (drop at s))
+  pub answer_taken : n ≤ i → Ok next ≡ numbers_answer (length s) (numbers n (drop at s))
   unfolding numbers_answer
   answer_taken h = rw (passed_all h, next_is s next p.within)
 
 -- ---- what was read, from the answer
-pub taken_parts : (n : ℕ) (x : Read (List ℕ)) (m : ℕ) (out : List ℕ) → NumbersAnswer.Taken m ≡ numbers_answer n x → Stored x out → (r : List ℕ) × (x ≡ taken out r) × (m ≡ n - length r)
+pub taken_parts : (n : ℕ) (x : Read (List ℕ)) (m : ℕ) (out : List ℕ) → Ok m ≡ numbers_answer n x → Stored x out → (r : List ℕ) × (x ≡ taken out r) × (m ≡ n - length r)
 unfolding numbers_answer Stored
 taken_parts n (taken v r) m out e h = (r, ap (λ (u : List ℕ). taken u r) (sym h), cc)
 taken_parts n (refused k) m out e h = let z : ◌≡◌ {A = ℕ} 0 1 = cc in absurd (omega arith)
 
-pub refused_parts : (n : ℕ) (x : Read (List ℕ)) (k : ℕ) → NumbersAnswer.Refused k ≡ numbers_answer n x → x ≡ refused k
+pub refused_parts : (n : ℕ) (x : Read (List ℕ)) (r : Refusal) → Err r ≡ numbers_answer n x → x ≡ refused r.0
 unfolding numbers_answer
-refused_parts n (taken v r) k e = let z : ◌≡◌ {A = ℕ} 0 1 = cc in absurd (omega arith)
-refused_parts n (refused j) k e = let z : j ≡ k = cc in ap refused z
+refused_parts n (taken v q) r e = let z : ◌≡◌ {A = ℕ} 0 1 = cc in absurd (omega arith)
+refused_parts n (refused j) r e = let z : r ≡ by j = cc in rw z

@@ -12,17 +12,19 @@ use Rattle.record.specs.declared.record.Record.{Record}
 use Rattle.record.specs.declared.record.RecordAnswer.{RecordAnswer}
 use Rattle.record.specs.declared.record.RecordAnswer.TheVariants as RecordAnswer
 use Rattle.record.proofs.Numbers.{numbers_stopped}
+use Rattle.elementary.specs.Checks.{by}
+use Rattle.elementary.proofs.Checks.{same_number}
 
 -- ---- 6, 7 and 2, of a record
-if_not_refused : (t : Bool) (r : Record) (next k : ℕ) → record_if t r next ≡ RecordAnswer.Refused k → ⊥
+if_not_refused : (t : Bool) (r : Record) (next k : ℕ) → record_if t r next ≡ RecordAnswer.Refused (by k) → ⊥
 unfolding record_if
 if_not_refused true r next k e = let z : ◌≡◌ {A = ℕ} 0 1 = cc in omega arith
 if_not_refused false r next k e = let z : ◌≡◌ {A = ℕ} 0 1 = cc in omega arith
 
-from_refused : (n : ℕ) (x : Read (List ℕ)) (k : ℕ) → record_from n x ≡ RecordAnswer.Refused k → x ≡ refused k
+from_refused : (n : ℕ) (x : Read (List ℕ)) (k : ℕ) → record_from n x ≡ RecordAnswer.Refused (by k) → x ≡ refused k
 unfolding record_from
 from_refused n (taken v r) k e = absurd (if_not_refused (record_ok (record_of v)) (record_of v) (n - length r) k e)
-from_refused n (refused j) k e = let z : j ≡ k = cc in ap refused z
+from_refused n (refused j) k e = ap refused (same_number (let z : by j ≡ by k = cc in z))
 
 pub record_refusals : RecordRefusals
 unfolding read_record record_from
@@ -31,12 +33,12 @@ record_refusals s at k =
     let p = numbers_stopped fields (drop at s) k in
     (λ e. p.0 (from_refused (length s) x k e), λ h. ap (record_from (length s)) (p.1 h))
 
-if_skipped : (t : Bool) (r : Record) (m k next : ℕ) → record_if t r m ≡ RecordAnswer.Skipped k next → (k ≡ limits) × (t ≡ false) × (next ≡ m)
+if_skipped : (t : Bool) (r : Record) (m k next : ℕ) → record_if t r m ≡ RecordAnswer.Skipped (by k) next → (k ≡ limits) × (t ≡ false) × (next ≡ m)
 unfolding record_if
 if_skipped true r m k next e = let z : ◌≡◌ {A = ℕ} 0 1 = cc in absurd (omega arith)
-if_skipped false r m k next e = (cc, refl, cc)
+if_skipped false r m k next e = (same_number (let z : by k ≡ by limits = cc in z), refl, cc)
 
-from_skipped : (n : ℕ) (x : Read (List ℕ)) (k next : ℕ) → record_from n x ≡ RecordAnswer.Skipped k next
+from_skipped : (n : ℕ) (x : Read (List ℕ)) (k next : ℕ) → record_from n x ≡ RecordAnswer.Skipped (by k) next
     → (k ≡ limits) × ((v : List ℕ) × (r : List ℕ) × (x ≡ taken v r) × (record_ok (record_of v) ≡ false) × (next ≡ n - length r))
 unfolding record_from
 from_skipped n (taken v r) k next e =

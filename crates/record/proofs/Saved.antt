@@ -1,4 +1,5 @@
 -- The promises of a saved record: it fits, its refusals, the reader takes it back, and what the reader took comes out as it went in. Assumes nothing.
+use Rattle.std.specs.Prelude.{Result, Ok, Err}
 use mathlib.Core.Path.{◌≡◌, refl, sym, ap, ◌∙◌, subst}
 use mathlib.Core.Logic.{◌⊎◌, inl, inr}
 use Prim.Native.Nat.{ℕ, ◌+◌, ◌-◌, ◌<◌, ◌≤◌}
@@ -19,11 +20,12 @@ use Rattle.record.specs.Promises.{Bytes, RecordsMove, SavesFit, SavedAsRead, Rea
 use Rattle.record.specs.Refusing.{SaveRefusals}
 use Rattle.record.specs.declared.record.Record.{Record}
 use Rattle.record.specs.declared.record.RecordAnswer.TheVariants as RecordAnswer
-use Rattle.record.specs.declared.save.SaveAnswer.{SaveAnswer}
-use Rattle.record.specs.declared.save.SaveAnswer.TheVariants as SaveAnswer
 use Rattle.record.proofs.Left.{next_moves, next_left}
 use Rattle.record.proofs.Refusing.{record_skips}
 use Rattle.record.proofs.Saving.{bytes_drop, numbers_written, numbers_again, record_again, bytes_fit, record_read, saved_short, saved_none, saved_whole}
+use Rattle.elementary.specs.declared.Refusal.{Refusal}
+use Rattle.elementary.specs.Checks.{by}
+use Rattle.elementary.proofs.Checks.{same_err}
 
 -- ---- the three ways that a call ends
 data Way (r : Record) (b : List ℕ) : Type 0 where
@@ -39,11 +41,11 @@ way r b = go (leb record_room (length b)) (leb-true record_room (length b)) (leb
     go true f g false e = none (f refl) e
     go true f g true e = whole (f refl) e
 
-not_both : (x : SaveAnswer) (j n : ℕ) → x ≡ SaveAnswer.Refused j → x ≡ SaveAnswer.Saved n → ⊥
+not_both : (x : Result ℕ Refusal) (j n : ℕ) → x ≡ Err (by j) → x ≡ Ok n → ⊥
 not_both x j n p q = let z : ◌≡◌ {A = ℕ} 0 1 = cc in omega arith
 
-same_number : (x : SaveAnswer) (j k : ℕ) → x ≡ SaveAnswer.Refused j → x ≡ SaveAnswer.Refused k → j ≡ k
-same_number x j k p q = cc
+same_number : (x : Result ℕ Refusal) (j k : ℕ) → x ≡ Err (by j) → x ≡ Err (by k) → j ≡ k
+same_number x j k p q = same_err (sym p ∙ q)
 
 -- ---- a saved record fits its buffer
 pub saves_fit : SavesFit
@@ -67,12 +69,12 @@ false_and true y (inr e) = e
 false_and false y h = refl
 
 module _ (r : Record) (b : List ℕ) where
-  by_20 : saved r b ≡ SaveAnswer.Refused small_record_buffer → Way r b → length b < record_room
+  by_20 : saved r b ≡ Err (by small_record_buffer) → Way r b → length b < record_room
   by_20 e (short h) = h
   by_20 e (none h k) = let z = same_number (saved r b) limits small_record_buffer (saved_none r b h k).0 e in absurd (omega arith)
   by_20 e (whole h k) = absurd (not_both (saved r b) small_record_buffer _ e (saved_whole r b h k).0)
 
-  by_2 : saved r b ≡ SaveAnswer.Refused limits → Way r b → (record_room ≤ length b) × ((record_ok r ≡ false) ⊎ (none_below r ≡ false))
+  by_2 : saved r b ≡ Err (by limits) → Way r b → (record_room ≤ length b) × ((record_ok r ≡ false) ⊎ (none_below r ≡ false))
   unfolding save_ok
   by_2 e (short h) = let z = same_number (saved r b) small_record_buffer limits (saved_short r b h).0 e in absurd (omega arith)
   by_2 e (none h k) = (h, and-false (record_ok r) (none_below r) k)
@@ -82,7 +84,7 @@ module _ (r : Record) (b : List ℕ) where
   unfolding save_ok
   cannot h = false_and (record_ok r) (none_below r) h
 
-  by_none : (k : ℕ) → saved r b ≡ SaveAnswer.Refused k → Way r b → ((k ≡ small_record_buffer) ⊎ (k ≡ limits)) × (saved_in r b ≡ b)
+  by_none : (k : ℕ) → saved r b ≡ Err (by k) → Way r b → ((k ≡ small_record_buffer) ⊎ (k ≡ limits)) × (saved_in r b ≡ b)
   by_none k e (short h) = (inl (same_number (saved r b) k small_record_buffer e (saved_short r b h).0), (saved_short r b h).1)
   by_none k e (none h c) = (inr (same_number (saved r b) k limits e (saved_none r b h c).0), (saved_none r b h c).1)
   by_none k e (whole h c) = absurd (not_both (saved r b) k _ e (saved_whole r b h c).0)
@@ -164,7 +166,7 @@ saved_as_read s at r next h e b k =
     rw (t, n) (saved_whole r b k (taken_saves s at r next e))
 
 -- ---- reading goes on
-skipped_moves : (s : List ℕ) (at next k : ℕ) → read_record s at ≡ RecordAnswer.Skipped k next → (at < next) × (next ≤ length s)
+skipped_moves : (s : List ℕ) (at next k : ℕ) → read_record s at ≡ RecordAnswer.Skipped (by k) next → (at < next) × (next ≤ length s)
 skipped_moves s at next k e =
     let x = ((record_skips s at k next).0 e).1 in
     rw (← x.4) at (next_moves s at x.0 x.1 x.2)

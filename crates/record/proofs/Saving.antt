@@ -1,4 +1,5 @@
 -- A record saved: its numbers written and read, one after the other, and the record that they make. Assumes nothing.
+use Rattle.std.specs.Prelude.{Ok, Err}
 use mathlib.Core.Path.{◌≡◌, refl, sym, ap, ◌∙◌}
 use Prim.Native.Nat.{ℕ, zero, suc, ◌+◌, ◌-◌, ◌*◌, ◌^◌, ◌<◌, ◌≤◌, zero-le}
 use native.Mathlib.Nat.{le_refl, le_of_eq}
@@ -22,12 +23,12 @@ use Rattle.buffers.specs.Over.{over}
 use Rattle.record.specs.Save.{in_groups, all_in_groups, numbers_of, record_bytes, none_below, save_ok, record_room, saved_if, saved_in_if, saved, saved_in}
 use Rattle.record.specs.Promises.{Bytes}
 use Rattle.record.specs.declared.record.Record.{Record}
-use Rattle.record.specs.declared.save.SaveAnswer.TheVariants as SaveAnswer
 use Rattle.record.proofs.Left.{after}
 use Rattle.record.proofs.Limits.{holding_limit, Bounds, bounds}
 use Rattle.buffers.proofs.Texts.{Wrote, wrote_length, wrote_none, wrote_part, wrote_as}
 use Rattle.record.proofs.Groups.{fewest_groups, groups_read, groups_written}
 use Rattle.record.proofs.Holdings.{holdings_stored}
+use Rattle.elementary.specs.Checks.{by}
 
 -- ---- numbers one after the other
 all_append : (u v : List ℕ) → all_in_groups (u ++ v) ≡ all_in_groups u ++ all_in_groups v
@@ -221,15 +222,15 @@ record_read r t h = some_read (numbers_of r) (held r h) t fields (le_of_eq (sym 
 
 -- ---- what is answered and what is left in the buffer: a short buffer, a record that cannot be saved, one that can
 module _ (r : Record) (b : List ℕ) where
-  pub saved_short : length b < record_room → (saved r b ≡ SaveAnswer.Refused small_record_buffer) × (saved_in r b ≡ b)
+  pub saved_short : length b < record_room → (saved r b ≡ Err (by small_record_buffer)) × (saved_in r b ≡ b)
   unfolding saved_if saved_in_if
   saved_short h = rw (lt-leb record_room (length b) h) (refl, refl)
 
   module _ (h : record_room ≤ length b) where
-    pub saved_none : save_ok r ≡ false → (saved r b ≡ SaveAnswer.Refused limits) × (saved_in r b ≡ b)
+    pub saved_none : save_ok r ≡ false → (saved r b ≡ Err (by limits)) × (saved_in r b ≡ b)
     unfolding saved_if saved_in_if
     saved_none e = rw (le-leb record_room (length b) h, e) (refl, refl)
 
-    pub saved_whole : save_ok r ≡ true → (saved r b ≡ SaveAnswer.Saved (length (record_bytes r))) × (saved_in r b ≡ over (record_bytes r) b)
+    pub saved_whole : save_ok r ≡ true → (saved r b ≡ Ok (length (record_bytes r))) × (saved_in r b ≡ over (record_bytes r) b)
     unfolding saved_if saved_in_if
     saved_whole e = rw (le-leb record_room (length b) h, e) (refl, refl)

@@ -1,13 +1,12 @@
 -- What the crate's own functions hand each other. No public contract cites this file. Definitions only.
-use Rattle.std.specs.Prelude.{◌≡◌, ℕ, ◌<◌, ◌≤◌, List, length, drop}
+use Rattle.std.specs.Prelude.{◌≡◌, ℕ, ◌<◌, ◌≤◌, List, length, drop, Result, Ok, Err}
 use Rattle.record.specs.Record.{Read, taken, refused, number}
-use Rattle.record.specs.declared.record.Number.{Number}
-use Rattle.record.specs.declared.record.Number.TheVariants as Number
+use Rattle.elementary.specs.declared.Refusal.{Refusal}
 
 -- the number at a place, and the place after it
-unfoldable pub NumberIs : List ℕ → ℕ → Number → Type 0
-NumberIs s at (Number.Value n next) = (number (drop at s) ≡ taken n (drop next s)) × (next ≤ length s)
-NumberIs s at (Number.Refused k) = (number (drop at s) ≡ refused k) × (0 < k)
+unfoldable pub NumberIs : List ℕ → ℕ → Result (ℕ × ℕ) Refusal → Type 0
+NumberIs s at (Ok (n, next)) = (number (drop at s) ≡ taken n (drop next s)) × (next ≤ length s)
+NumberIs s at (Err r) = (number (drop at s) ≡ refused r.0) × (0 < r.0)
 
 -- several numbers where they go; a refusal says nothing of it
 unfoldable pub Stored : Read (List ℕ) → List ℕ → Type 0

@@ -1,12 +1,12 @@
 -- What holds of every record, as named statements. Each is proved once, in proofs/. Definitions only.
-use Rattle.std.specs.Prelude.{◌≡◌, ◌↔◌, true, ℕ, suc, ◌+◌, ◌-◌, ◌^◌, ◌<◌, ◌≤◌, List, [], ◌∷◌, ◌++◌, ℤ, pos, length, get_or, take, drop}
+use Rattle.std.specs.Prelude.{◌≡◌, ◌↔◌, true, ℕ, suc, ◌+◌, ◌-◌, ◌^◌, ◌<◌, ◌≤◌, List, [], ◌∷◌, ◌++◌, ℤ, pos, length, get_or, take, drop, Ok}
 use Rattle.amounts.specs.Amounts.{billion}
 use Rattle.record.specs.Record.{taken, number, stored, holding, read_record, config_of}
 use Rattle.buffers.specs.Over.{over}
 use Rattle.record.specs.Save.{in_groups, save_ok, record_room, saved, saved_in}
 use Rattle.record.specs.declared.record.Record.{Record}
 use Rattle.record.specs.declared.record.RecordAnswer.TheVariants as RecordAnswer
-use Rattle.record.specs.declared.save.SaveAnswer.TheVariants as SaveAnswer
+use Rattle.elementary.specs.Checks.{by}
 
 -- ---- the paper's example: 1,000,000,000 is hex 80 94 EB DC 03
 abbrev pub BillionRead : Type 0
@@ -24,7 +24,7 @@ RecordsDriftless = (r : Record) → (config_of r).drift ≡ pos 0
 abbrev pub RecordsMove : Type 0
 RecordsMove = (s : List ℕ) (at next : ℕ)
     → ((r : Record) → read_record s at ≡ RecordAnswer.Record r next → (at < next) × (next ≤ length s))
-    × ((k : ℕ) → read_record s at ≡ RecordAnswer.Skipped k next → (at < next) × (next ≤ length s))
+    × ((k : ℕ) → read_record s at ≡ RecordAnswer.Skipped (by k) next → (at < next) × (next ≤ length s))
 
 -- ==== change request 1: records saved
 -- a list as a slice of bytes holds it
@@ -37,16 +37,16 @@ FewestGroups = (k n : ℕ) → (length (in_groups n) ≤ suc k) ↔ (n < 128 ^ s
 
 -- ---- a saved record fits its buffer
 abbrev pub SavesFit : Type 0
-SavesFit = (r : Record) (b : List ℕ) (n : ℕ) → saved r b ≡ SaveAnswer.Saved n → n ≤ length b
+SavesFit = (r : Record) (b : List ℕ) (n : ℕ) → saved r b ≡ Ok n → n ≤ length b
 
 -- ---- what the reader takes without 6, 7 or 2 comes out as the very bytes that went in
 abbrev pub SavedAsRead : Type 0
 SavedAsRead = (s : List ℕ) (at : ℕ) (r : Record) (next : ℕ) → Bytes s → read_record s at ≡ RecordAnswer.Record r next
     → (b : List ℕ) → record_room ≤ length b
-    → (saved r b ≡ SaveAnswer.Saved (next - at)) × (saved_in r b ≡ over (take (next - at) (drop at s)) b)
+    → (saved r b ≡ Ok (next - at)) × (saved_in r b ≡ over (take (next - at) (drop at s)) b)
 
 -- ---- a record within the limits is saved, and reads back to its own numbers, whatever stands before and after it; the next place is where it ended
 abbrev pub ReadAsSaved : Type 0
 ReadAsSaved = (r : Record) (b : List ℕ) → save_ok r ≡ true → record_room ≤ length b
-    → (n : ℕ) × (saved r b ≡ SaveAnswer.Saved n)
+    → (n : ℕ) × (saved r b ≡ Ok n)
     × ((u t : List ℕ) → read_record (u ++ take n (saved_in r b) ++ t) (length u) ≡ RecordAnswer.Record r (length u + n))

@@ -1,15 +1,15 @@
 -- Document 01, module 6: a record, eleven numbers in groups of seven bits. Definitions only.
-use Rattle.std.specs.Prelude.{ℕ, zero, suc, ◌+◌, ◌-◌, ◌*◌, ◌/◌, ◌%◌, Bool, true, false, ◌&&◌, List, [], ◌∷◌, ◌++◌, ℤ, pos, negsuc, set, length, get_or, drop, ltb, leb, eqb}
+use Rattle.std.specs.Prelude.{ℕ, zero, suc, ◌+◌, ◌-◌, ◌*◌, ◌/◌, ◌%◌, Bool, true, false, ◌&&◌, List, [], ◌∷◌, ◌++◌, ℤ, pos, negsuc, set, length, get_or, drop, ltb, leb, eqb, Result, Ok, Err}
 use Rattle.amounts.specs.Refusals.{limits}
 use Rattle.amounts.specs.Amounts.{time_ok}
 use Rattle.model.specs.Model.{model_limits}
 use Rattle.model.specs.declared.GLFTConfig.{GLFTConfig}
 use Rattle.record.specs.Refusals.{cut_short, malformed}
-use Rattle.record.specs.declared.record.NumbersAnswer.{NumbersAnswer}
-use Rattle.record.specs.declared.record.NumbersAnswer.TheVariants as NumbersAnswer
 use Rattle.record.specs.declared.record.Record.{Record}
 use Rattle.record.specs.declared.record.RecordAnswer.{RecordAnswer}
 use Rattle.record.specs.declared.record.RecordAnswer.TheVariants as RecordAnswer
+use Rattle.elementary.specs.declared.Refusal.{Refusal}
+use Rattle.elementary.specs.Checks.{by}
 
 -- what is read from the head of some bytes, and the bytes left; or a refusal
 pub data Read (A : Type 0) : Type 0 where
@@ -48,9 +48,9 @@ numbers zero l = taken [] l
 numbers (suc n) l = numbers n l then λ v r. number r then λ x q. taken (v ++ (x ∷ [])) q
 
 -- what `read_numbers` answers of some bytes, n of them: the place after the numbers; and what it leaves where they go
-unfoldable pub numbers_answer : ℕ → Read (List ℕ) → NumbersAnswer
-numbers_answer n (taken v rest) = NumbersAnswer.Taken (n - length rest)
-numbers_answer n (refused k) = NumbersAnswer.Refused k
+unfoldable pub numbers_answer : ℕ → Read (List ℕ) → Result ℕ Refusal
+numbers_answer n (taken v rest) = Ok (n - length rest)
+numbers_answer n (refused k) = Err (by k)
 
 unfoldable pub numbers_left : Read (List ℕ) → List ℕ → List ℕ
 numbers_left (taken v rest) out = v
@@ -115,7 +115,7 @@ record_ok r =
 -- ---- the record at a place of a sheet, and the next place; past the end there is no byte
 unfoldable pub record_if : Bool → Record → ℕ → RecordAnswer
 record_if true r next = RecordAnswer.Record r next
-record_if false r next = RecordAnswer.Skipped limits next
+record_if false r next = RecordAnswer.Skipped (by limits) next
 
 -- by its eleven numbers
 abbrev pub record_by : List ℕ → ℕ → RecordAnswer
@@ -124,7 +124,7 @@ record_by v next = let r = record_of v in record_if (record_ok r) r next
 -- of a sheet of n bytes
 unfoldable pub record_from : ℕ → Read (List ℕ) → RecordAnswer
 record_from n (taken v rest) = record_by v (n - length rest)
-record_from n (refused k) = RecordAnswer.Refused k
+record_from n (refused k) = RecordAnswer.Refused (by k)
 
 unfoldable pub read_record : List ℕ → ℕ → RecordAnswer
 read_record s at = record_from (length s) (numbers fields (drop at s))

@@ -1,13 +1,12 @@
 -- Document 01 and change request 1: each of 6, 7, 2 and 20 is the reply of this layer in just the situation named. Named statements, each proved once, in proofs/. Definitions only.
-use Rattle.std.specs.Prelude.{◌≡◌, ◌⊎◌, ◌↔◌, ℕ, suc, ◌-◌, ◌<◌, ◌≤◌, Bool, true, false, ◌&&◌, List, [], ◌∷◌, ◌++◌, length, drop, leb}
+use Rattle.std.specs.Prelude.{◌≡◌, ◌⊎◌, ◌↔◌, ℕ, suc, ◌-◌, ◌<◌, ◌≤◌, Bool, true, false, ◌&&◌, List, [], ◌∷◌, ◌++◌, length, drop, leb, Err}
 use Rattle.amounts.specs.Refusals.{limits}
 use Rattle.record.specs.Refusals.{cut_short, malformed, small_record_buffer}
 use Rattle.record.specs.Record.{taken, most_groups, numbers, fields, record_of, record_ok, read_record, numbers_answer, numbers_left}
 use Rattle.record.specs.Save.{none_below, record_room, saved, saved_in}
 use Rattle.record.specs.declared.record.Record.{Record}
-use Rattle.record.specs.declared.record.NumbersAnswer.TheVariants as NumbersAnswer
 use Rattle.record.specs.declared.record.RecordAnswer.TheVariants as RecordAnswer
-use Rattle.record.specs.declared.save.SaveAnswer.TheVariants as SaveAnswer
+use Rattle.elementary.specs.Checks.{by}
 
 -- ==== 6 and 7, over the bytes
 -- every byte has its top bit set: another group follows each
@@ -46,25 +45,25 @@ pub data StoppedBefore (m : ℕ) (l : List ℕ) : ℕ → Type 0 where
 abbrev pub NumbersRefusals : Type 0
 NumbersRefusals = (s : List ℕ) (at : ℕ) (out : List ℕ) (k : ℕ)
     → let x = numbers (length out) (drop at s) in
-    ((numbers_answer (length s) x ≡ NumbersAnswer.Refused k) ↔ StoppedBefore (length out) (drop at s) k) × (numbers_answer (length s) x ≡ NumbersAnswer.Refused k → numbers_left x out ≡ out)
+    ((numbers_answer (length s) x ≡ Err (by k)) ↔ StoppedBefore (length out) (drop at s) k) × (numbers_answer (length s) x ≡ Err (by k) → numbers_left x out ≡ out)
 
 -- a record's eleven
 abbrev pub Stopped : List ℕ → ℕ → Type 0
 Stopped l k = StoppedBefore fields l k
 
 abbrev pub RecordRefusals : Type 0
-RecordRefusals = (s : List ℕ) (at k : ℕ) → (read_record s at ≡ RecordAnswer.Refused k) ↔ Stopped (drop at s) k
+RecordRefusals = (s : List ℕ) (at k : ℕ) → (read_record s at ≡ RecordAnswer.Refused (by k)) ↔ Stopped (drop at s) k
 
 -- ==== 2: all numbers are taken, and one is beyond its limit; reading goes on after them
 abbrev pub Beyond : List ℕ → ℕ → ℕ → Type 0
 Beyond s at next = (v : List ℕ) × (r : List ℕ) × (numbers fields (drop at s) ≡ taken v r) × (record_ok (record_of v) ≡ false) × (next ≡ length s - length r)
 
 abbrev pub RecordSkips : Type 0
-RecordSkips = (s : List ℕ) (at k next : ℕ) → (read_record s at ≡ RecordAnswer.Skipped k next) ↔ ((k ≡ limits) × Beyond s at next)
+RecordSkips = (s : List ℕ) (at k next : ℕ) → (read_record s at ≡ RecordAnswer.Skipped (by k) next) ↔ ((k ≡ limits) × Beyond s at next)
 
 -- ==== a record that is saved: 20 where the buffer has fewer than 88 bytes, whatever the record; then 2 where a number is past its limit, or below zero and not the holding; no other, and a refusal leaves the buffer as it was
 abbrev pub SaveRefusals : Type 0
 SaveRefusals = (r : Record) (b : List ℕ)
-    → ((saved r b ≡ SaveAnswer.Refused small_record_buffer) ↔ (length b < record_room))
-    × ((saved r b ≡ SaveAnswer.Refused limits) ↔ ((record_room ≤ length b) × ((record_ok r ≡ false) ⊎ (none_below r ≡ false))))
-    × ((k : ℕ) → saved r b ≡ SaveAnswer.Refused k → ((k ≡ small_record_buffer) ⊎ (k ≡ limits)) × (saved_in r b ≡ b))
+    → ((saved r b ≡ Err (by small_record_buffer)) ↔ (length b < record_room))
+    × ((saved r b ≡ Err (by limits)) ↔ ((record_room ≤ length b) × ((record_ok r ≡ false) ⊎ (none_below r ≡ false))))
+    × ((k : ℕ) → saved r b ≡ Err (by k) → ((k ≡ small_record_buffer) ⊎ (k ≡ limits)) × (saved_in r b ≡ b))

@@ -1,13 +1,13 @@
 -- Change request 1: a record saved, as the reader of module 6 reads it. Definitions only.
-use Rattle.std.specs.Prelude.{ℕ, zero, suc, ◌+◌, ◌*◌, ◌/◌, ◌%◌, Bool, true, false, ◌&&◌, List, [], ◌∷◌, ◌++◌, pos, nat_abs, length, ltb, leb}
+use Rattle.std.specs.Prelude.{ℕ, zero, suc, ◌+◌, ◌*◌, ◌/◌, ◌%◌, Bool, true, false, ◌&&◌, List, [], ◌∷◌, ◌++◌, pos, nat_abs, length, ltb, leb, Result, Ok, Err}
 use Rattle.std.specs.Int.Signed.{le_z}
 use Rattle.amounts.specs.Refusals.{limits}
 use Rattle.record.specs.Refusals.{small_record_buffer}
 use Rattle.record.specs.Record.{most_groups, fields, stored, record_ok}
 use Rattle.buffers.specs.Over.{over}
 use Rattle.record.specs.declared.record.Record.{Record}
-use Rattle.record.specs.declared.save.SaveAnswer.{SaveAnswer}
-use Rattle.record.specs.declared.save.SaveAnswer.TheVariants as SaveAnswer
+use Rattle.elementary.specs.declared.Refusal.{Refusal}
+use Rattle.elementary.specs.Checks.{by}
 
 -- ---- a number in groups of seven bits, lowest first, the top bit set where another follows
 -- is the number below 128, so that its group is the last; as many turns as the number says are enough
@@ -57,17 +57,17 @@ abbrev pub record_room : ℕ
 record_room = fields * most_groups
 
 -- ---- what `save_record` answers, and what it leaves in the buffer: has that the room, can the record be saved
-unfoldable pub saved_if : Bool → Bool → List ℕ → SaveAnswer
-saved_if false k t = SaveAnswer.Refused small_record_buffer
-saved_if true false t = SaveAnswer.Refused limits
-saved_if true true t = SaveAnswer.Saved (length t)
+unfoldable pub saved_if : Bool → Bool → List ℕ → Result ℕ Refusal
+saved_if false k t = Err (by small_record_buffer)
+saved_if true false t = Err (by limits)
+saved_if true true t = Ok (length t)
 
 unfoldable pub saved_in_if : Bool → Bool → List ℕ → List ℕ → List ℕ
 saved_in_if false k t b = b
 saved_in_if true false t b = b
 saved_in_if true true t b = over t b
 
-abbrev pub saved : Record → List ℕ → SaveAnswer
+abbrev pub saved : Record → List ℕ → Result ℕ Refusal
 saved r b = saved_if (leb record_room (length b)) (save_ok r) (record_bytes r)
 
 abbrev pub saved_in : Record → List ℕ → List ℕ

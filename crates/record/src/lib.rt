@@ -6,7 +6,7 @@ pub mod refusals;
 mod save;
 
 pub use record::{
-    FIELDS, NumbersAnswer, Record, RecordAnswer, config_of, holding_of, read_as, read_numbers,
-    read_record, record_of_numbers,
+    FIELDS, Record, RecordAnswer, config_of, holding_of, read_as, read_numbers, read_record,
+    record_of_numbers,
 };
-pub use save::{RECORD_ROOM, SaveAnswer, save_record};
+pub use save::{RECORD_ROOM, save_record};

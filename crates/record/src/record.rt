@@ -5,6 +5,7 @@ ghost use Rattle.record.specs.Inner.{NumberIs, Stored};
 
 use crate::refusals::{CUT_SHORT, MALFORMED};
 use amounts::refusals::LIMITS;
+use elementary::Refusal;
 use model::GLFTConfig;
 
 // The numbers of a record.
@@ -38,26 +39,12 @@ pub struct Record {
 }
 
 // A record and the place of the next; a refusal by 2, with the place where reading goes on; or a
-// refusal by 6 or 7, after which nothing more is read.
+// refusal by 6 or 7, after which nothing more is read. Reading goes on after two of the three.
 #[derive(Clone, Copy)]
 pub enum RecordAnswer {
     Record(Record, usize),
-    Skipped(u8, usize),
-    Refused(u8),
-}
-
-// A number and the place after it, or a refusal.
-#[derive(Clone, Copy)]
-enum Number {
-    Value(u64, usize),
-    Refused(u8),
-}
-
-// The place after some numbers, or a refusal by 6 or 7.
-#[derive(Clone, Copy)]
-pub enum NumbersAnswer {
-    Taken(usize),
-    Refused(u8),
+    Skipped(Refusal, usize),
+    Refused(Refusal),
 }
 
 fn wide(b: u8) -> u64
@@ -66,8 +53,8 @@ fn wide(b: u8) -> u64
     b as u64
 }
 
-// The number at a place.
-fn read_number(s: &[u8], at: usize) -> Number
+// The number at a place, and the place after it.
+fn read_number(s: &[u8], at: usize) -> Result<(u64, usize), Refusal>
     requires { at ≤ length s.now }
     ensures { NumberIs s.now at result }
 {
@@ -77,20 +64,20 @@ fn read_number(s: &[u8], at: usize) -> Number
     while groups < MOST_GROUPS {
         let i = at + groups;
         if i >= s.len() {
-            return Number::Refused(CUT_SHORT);
+            return Err(CUT_SHORT);
         }
         let b = s[i];
         if b < 128 {
             if (groups > 0) & (b == 0) {
-                return Number::Refused(MALFORMED);
+                return Err(MALFORMED);
             }
-            return Number::Value(value + wide(b) * unit, i + 1);
+            return Ok((value + wide(b) * unit, i + 1));
         }
         value += wide(b % 128) * unit;
         unit = unit * 128;
         groups += 1;
     }
-    Number::Refused(MALFORMED)
+    Err(MALFORMED)
 }
 
 // A place within some bytes: past their end no byte is left.
@@ -104,28 +91,22 @@ fn place_in(s: &[u8], at: usize) -> usize
 }
 
 // The place after n numbers.
-fn place_after(s: &[u8], at: usize, n: usize) -> NumbersAnswer
+fn place_after(s: &[u8], at: usize, n: usize) -> Result<usize, Refusal>
     requires { at ≤ length s.now }
     ensures { result ≡ numbers_answer (length s.now) (numbers n (drop at s.now)) }
 {
     let mut next = at;
     let mut i: usize = 0;
     while i < n {
-        match read_number(s, next) {
-            Number::Value(_, place) => {
-                next = place;
-            }
-            Number::Refused(number) => {
-                return NumbersAnswer::Refused(number);
-            }
-        }
+        let (_, place) = read_number(s, next)?;
+        next = place;
         i += 1;
     }
-    NumbersAnswer::Taken(next)
+    Ok(next)
 }
 
 // Stores the numbers from a place on as they are read: before a refusal some may be stored.
-fn take_numbers(s: &[u8], at: usize, out: &mut [u64]) -> NumbersAnswer
+fn take_numbers(s: &[u8], at: usize, out: &mut [u64]) -> Result<usize, Refusal>
     requires { at ≤ length s.now }
     ensures value { result ≡ numbers_answer (length s.now) (numbers (length out.old) (drop at s.now)) }
     ensures stored { Stored (numbers (length out.old) (drop at s.now)) out.new }
@@ -133,31 +114,23 @@ fn take_numbers(s: &[u8], at: usize, out: &mut [u64]) -> NumbersAnswer
     let mut next = at;
     let mut i: usize = 0;
     while i < out.len() {
-        match read_number(s, next) {
-            Number::Value(v, place) => {
-                out[i] = v;
-                next = place;
-            }
-            Number::Refused(number) => {
-                return NumbersAnswer::Refused(number);
-            }
-        }
+        let (value, place) = read_number(s, next)?;
+        out[i] = value;
+        next = place;
         i += 1;
     }
-    NumbersAnswer::Taken(next)
+    Ok(next)
 }
 
-// Reads as many numbers as a slice has places, from a place of some bytes on: refused by 6 and 7, which
-// leaves the slice as it is.
-pub fn read_numbers(s: &[u8], at: usize, out: &mut [u64]) -> NumbersAnswer
+// Reads as many numbers as a slice has places, from a place of some bytes on, and answers the place after
+// them: refused by 6 and 7, which leaves the slice as it is.
+pub fn read_numbers(s: &[u8], at: usize, out: &mut [u64]) -> Result<usize, Refusal>
     ensures value { result ≡ numbers_answer (length s.now) (numbers (length out.old) (drop at s.now)) }
     ensures out_after { out.new ≡ numbers_left (numbers (length out.old) (drop at s.now)) out.old }
 {
     let start = place_in(s, at);
-    match place_after(s, start, out.len()) {
-        NumbersAnswer::Taken(_) => take_numbers(s, start, out),
-        NumbersAnswer::Refused(number) => NumbersAnswer::Refused(number),
-    }
+    place_after(s, start, out.len())?;
+    take_numbers(s, start, out)
 }
 
 // Whether every number is within its limit. A stored holding is about twice its size.
@@ -252,8 +225,8 @@ pub fn read_as(sheet: &[u8], at: usize, flat: bool) -> RecordAnswer
     let mut found: [u64; FIELDS] = [0; FIELDS];
     let start = place_in(sheet, at);
     match take_numbers(sheet, start, &mut found) {
-        NumbersAnswer::Taken(next) => record_of_numbers(numbers_of(found, flat), next),
-        NumbersAnswer::Refused(number) => RecordAnswer::Refused(number),
+        Ok(next) => record_of_numbers(numbers_of(found, flat), next),
+        Err(refusal) => RecordAnswer::Refused(refusal),
     }
 }
 

@@ -8,17 +8,11 @@ ghost use Rattle.record.specs.Save.{in_groups, all_in_groups, numbers_of, none_b
 use crate::record::{FIELDS, MOST_GROUPS, Record, config_of};
 use crate::refusals::SMALL_RECORD_BUFFER;
 use amounts::refusals::LIMITS;
+use elementary::Refusal;
 use model::GLFTConfig;
 
 // The least buffer for a record: the most groups for each of its numbers.
 pub const RECORD_ROOM: usize = FIELDS * MOST_GROUPS;
-
-// The bytes that the record takes, or a refusal by 20 or 2.
-#[derive(Clone, Copy)]
-pub enum SaveAnswer {
-    Saved(usize),
-    Refused(u8),
-}
 
 // A number in the fewest groups, at the start of a buffer; answers how many bytes it takes.
 fn write_number(out: &mut [u8], n: u64) -> usize
@@ -107,18 +101,18 @@ fn can_save(r: Record) -> bool
         & none_below(r)
 }
 
-// Writes a record at the start of a buffer, as `read_record` reads it: refused by 20, then 2, which
-// leaves the buffer as it is.
-pub fn save_record(r: Record, out: &mut [u8]) -> SaveAnswer
+// Writes a record at the start of a buffer, as `read_record` reads it, and answers how many bytes that
+// took: refused by 20, then 2, which leaves the buffer as it is.
+pub fn save_record(r: Record, out: &mut [u8]) -> Result<usize, Refusal>
     ensures value { result ≡ saved r out.old }
     ensures out_after { out.new ≡ saved_in r out.old }
 {
     if out.len() < RECORD_ROOM {
-        return SaveAnswer::Refused(SMALL_RECORD_BUFFER);
+        return Err(SMALL_RECORD_BUFFER);
     }
     if can_save(r) {
         let v = numbers_of(r);
-        return SaveAnswer::Saved(write_numbers(out, v));
+        return Ok(write_numbers(out, v));
     }
-    SaveAnswer::Refused(LIMITS)
+    Err(LIMITS)
 }

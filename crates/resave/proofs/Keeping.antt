@@ -22,13 +22,14 @@ use Rattle.buffers.proofs.Texts.{Wrote, wrote_none, wrote_length, wrote_part}
 use Rattle.record.proofs.Refusing.{record_refusals}
 use Rattle.record.proofs.Saved.{records_move, taken_moves, taken_bytes}
 use Rattle.resave.specs.Resave.{piece, onward, kept_from, kept_if, kept, Taken, here, further, KeptUpTo}
+use Rattle.elementary.specs.Checks.{by}
 
 -- ---- from the end on nothing is kept
 stopped_end : Stopped [] cut_short
 unfolding all_top
 stopped_end = by_6 {n = 0} (lit< tt) at_once (refl, lit< tt)
 
-past_end : (s : List ℕ) (at : ℕ) → length s ≤ at → read_record s at ≡ RecordAnswer.Refused cut_short
+past_end : (s : List ℕ) (at : ℕ) → length s ≤ at → read_record s at ≡ RecordAnswer.Refused (by cut_short)
 past_end s at h = (record_refusals s at cut_short).1 (rw (drop_of_length-le s h) stopped_end)
 
 kept_none : (k : ℕ) (s : List ℕ) (at : ℕ) → length s ≤ at → kept_from k s at ≡ []
@@ -48,7 +49,7 @@ moved s at (RecordAnswer.Record r next) h l e =
     let m = taken_moves s at r next e in
     record { on = m.0; within = m.1; fits = omega (arith, (taken_bytes s at r next e h).1) }
 moved s at (RecordAnswer.Skipped k next) h l e =
-    let m = (records_move s at next).1 k e in
+    let m = (records_move s at next).1 k.0 e in
     record { on = m.0; within = m.1; fits = omega (arith, m) }
 moved s at (RecordAnswer.Refused k) h l e = record { on = l; within = le_refl (length s); fits = omega arith }
 
@@ -124,13 +125,13 @@ ordered : {s : List ℕ} {at p : ℕ} → Taken s at p → at ≤ p
 ordered here = le_refl _
 ordered {s} {at} (further {next = next} r e t) = omega (arith, taken_moves s at r next e, ordered t)
 
-kept_stop : (k j : ℕ) (s : List ℕ) (at : ℕ) → read_record s at ≡ RecordAnswer.Refused j → kept_from k s at ≡ []
+kept_stop : (k j : ℕ) (s : List ℕ) (at : ℕ) → read_record s at ≡ RecordAnswer.Refused (by j) → kept_from k s at ≡ []
 unfolding kept_from piece onward
 kept_stop zero j s at e = refl
 kept_stop (suc k) j s at e = rw e (kept_none k s (length s) (le_refl (length s)))
 
 -- d bytes from a place on
-kept_from_lem : {s : List ℕ} {at p : ℕ} (k j d : ℕ) → Bytes s → length s ≤ at + k → p ≡ at + d → Taken s at p → read_record s p ≡ RecordAnswer.Refused j → kept_from k s at ≡ take d (drop at s)
+kept_from_lem : {s : List ℕ} {at p : ℕ} (k j d : ℕ) → Bytes s → length s ≤ at + k → p ≡ at + d → Taken s at p → read_record s p ≡ RecordAnswer.Refused (by j) → kept_from k s at ≡ take d (drop at s)
 unfolding kept_from piece onward
 kept_from_lem {s} {at} k j d h n q here e = let z : d ≡ 0 = omega arith in rw z (kept_stop k j s at e)
 kept_from_lem {s} {at} zero j d h n q (further {next = next} r i t) e = absurd (omega (arith, taken_moves s at r next i))

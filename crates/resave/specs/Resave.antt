@@ -7,6 +7,7 @@ use Rattle.record.specs.Promises.{Bytes}
 use Rattle.record.specs.declared.record.Record.{Record}
 use Rattle.record.specs.declared.record.RecordAnswer.{RecordAnswer}
 use Rattle.record.specs.declared.record.RecordAnswer.TheVariants as RecordAnswer
+use Rattle.elementary.specs.Checks.{by}
 
 -- ---- what is kept of what the reader answers, and the place where it goes on, in a sheet of n bytes
 -- a record that is refused by 2 is left out
@@ -41,4 +42,4 @@ pub data Taken (s : List ℕ) : ℕ → ℕ → Type 0 where
   further : {at next p : ℕ} (r : Record) → read_record s at ≡ RecordAnswer.Record r next → Taken s next p → Taken s at p
 
 abbrev pub KeptUpTo : Type 0
-KeptUpTo = (s : List ℕ) (p k : ℕ) → Bytes s → length s ≤ most_bytes → Taken s 0 p → read_record s p ≡ RecordAnswer.Refused k → kept s ≡ take p s
+KeptUpTo = (s : List ℕ) (p k : ℕ) → Bytes s → length s ≤ most_bytes → Taken s 0 p → read_record s p ≡ RecordAnswer.Refused (by k) → kept s ≡ take p s

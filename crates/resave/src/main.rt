@@ -11,8 +11,8 @@ ghost use Rattle.sheet.specs.Sheet.{most_bytes};
 ghost use Rattle.record.specs.Save.{record_room};
 ghost use Rattle.resave.specs.Resave.{piece, onward, kept};
 
-use feed::{Feed, first};
-use sheet::{MOST_BYTES, RECORD_ROOM, RecordAnswer, SaveAnswer};
+use feed::first;
+use sheet::{MOST_BYTES, RECORD_ROOM, RecordAnswer};
 use std::io::Result;
 
 // What is kept is no longer than the sheet, and behind it there is room for any record.
@@ -37,8 +37,8 @@ fn keep_record(s: &[u8], at: usize, out: &mut [u8]) -> Kept
 {
     match sheet::read_record(s, at) {
         RecordAnswer::Record(r, next) => match sheet::save_record(r, out) {
-            SaveAnswer::Saved(count) => Kept { count, next },
-            SaveAnswer::Refused(_) => Kept { count: 0, next },
+            Ok(count) => Kept { count, next },
+            Err(_) => Kept { count: 0, next },
         },
         RecordAnswer::Skipped(_, next) => Kept { count: 0, next },
         RecordAnswer::Refused(_) => Kept {
@@ -87,7 +87,7 @@ fn blank_input() -> [u8; INPUT]
 }
 
 // Reads a sheet into a buffer that tells one that is too long.
-fn read(rt: &HostRuntime, input: &mut [u8]) -> Feed
+fn read(rt: &HostRuntime, input: &mut [u8]) -> Result<usize>
     requires { most_bytes < length input.old }
     ensures { Fed (length input.old) result }
 {
@@ -97,12 +97,12 @@ fn read(rt: &HostRuntime, input: &mut [u8]) -> Feed
 fn main(rt: HostRuntime) {
     let mut input = blank_input();
     match read(&rt, &mut input) {
-        Feed::Bytes(n) => {
+        Ok(n) => {
             if let Err(error) = write_kept(&rt, first(&input, n)) {
                 let _ = eprintln!(rt; "resave: standard output: {error}");
             }
         }
-        Feed::Failed(error) => {
+        Err(error) => {
             let _ = eprintln!(rt; "resave: standard input: {error}");
         }
     }

@@ -79,8 +79,8 @@ fn holding(i: u64) -> i64 {
 // A price, 0 where there is none.
 fn price(p: Price) -> u64 {
     match p {
-        Price::At(billionths) => size_of(billionths),
-        Price::Absent => 0,
+        Some(billionths) => size_of(billionths),
+        None => 0,
     }
 }
 
@@ -94,7 +94,7 @@ fn told(answer: ExactQuotes) -> u64 {
             wrapping_add_u64(wrapping_add_u64(price(bid), twice), steps as u64)
         }
         ExactQuotes::OverStepCap(_, budget, _) => budget as u64,
-        ExactQuotes::Refused(number) => number as u64,
+        ExactQuotes::Refused(refusal) => refusal.0 as u64,
     }
 }
 
@@ -133,7 +133,7 @@ fn set(table: &mut [u64], at: usize) {
 // Sets a number of the table, clears the table, and answers the number.
 fn set_and_clear(table: &mut [u64], at: usize) -> u64 {
     set(table, at);
-    clear_table(table);
+    let _ = clear_table(table);
     number_at(table, at)
 }
 
@@ -168,7 +168,7 @@ fn print(text: &[u8]) {
 fn order(kind: u8, count: u64) {
     let mut room = [0u64; TABLE_ROOM];
     let table: &mut [u64] = &mut room;
-    clear_table(table);
+    let _ = clear_table(table);
     io::print_decimal(harness::STDOUT, calls(table, kind, count));
     print(b" ");
     io::print_decimal(harness::STDOUT, number_at(table, FILLED));

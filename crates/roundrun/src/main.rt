@@ -7,7 +7,7 @@
 use harness::{
     MANY, first, float_of, make_room, put, put_cut, put_refusal, put_signed, read_block, word_at,
 };
-use quote::{Billionths, to_billionths};
+use quote::{Refusal, to_billionths};
 
 // The bytes of a pattern.
 const RECORD: usize = 8;
@@ -19,10 +19,10 @@ const BLOCK: usize = 65536;
 const LINE: usize = 18;
 
 // A count, or a refusal.
-fn put_billionths(out: &mut [u8], at: usize, b: Billionths) -> usize {
+fn put_billionths(out: &mut [u8], at: usize, b: Result<i64, Refusal>) -> usize {
     match b {
-        Billionths::Count(n) => put_signed(out, at, n),
-        Billionths::Refused(number) => put_refusal(out, at, number),
+        Ok(n) => put_signed(out, at, n),
+        Err(refusal) => put_refusal(out, at, refusal.0),
     }
 }
 

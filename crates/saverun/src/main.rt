@@ -14,8 +14,9 @@ use harness::{
     LARGEST_BOUND, bound_of, first, make_room, put, put_cut, put_number, put_refusal, read_block,
     word_at,
 };
+use quote::Refusal;
 use quote::refusals::LIMITS;
-use record::{Record, SaveAnswer};
+use record::Record;
 
 // The bytes of a record.
 const RECORD: usize = 96;
@@ -66,10 +67,10 @@ fn put_saved(out: &mut [u8], start: usize, n: usize) -> usize {
     put_number(out, at, n as u64)
 }
 
-fn put_answer(out: &mut [u8], start: usize, a: SaveAnswer) -> usize {
+fn put_answer(out: &mut [u8], start: usize, a: Result<usize, Refusal>) -> usize {
     match a {
-        SaveAnswer::Saved(n) => put_saved(out, start, n),
-        SaveAnswer::Refused(number) => put_refusal(out, start, number),
+        Ok(n) => put_saved(out, start, n),
+        Err(refusal) => put_refusal(out, start, refusal.0),
     }
 }
 
@@ -111,7 +112,7 @@ fn put_call(out: &mut [u8], start: usize, r: Record, buffer: &mut [u8]) -> usize
 // The record at a place, without its line's end.
 fn put_record(out: &mut [u8], start: usize, s: &[u8], at: usize) -> usize {
     if word_at(s, at, 48) > LARGEST_BOUND {
-        return put_refusal(out, start, LIMITS);
+        return put_refusal(out, start, LIMITS.0);
     }
     let n = length_at(s, at);
     let mut buffer = [BEFORE; ROOM];

@@ -1,5 +1,6 @@
 // The number that refuses in this layer, as specs/Refusals.antt has it. 5 stands with the elementary
 // functions.
+use elementary::Refusal;
 
 // The reckoning left the floats.
-pub const NUMERICAL: u8 = 11;
+pub const NUMERICAL: Refusal = Refusal(11);

@@ -20,6 +20,7 @@ use Rattle.record.specs.declared.record.Record.{Record}
 use Rattle.sheet.proofs.Steps.{step_end, step_long, step_read}
 use Rattle.record.proofs.Left.{next_moves}
 use Rattle.record.proofs.Numbers.{numbers_stopped, stopped_number}
+use Rattle.elementary.specs.Checks.{by}
 
 -- P is what holds of every record's text that is written, and of every refusal's line
 module _ (f : Record → Text) (flat : Bool) (P : List ℕ → Type 0) (texts : (r : Record) (t : List ℕ) → f r ≡ text t → P t) (lines : (k : ℕ) → k < 256 → P (refusal_line k)) (s : List ℕ) (at : ℕ) where

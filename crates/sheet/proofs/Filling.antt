@@ -1,4 +1,5 @@
 -- Filling a buffer text by text: the definition's turns, and a fill of which some texts are in. Assumes nothing.
+use Rattle.std.specs.Prelude.{Ok, Err}
 use mathlib.Core.Path.{◌≡◌, refl, sym, ap, ◌∙◌, subst}
 use mathlib.Core.Logic.{⊎_elim}
 use Prim.Native.Nat.{ℕ, zero, suc, ◌+◌, ◌-◌, ◌<◌, ◌≤◌}
@@ -22,8 +23,8 @@ use Rattle.sheet.specs.Fill.{Fill, up_to, after, fill_by, fill, filled_if, left_
 use Rattle.sheet.specs.declared.text.Kind.{Kind}
 use Rattle.sheet.specs.declared.line.LineAnswer.{LineAnswer}
 use Rattle.sheet.specs.declared.line.LineAnswer.TheVariants as LineAnswer
-use Rattle.sheet.specs.declared.fill.FillAnswer.TheVariants as FillAnswer
 use Rattle.sheet.proofs.Texts.{with_room, room_least, text_end, text_before, text_written, texts_fit, texts_move}
+use Rattle.elementary.specs.Checks.{by}
 
 -- ---- the turns: more than enough change nothing
 done : (j : ℕ) (m : Bool) (x : Step) (k : Kind) (s : List ℕ) (at room : ℕ) → x ≡ end → fill_by j m x k s at room ≡ up_to [] at
@@ -141,18 +142,18 @@ module _ (k : Kind) (s : List ℕ) (at : ℕ) (l out : List ℕ) (n next : ℕ) 
       )
 
   -- nothing more: no room, or no text
-  filling_done : least_room ≤ length l → room_of k ≤ length l → fill k s next (length l - n) ≡ up_to [] next → (FillAnswer.Filled n next ≡ filled_as k s at l) × (out ≡ left_as k s at l)
+  filling_done : least_room ≤ length l → room_of k ≤ length l → fill k s next (length l - n) ≡ up_to [] next → (Ok (n, next) ≡ filled_as k s at l) × (out ≡ left_as k s at l)
   unfolding filled_if left_if after
   filling_done h g e =
-      rw (le-leb least_room (length l) h, le-leb (room_of k) (length l) g, f.so_far, e, append-nil f.text) (ap (λ (j : ℕ). FillAnswer.Filled j next) f.wrote.up_to, f.wrote.is)
+      rw (le-leb least_room (length l) h, le-leb (room_of k) (length l) g, f.so_far, e, append-nil f.text) (ap (λ (j : ℕ). Ok (j, next)) f.wrote.up_to, f.wrote.is)
 
-  pub filling_full : least_room ≤ length l → room_of k ≤ length l → length out - n < room_of k → (FillAnswer.Filled n next ≡ filled_as k s at l) × (out ≡ left_as k s at l)
+  pub filling_full : least_room ≤ length l → room_of k ≤ length l → length out - n < room_of k → (Ok (n, next) ≡ filled_as k s at l) × (out ≡ left_as k s at l)
   filling_full h g m = filling_done h g (fill_full k s next (length l - n) (omega (arith, filling_length)))
 
   -- the answer is no text, so the sheet is at its end
   pub filling_end : (r : LineAnswer) (back : List ℕ) → least_room ≤ length l → room_of k ≤ length l → room_of k ≤ length out - n → ((j m : ℕ) → r ≡ LineAnswer.Written j m → ⊥)
       → r ≡ answered (has_room part) (text_in k (length part) s next) → back ≡ left (has_room part) (text_in k (length part) s next) part
-      → (FillAnswer.Filled n next ≡ filled_as k s at l) × (put_mid n (length out - n) out back ≡ left_as k s at l)
+      → (Ok (n, next) ≡ filled_as k s at l) × (put_mid n (length out - n) out back ≡ left_as k s at l)
   unfolding left
   filling_end r back h g m c e o =
       let x = part_is m in
@@ -164,10 +165,10 @@ module _ (k : Kind) (s : List ℕ) (at : ℕ) (l out : List ℕ) (n next : ℕ) 
 
 -- ---- no room
 module _ (k : Kind) (s : List ℕ) (at : ℕ) (l : List ℕ) where
-  pub no_fill : length l < least_room → (FillAnswer.Refused small_buffer ≡ filled_as k s at l) × (l ≡ left_as k s at l)
+  pub no_fill : length l < least_room → (Err (by small_buffer) ≡ filled_as k s at l) × (l ≡ left_as k s at l)
   unfolding filled_if left_if
   no_fill h = rw (lt-leb least_room (length l) h) (refl, refl)
 
-  pub short_fill : least_room ≤ length l → length l < room_of k → (FillAnswer.Refused small_ladder_buffer ≡ filled_as k s at l) × (l ≡ left_as k s at l)
+  pub short_fill : least_room ≤ length l → length l < room_of k → (Err (by small_ladder_buffer) ≡ filled_as k s at l) × (l ≡ left_as k s at l)
   unfolding filled_if left_if
   short_fill h g = rw (le-leb least_room (length l) h, lt-leb (room_of k) (length l) g) (refl, refl)

@@ -1,4 +1,5 @@
 -- The promises of whole texts: a fill fits, moves and stays, and the fills make the whole. Assumes nothing.
+use Rattle.std.specs.Prelude.{Ok}
 use mathlib.Core.Path.{◌≡◌, refl, sym, ap, ◌∙◌, subst}
 use Prim.Native.Nat.{ℕ, zero, suc, ◌+◌, ◌-◌, ◌<◌, ◌≤◌}
 use native.Mathlib.Nat.{le_refl, le_trans}
@@ -16,10 +17,10 @@ use Rattle.sheet.specs.Kinds.{room_of, text_at}
 use Rattle.sheet.specs.Fill.{Fill, up_to, after, fill_by, fill, filled_if, left_if, filled_as, left_as}
 use Rattle.sheet.specs.Promises.{Followed, stepped, ended, FillsFit, FillsMove, FillsEnd, Fills, finished, onward, FillsMakeTheWhole, FillsFinish}
 use Rattle.sheet.specs.declared.text.Kind.{Kind}
-use Rattle.sheet.specs.declared.fill.FillAnswer.TheVariants as FillAnswer
 use Rattle.sheet.proofs.Texts.{room_least, text_end, text_due, texts_fit, texts_move}
 use Rattle.sheet.proofs.Whole.{steps_make_the_whole}
 use Rattle.sheet.proofs.Filling.{fill_end, fill_text}
+use Rattle.elementary.proofs.Results.{ok_pair}
 
 -- ---- what lies between a place and the end of a fill from there: whatever follows the fill's end, the fill's texts come before it
 Leads : Kind → List ℕ → ℕ → ℕ → Fill → Type 0
@@ -57,13 +58,13 @@ unfolding fill
 leads k s at room = leads_by (length s) k s at room
 
 -- ---- from the reply to the texts
-told : (l m : Bool) (f : Fill) (n next : ℕ) → filled_if l m f ≡ FillAnswer.Filled n next → (t : List ℕ) × (l ≡ true) × (m ≡ true) × (f ≡ up_to t next) × (n ≡ length t)
+told : (l m : Bool) (f : Fill) (n next : ℕ) → filled_if l m f ≡ Ok (n, next) → (t : List ℕ) × (l ≡ true) × (m ≡ true) × (f ≡ up_to t next) × (n ≡ length t)
 unfolding filled_if
 told false m f n next e = let z : ◌≡◌ {A = ℕ} 0 1 = cc in absurd (omega arith)
 told true false f n next e = let z : ◌≡◌ {A = ℕ} 0 1 = cc in absurd (omega arith)
-told true true (up_to t p) n next e = let z : p ≡ next = cc in (t, refl, refl, ap (up_to t) z, cc)
+told true true (up_to t p) n next e = let (i, z) = ok_pair e in (t, refl, refl, ap (up_to t) z, sym i)
 
-module _ (k : Kind) (s : List ℕ) (at : ℕ) (b : List ℕ) (n next : ℕ) (e : filled_as k s at b ≡ FillAnswer.Filled n next) where
+module _ (k : Kind) (s : List ℕ) (at : ℕ) (b : List ℕ) (n next : ℕ) (e : filled_as k s at b ≡ Ok (n, next)) where
   w : (t : List ℕ) × (has_room b ≡ true) × (leb (room_of k) (length b) ≡ true) × (fill k s at (length b) ≡ up_to t next) × (n ≡ length t)
   w = told (has_room b) (leb (room_of k) (length b)) (fill k s at (length b)) n next e
 
@@ -124,13 +125,13 @@ pub fills_make_the_whole : FillsMakeTheWhole
 fills_make_the_whole k s t f = one_way (followed f) (steps_make_the_whole k s)
 
 -- ---- with any buffer that has the room
-some_fill : (l m : Bool) (f : Fill) → l ≡ true → m ≡ true → (n : ℕ) × (next : ℕ) × (filled_if l m f ≡ FillAnswer.Filled n next)
+some_fill : (l m : Bool) (f : Fill) → l ≡ true → m ≡ true → (n : ℕ) × (next : ℕ) × (filled_if l m f ≡ Ok (n, next))
 unfolding filled_if
 some_fill true true (up_to t next) d e = (length t, next, refl)
 some_fill false m (up_to t next) d e = let z : ◌≡◌ {A = ℕ} 0 1 = cc in absurd (omega arith)
 some_fill true false (up_to t next) d e = let z : ◌≡◌ {A = ℕ} 0 1 = cc in absurd (omega arith)
 
-pub fill_there : (k : Kind) (s : List ℕ) (at : ℕ) (b : List ℕ) → room_of k ≤ length b → (n : ℕ) × (next : ℕ) × (filled_as k s at b ≡ FillAnswer.Filled n next)
+pub fill_there : (k : Kind) (s : List ℕ) (at : ℕ) (b : List ℕ) → room_of k ≤ length b → (n : ℕ) × (next : ℕ) × (filled_as k s at b ≡ Ok (n, next))
 fill_there k s at b r =
     some_fill (has_room b) (leb (room_of k) (length b)) (fill k s at (length b)) (le-leb least_room (length b) (le_trans (room_least k) r)) (le-leb (room_of k) (length b) r)
 
@@ -149,7 +150,7 @@ pub fills_finish : FillsFinish
 fills_finish k s b r = let f = finish (length s) k s b 0 r (omega arith) in subst (Fills k s 0) (fills_make_the_whole k s f.0 f.1) f.1
 
 -- ---- what follows from a place on begins with a fill from there, and goes on from its end; from the end of the sheet on it is nothing
-pub fill_first : (k : Kind) (s : List ℕ) (at : ℕ) (b : List ℕ) (n next : ℕ) (v : List ℕ) → filled_as k s at b ≡ FillAnswer.Filled n next → Followed k s at v
+pub fill_first : (k : Kind) (s : List ℕ) (at : ℕ) (b : List ℕ) (n next : ℕ) (v : List ℕ) → filled_as k s at b ≡ Ok (n, next) → Followed k s at v
     → (u : List ℕ) × (v ≡ take n (left_as k s at b) ++ u) × Followed k s next u
 unfolding Leads
 fill_first k s at b n next v e f =

@@ -9,7 +9,7 @@ use borrow.Author.Tests.{leb-true, leb-false}
 use lib.IntN.{ℤ}
 use lib.ListN.{length, get_or, drop}
 use lib.Dec.{leb}
-use Rattle.elementary.specs.Checks.{Refuses, here, later}
+use Rattle.elementary.specs.Checks.{Refuses, here, later, by}
 use Rattle.amounts.specs.Refusals.{limits}
 use Rattle.amounts.specs.Amounts.{time_ok}
 use Rattle.model.specs.Model.{model_limits, exact_checks}
@@ -41,11 +41,11 @@ same_number : (m n : ℕ) → refusal_line m ≡ refusal_line n → m ≡ n
 unfolding refusal_line joined
 same_number m n e = omega (arith, sym (back_count m) ∙ ap (λ (t : List ℕ). back 0 (drop 2 t)) e ∙ back_count n)
 
-refused_line : (a : ExactQuotes) (k : ℕ) → answer_line a ≡ refusal_line k → a ≡ ExactQuotes.Refused k
+refused_line : (a : ExactQuotes) (k : ℕ) → answer_line a ≡ refusal_line k → a ≡ ExactQuotes.Refused (by k)
 unfolding answer_line quotes_line cap_line refusal_line joined
 refused_line (ExactQuotes.Quotes q s) k e = let z : ◌≡◌ {A = ℕ} 81 82 = ap (λ (t : List ℕ). get_or t 0 0) e in absurd (omega arith)
 refused_line (ExactQuotes.OverStepCap need b s) k e = let z : ◌≡◌ {A = ℕ} 67 82 = ap (λ (t : List ℕ). get_or t 0 0) e in absurd (omega arith)
-refused_line (ExactQuotes.Refused n) k e = ap ExactQuotes.Refused (same_number n k e)
+refused_line (ExactQuotes.Refused r) k e = ap (λ (n : ℕ). ExactQuotes.Refused (by n)) (same_number r.0 k e)
 
 -- ---- a record within the limits is refused by none of this layer's numbers
 abbrev Apart : ℕ → Type 0
@@ -103,14 +103,14 @@ module _ (s : List ℕ) (at k next : ℕ) where
       let t : record_line r ≡ refusal_line k = cc in
       quoted (quotes_apart r k (kept (length s) (numbers fields (drop at s)) r m d) t)
   read_said h (RecordAnswer.Skipped j m) d e =
-      let t : refusal_line j ≡ refusal_line k = cc in
+      let t : refusal_line j.0 ≡ refusal_line k = cc in
       let n : m ≡ next = cc in
-      let p = (record_skips s at j m).0 d in
-      skipped (sym (same_number j k t) ∙ p.0) h (subst (Beyond s at) n p.1)
+      let p = (record_skips s at j.0 m).0 d in
+      skipped (sym (same_number j.0 k t) ∙ p.0) h (subst (Beyond s at) n p.1)
   read_said h (RecordAnswer.Refused j) d e =
-      let t : refusal_line j ≡ refusal_line k = cc in
+      let t : refusal_line j.0 ≡ refusal_line k = cc in
       let n : next ≡ length s = cc in
-      stopped h (subst (Stopped (drop at s)) (same_number j k t) ((record_refusals s at j).0 d)) n
+      stopped h (subst (Stopped (drop at s)) (same_number j.0 k t) ((record_refusals s at j.0).0 d)) n
 
   said : line_at s at ≡ line (refusal_line k) next → Said s at k next
   said e = go (leb (length s) most_bytes) (leb-true (length s) most_bytes) (leb-false (length s) most_bytes) (line_before s at (refusal_line k) next e)

@@ -18,6 +18,7 @@ use Rattle.lines.proofs.Widths.{counted_most, refusal_most, cap_most}
 use Rattle.record.specs.declared.record.Record.{Record}
 use Rattle.sheet.specs.Sheet.{record_line}
 use Rattle.sheet.specs.Horizon.{plan_of, record_plan}
+use Rattle.elementary.specs.Checks.{by}
 
 module _ (r : Record) where
   -- what the exact call replies
@@ -27,7 +28,7 @@ module _ (r : Record) where
   reported : (need : Float) (b : ℕ) → plan_of r ≡ FirstPlan.OverCap need b → reply ≡ ExactQuotes.OverStepCap need b 0
   reported need b e = (desk_plan_is_first.over _ _ _ _ _ need b).0 e
 
-  refusing : (n : ℕ) → plan_of r ≡ FirstPlan.Refused n → reply ≡ ExactQuotes.Refused n
+  refusing : (n : ℕ) → plan_of r ≡ FirstPlan.Refused (by n) → reply ≡ ExactQuotes.Refused (by n)
   refusing n e = desk_plan_is_first.refused _ _ _ _ _ n e
 
   reply_kept : (a : ExactQuotes) → reply ≡ a → ReplyKept a
@@ -38,7 +39,7 @@ module _ (r : Record) where
   unfolding record_plan record_line plan_line answer_line
   over_line need b e = rw (e, reported need b e)
 
-  pub refused_line : (n : ℕ) → plan_of r ≡ FirstPlan.Refused n → record_plan r ≡ record_line r
+  pub refused_line : (n : ℕ) → plan_of r ≡ FirstPlan.Refused (by n) → record_plan r ≡ record_line r
   unfolding record_plan record_line plan_line answer_line
   refused_line n e = rw (e, refusing n e)
 
@@ -48,7 +49,7 @@ module _ (r : Record) where
   most_by (FirstPlan.Steps zero) e = counted_most 78 0 (omega arith)
   most_by (FirstPlan.Steps (suc s)) e = counted_most 78 (suc s) (omega (arith, (desk_plan_is_first.steps _ _ _ _ _ s e).3.within))
   most_by (FirstPlan.OverCap need b) e = cap_most need b (omega (arith, (reply_kept _ (reported need b e)).1))
-  most_by (FirstPlan.Refused n) e = refusal_most n (omega (arith, reply_kept _ (refusing n e)))
+  most_by (FirstPlan.Refused r) e = refusal_most r.0 (omega (arith, reply_kept _ (refusing r.0 e)))
 
 pub plan_most : (r : Record) → length (record_plan r) ≤ least_room
 unfolding record_plan

@@ -20,6 +20,7 @@ use Rattle.sheet.proofs.Steps.{step_long, step_read, line_long, line_read}
 use Rattle.sheet.proofs.PlanLines.{over_line, refused_line}
 use Rattle.sheet.proofs.Texts.{texts_stand, texts_fit, texts_move, text_before, text_written}
 use Rattle.sheet.proofs.Refusing.{step_refusals}
+use Rattle.elementary.specs.Checks.{by}
 
 module _ (s : List ℕ) (at : ℕ) where
   -- the line that `next_line` writes there, or that of a plan with steps
@@ -29,7 +30,7 @@ module _ (s : List ℕ) (at : ℕ) where
   alike_record : (r : Record) (next : ℕ) (p : FirstPlan) → plan_of r ≡ p → read_record s at ≡ RecordAnswer.Record r next → line_at s at ≡ line (record_line r) next → Alike (record_plan r) next
   alike_record r next (FirstPlan.Steps n) e d l = inr (r, n, d, e)
   alike_record r next (FirstPlan.OverCap need b) e d l = inl (rw (over_line r need b e) l)
-  alike_record r next (FirstPlan.Refused n) e d l = inl (rw (refused_line r n e) l)
+  alike_record r next (FirstPlan.Refused q) e d l = inl (rw (refused_line r q.0 e) l)
 
   alike_read : (a : RecordAnswer) → read_record s at ≡ a → line_at s at ≡ step_of line_text (length s) a
       → (t : List ℕ) (next : ℕ) → step_of plan_text (length s) a ≡ line t next → Alike t next

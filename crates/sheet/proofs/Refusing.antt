@@ -1,5 +1,6 @@
 -- Each refusal of this layer is the reply in just the situation that the paper names. Assumes nothing.
-use mathlib.Core.Path.{◌≡◌, refl}
+use Rattle.std.specs.Prelude.{Err}
+use mathlib.Core.Path.{◌≡◌, refl, sym}
 use mathlib.Core.Logic.{◌⊎◌, inl, inr, ⊎_elim, ◌↔◌}
 use Prim.Native.Nat.{ℕ, ◌<◌}
 use native.Mathlib.Omega.{arith}
@@ -18,18 +19,19 @@ use Rattle.sheet.specs.Fill.{Fill, up_to, fill, filled_if, left_if}
 use Rattle.sheet.specs.Refusing.{BufferRefusals, FillRefusals}
 use Rattle.sheet.specs.declared.text.Kind.TheVariants as Kind
 use Rattle.sheet.specs.declared.line.LineAnswer.TheVariants as LineAnswer
-use Rattle.sheet.specs.declared.fill.FillAnswer.TheVariants as FillAnswer
+use Rattle.elementary.specs.Checks.{by}
+use Rattle.elementary.proofs.Checks.{same_number, same_err}
 
 -- ---- 8
-line_refused : (m : Bool) (x : Step) (k : ℕ) → ((n : ℕ) → x ≡ refuse n → ⊥) → answered m x ≡ LineAnswer.Refused k → (k ≡ small_buffer) × (m ≡ false)
+line_refused : (m : Bool) (x : Step) (k : ℕ) → ((n : ℕ) → x ≡ refuse n → ⊥) → answered m x ≡ LineAnswer.Refused (by k) → (k ≡ small_buffer) × (m ≡ false)
 unfolding answered
-line_refused false x k g e = (cc, refl)
+line_refused false x k g e = (same_number (let z : by k ≡ by small_buffer = cc in z), refl)
 line_refused true (line t next) k g e = let z : ◌≡◌ {A = ℕ} 0 1 = cc in absurd (omega arith)
 line_refused true end k g e = let z : ◌≡◌ {A = ℕ} 0 1 = cc in absurd (omega arith)
 line_refused true (refuse n) k g e = absurd (g n refl)
 
 -- whatever stands at the place, where no step is refused
-pub step_refusals : (x : Step) (b : List ℕ) (k : ℕ) → ((n : ℕ) → x ≡ refuse n → ⊥) → (answered (has_room b) x ≡ LineAnswer.Refused k) ↔ ((k ≡ small_buffer) × (length b < least_room))
+pub step_refusals : (x : Step) (b : List ℕ) (k : ℕ) → ((n : ℕ) → x ≡ refuse n → ⊥) → (answered (has_room b) x ≡ LineAnswer.Refused (by k)) ↔ ((k ≡ small_buffer) × (length b < least_room))
 unfolding answered
 step_refusals x b k g = (
   λ e. let h = line_refused (has_room b) x k g e in (h.0, leb-false least_room (length b) h.1),
@@ -37,13 +39,13 @@ step_refusals x b k g = (
 )
 
 -- ---- of whole texts: 8, then 21
-fill_refused : (l m : Bool) (f : Fill) (n : ℕ) → filled_if l m f ≡ FillAnswer.Refused n → ((n ≡ small_buffer) × (l ≡ false)) ⊎ ((n ≡ small_ladder_buffer) × (l ≡ true) × (m ≡ false))
+fill_refused : (l m : Bool) (f : Fill) (n : ℕ) → filled_if l m f ≡ Err (by n) → ((n ≡ small_buffer) × (l ≡ false)) ⊎ ((n ≡ small_ladder_buffer) × (l ≡ true) × (m ≡ false))
 unfolding filled_if
-fill_refused false m f n e = inl (cc, refl)
-fill_refused true false f n e = inr (cc, refl, refl)
+fill_refused false m f n e = inl (sym (same_err e), refl)
+fill_refused true false f n e = inr (sym (same_err e), refl, refl)
 fill_refused true true (up_to t next) n e = let z : ◌≡◌ {A = ℕ} 0 1 = cc in absurd (omega arith)
 
-fill_left : (l m : Bool) (f : Fill) (n : ℕ) (b : List ℕ) → filled_if l m f ≡ FillAnswer.Refused n → left_if l m f b ≡ b
+fill_left : (l m : Bool) (f : Fill) (n : ℕ) (b : List ℕ) → filled_if l m f ≡ Err (by n) → left_if l m f b ≡ b
 unfolding filled_if left_if
 fill_left false m f n b e = refl
 fill_left true false f n b e = refl

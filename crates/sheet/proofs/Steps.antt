@@ -1,4 +1,5 @@
 -- The line at a place of a sheet, by where the place is and what is read there. Assumes nothing.
+use Rattle.std.specs.Prelude.{Result}
 use mathlib.Core.Path.{◌≡◌, refl, ap, ◌∙◌}
 use native.Mathlib.Omega.{arith}
 use mathlib.Core.Bool.{Bool, true, false}
@@ -10,7 +11,6 @@ use Rattle.sheet.specs.Refusals.{long_sheet}
 use Rattle.record.specs.Record.{read_record}
 use Rattle.lines.specs.Refusals.{small_buffer}
 use Rattle.lines.specs.Lines.{refusal_line, least_room, has_room, Text, text, refusal, line_for, wrote, text_left}
-use Rattle.lines.specs.declared.line.LineWritten.{LineWritten}
 use Rattle.lines.proofs.Written.{line_is}
 use Rattle.record.specs.declared.record.RecordAnswer.TheVariants as RecordAnswer
 use Rattle.sheet.specs.Inner.{stepped_by}
@@ -18,6 +18,8 @@ use Rattle.sheet.specs.Sheet.{most_bytes, line_text, Step, line, end, refuse, st
 use Rattle.record.specs.declared.record.Record.{Record}
 use Rattle.record.specs.declared.record.RecordAnswer.{RecordAnswer}
 use Rattle.sheet.specs.declared.line.LineAnswer.TheVariants as LineAnswer
+use Rattle.elementary.specs.declared.Refusal.{Refusal}
+use Rattle.elementary.specs.Checks.{by}
 
 module _ (f : Record → Text) (s : List ℕ) (at : ℕ) (a : RecordAnswer) where
   pub step_end : length s ≤ at → step_at f s at a ≡ end
@@ -42,7 +44,7 @@ module _ (s : List ℕ) (at : ℕ) where
   line_read h k = step_read line_text s at (read_record s at) h k
 
 -- ---- what `next_line` answers, and what it leaves in a buffer l
-pub no_room : (t : Step) (l : List ℕ) → length l < least_room → (LineAnswer.Refused small_buffer ≡ answered (has_room l) t) × (l ≡ left (has_room l) t l)
+pub no_room : (t : Step) (l : List ℕ) → length l < least_room → (LineAnswer.Refused (by small_buffer) ≡ answered (has_room l) t) × (l ≡ left (has_room l) t l)
 unfolding answered left
 no_room t l h = rw (lt-leb least_room (length l) h) (refl, refl)
 
@@ -56,13 +58,13 @@ unfolding stepped_by wrote text_left step_by answered left
 by_text (text t) next l = (refl, refl)
 by_text (refusal n) next l = (refl, refl)
 
-pub one_text : (t : Step) (x : Text) (next : ℕ) (l out : List ℕ) (w : LineWritten) → least_room ≤ length l → t ≡ step_by x next → w ≡ wrote x → out ≡ text_left x l
+pub one_text : (t : Step) (x : Text) (next : ℕ) (l out : List ℕ) (w : Result ℕ Refusal) → least_room ≤ length l → t ≡ step_by x next → w ≡ wrote x → out ≡ text_left x l
     → (stepped_by w next ≡ answered (has_room l) t) × (out ≡ left (has_room l) t l)
 one_text t x next l out w h e k o =
     let b = by_text x next l in
-    rw (le-leb least_room (length l) h, e) (ap (λ (v : LineWritten). stepped_by v next) k ∙ b.0, o ∙ b.1)
+    rw (le-leb least_room (length l) h, e) (ap (λ (v : Result ℕ Refusal). stepped_by v next) k ∙ b.0, o ∙ b.1)
 
-pub one_line : (t : Step) (u : List ℕ) (next : ℕ) (l out : List ℕ) (w : LineWritten) → least_room ≤ length l → t ≡ line u next → w ≡ wrote (line_for u l) → out ≡ text_left (line_for u l) l
+pub one_line : (t : Step) (u : List ℕ) (next : ℕ) (l out : List ℕ) (w : Result ℕ Refusal) → least_room ≤ length l → t ≡ line u next → w ≡ wrote (line_for u l) → out ≡ text_left (line_for u l) l
     → (stepped_by w next ≡ answered (has_room l) t) × (out ≡ left (has_room l) t l)
 unfolding step_by
 one_line t u next l out w h e k o =

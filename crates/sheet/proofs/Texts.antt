@@ -28,6 +28,7 @@ use Rattle.sheet.proofs.Steps.{step_end, step_long, step_read, step_written}
 use Rattle.sheet.proofs.Due.{step_due, step_before, step_kept}
 use Rattle.sheet.proofs.Ladders.{record_whole, whole_most}
 use Rattle.sheet.proofs.PlanLines.{plan_most}
+use Rattle.elementary.specs.Checks.{by}
 
 step_same : (f g : Record → Text) → ((r : Record) → f r ≡ g r) → (n : ℕ) (a : RecordAnswer) → step_of f n a ≡ step_of g n a
 unfolding step_of

@@ -1,5 +1,5 @@
 -- Whole texts of a kind, one after the other, in a lent buffer. Definitions only.
-use Rattle.std.specs.Prelude.{ℕ, zero, suc, ◌-◌, Bool, true, false, List, [], ◌++◌, length, leb}
+use Rattle.std.specs.Prelude.{ℕ, zero, suc, ◌-◌, Bool, true, false, List, [], ◌++◌, length, leb, Result, Ok, Err}
 use Rattle.lines.specs.Refusals.{small_buffer}
 use Rattle.ladders.specs.Refusals.{small_ladder_buffer}
 use Rattle.buffers.specs.Over.{over}
@@ -8,8 +8,8 @@ use Rattle.sheet.specs.Sheet.{Step, line, end, refuse}
 use Rattle.sheet.specs.Kinds.{room_of, text_at}
 use Rattle.sheet.specs.declared.text.Kind.{Kind}
 use Rattle.sheet.specs.declared.text.Kind.TheVariants as Kind
-use Rattle.sheet.specs.declared.fill.FillAnswer.{FillAnswer}
-use Rattle.sheet.specs.declared.fill.FillAnswer.TheVariants as FillAnswer
+use Rattle.elementary.specs.declared.Refusal.{Refusal}
+use Rattle.elementary.specs.Checks.{by}
 
 -- some texts, and the place after them
 pub data Fill : Type 0 where
@@ -32,24 +32,24 @@ unfoldable pub fill : Kind → List ℕ → ℕ → ℕ → Fill
 fill k s at room = fill_by (length s) (leb (room_of k) room) (text_at k s at) k s at room
 
 -- ---- what `fill_texts` answers, and what it leaves in the buffer: has that the room for a line, and for any text of the kind
-unfoldable pub filled_if : Bool → Bool → Fill → FillAnswer
-filled_if false m f = FillAnswer.Refused small_buffer
-filled_if true false f = FillAnswer.Refused small_ladder_buffer
-filled_if true true (up_to t next) = FillAnswer.Filled (length t) next
+unfoldable pub filled_if : Bool → Bool → Fill → Result (ℕ × ℕ) Refusal
+filled_if false m f = Err (by small_buffer)
+filled_if true false f = Err (by small_ladder_buffer)
+filled_if true true (up_to t next) = Ok (length t, next)
 
 unfoldable pub left_if : Bool → Bool → Fill → List ℕ → List ℕ
 left_if false m f b = b
 left_if true false f b = b
 left_if true true (up_to t next) b = over t b
 
-abbrev pub filled_as : Kind → List ℕ → ℕ → List ℕ → FillAnswer
+abbrev pub filled_as : Kind → List ℕ → ℕ → List ℕ → Result (ℕ × ℕ) Refusal
 filled_as k s at b = filled_if (has_room b) (leb (room_of k) (length b)) (fill k s at (length b))
 
 abbrev pub left_as : Kind → List ℕ → ℕ → List ℕ → List ℕ
 left_as k s at b = left_if (has_room b) (leb (room_of k) (length b)) (fill k s at (length b)) b
 
 -- the lines: `fill_lines`
-abbrev pub filled : List ℕ → ℕ → List ℕ → FillAnswer
+abbrev pub filled : List ℕ → ℕ → List ℕ → Result (ℕ × ℕ) Refusal
 filled s at b = filled_as Kind.Line s at b
 
 abbrev pub left_in : List ℕ → ℕ → List ℕ → List ℕ

@@ -10,6 +10,7 @@ use Rattle.sheet.specs.Sheet.{record_line, Step, line, step_at, line_at, answere
 use Rattle.record.specs.declared.record.Record.{Record}
 use Rattle.record.specs.declared.record.RecordAnswer.TheVariants as RecordAnswer
 use Rattle.sheet.specs.declared.line.LineAnswer.TheVariants as LineAnswer
+use Rattle.elementary.specs.Checks.{by}
 
 -- a record's plan, and its line
 abbrev pub plan_of : Record → FirstPlan
@@ -29,7 +30,7 @@ plan_at s at = step_at plan_text s at (read_record s at)
 pub record HorizonLines : Type 0 where
   -- a plan over the cap, and one that is refused: the very line that `next_line` writes for the record
   pub over : (r : Record) (need : Float) (b : ℕ) → plan_of r ≡ FirstPlan.OverCap need b → record_plan r ≡ record_line r
-  pub refused : (r : Record) (n : ℕ) → plan_of r ≡ FirstPlan.Refused n → record_plan r ≡ record_line r
+  pub refused : (r : Record) (n : ℕ) → plan_of r ≡ FirstPlan.Refused (by n) → record_plan r ≡ record_line r
   -- at any place: the line that `next_line` writes there, with the same next place, or that of a record whose plan has steps
   pub alike : (s : List ℕ) (at : ℕ) (t : List ℕ) (next : ℕ) → plan_at s at ≡ line t next
       → (line_at s at ≡ line t next) ⊎ ((r : Record) × (n : ℕ) × (read_record s at ≡ RecordAnswer.Record r next) × (plan_of r ≡ FirstPlan.Steps n))
@@ -37,4 +38,4 @@ pub record HorizonLines : Type 0 where
   pub fits : (s : List ℕ) (at : ℕ) (t : List ℕ) (next : ℕ) → plan_at s at ≡ line t next → length t ≤ least_room
   pub moves : (s : List ℕ) (at : ℕ) (t : List ℕ) (next : ℕ) → plan_at s at ≡ line t next → (at < next) × (next ≤ length s)
   -- 8: the buffer has fewer than 64 bytes, whatever the sheet and the place
-  pub small : (s : List ℕ) (at : ℕ) (b : List ℕ) (k : ℕ) → (answered (has_room b) (plan_at s at) ≡ LineAnswer.Refused k) ↔ ((k ≡ small_buffer) × (length b < least_room))
+  pub small : (s : List ℕ) (at : ℕ) (b : List ℕ) (k : ℕ) → (answered (has_room b) (plan_at s at) ≡ LineAnswer.Refused (by k)) ↔ ((k ≡ small_buffer) × (length b < least_room))

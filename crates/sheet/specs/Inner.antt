@@ -1,9 +1,7 @@
 -- What the crate's own functions hand each other. No public contract cites this file. Definitions only.
-use Rattle.std.specs.Prelude.{ℕ, List}
+use Rattle.std.specs.Prelude.{ℕ, List, Result, Ok, Err}
 use Rattle.record.specs.Record.{read_as}
 use Rattle.lines.specs.Lines.{Text}
-use Rattle.lines.specs.declared.line.LineWritten.{LineWritten}
-use Rattle.lines.specs.declared.line.LineWritten.TheVariants as LineWritten
 use Rattle.sheet.specs.declared.line.LineAnswer.{LineAnswer}
 use Rattle.sheet.specs.declared.line.LineAnswer.TheVariants as LineAnswer
 use Rattle.sheet.specs.Sheet.{line_text, Step, step_at}
@@ -13,6 +11,7 @@ use Rattle.sheet.specs.Kinds.{is_flat}
 use Rattle.record.specs.declared.record.Record.{Record}
 use Rattle.sheet.specs.declared.text.Kind.{Kind}
 use Rattle.sheet.specs.declared.text.Kind.TheVariants as Kind
+use Rattle.elementary.specs.declared.Refusal.{Refusal}
 
 -- a record's line, its ladder or its plan, for a buffer of so many bytes
 unfoldable pub record_text : Kind → ℕ → Record → Text
@@ -24,6 +23,6 @@ abbrev pub text_in : Kind → ℕ → List ℕ → ℕ → Step
 text_in k room s at = step_at (record_text k room) s at (read_as (is_flat k) s at)
 
 -- a step's answer, by that of a writer
-unfoldable pub stepped_by : LineWritten → ℕ → LineAnswer
-stepped_by (LineWritten.Written n) next = LineAnswer.Written n next
-stepped_by (LineWritten.Refused k) next = LineAnswer.Refused k
+unfoldable pub stepped_by : Result ℕ Refusal → ℕ → LineAnswer
+stepped_by (Ok n) next = LineAnswer.Written n next
+stepped_by (Err k) next = LineAnswer.Refused k

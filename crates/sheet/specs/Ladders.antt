@@ -1,14 +1,14 @@
 -- Change requests 4 and 7: the ladders of a sheet's records. Definitions only.
-use Rattle.std.specs.Prelude.{◌≡◌, ℕ, ◌+◌, ◌*◌, Bool, true, false, List, eqb}
+use Rattle.std.specs.Prelude.{◌≡◌, ℕ, ◌+◌, ◌*◌, Bool, true, false, List, eqb, Result, Ok, Err}
 use Rattle.model.specs.Model.{check_call}
-use Rattle.elementary.specs.declared.Check.{Check}
-use Rattle.elementary.specs.declared.Check.TheVariants as Check
 use Rattle.record.specs.Record.{config_of, read_as}
 use Rattle.ladders.specs.Refusals.{small_ladder_buffer}
 use Rattle.ladders.specs.Ladder.{ladder, ladder_for, LinesFace}
 use Rattle.lines.specs.Lines.{refusal_line, Text, text, refusal}
 use Rattle.sheet.specs.Sheet.{Step, step_at}
 use Rattle.record.specs.declared.record.Record.{Record}
+use Rattle.elementary.specs.declared.Refusal.{Refusal}
+use Rattle.elementary.specs.Checks.{by}
 
 -- ---- a record's ladder, its holding left aside: what refuses it as a whole has a line, but for the buffer's own 21
 unfoldable pub refused_by : Bool → ℕ → Text
@@ -23,9 +23,9 @@ unfoldable pub record_ladder : ℕ → Record → Text
 record_ladder room r = ladder_text (ladder_for r.mid_price (config_of r) r.volatility r.current_time room)
 
 -- that of a buffer with room for any: no refusal by 21
-unfoldable pub whole_by : Check → List ℕ → List ℕ
-whole_by (Check.Refused n) t = refusal_line n
-whole_by Check.Passes t = t
+unfoldable pub whole_by : Result Unit Refusal → List ℕ → List ℕ
+whole_by (Err r) t = refusal_line r.0
+whole_by (Ok tt) t = t
 
 unfoldable pub whole_ladder : Record → List ℕ
 whole_ladder r =
@@ -38,5 +38,5 @@ ladder_at room s at = step_at (record_ladder room) s at (read_as true s at)
 
 -- that of a stored record with itself
 abbrev pub RecordLadderMirror : Type 0
-RecordLadderMirror = (r : Record) → let c = config_of r in check_call r.mid_price c r.volatility r.current_time ≡ Check.Passes → (i j : ℕ) → i + j ≡ 2 * r.max_inventory_lots
+RecordLadderMirror = (r : Record) → let c = config_of r in check_call r.mid_price c r.volatility r.current_time ≡ (Ok tt) → (i j : ℕ) → i + j ≡ 2 * r.max_inventory_lots
     → LinesFace r.mid_price c c r.volatility r.current_time i j

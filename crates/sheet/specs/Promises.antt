@@ -1,5 +1,5 @@
 -- What holds of every sheet, as named statements. Each is proved once, in proofs/. Definitions only.
-use Rattle.std.specs.Prelude.{◌≡◌, ℕ, ◌*◌, ◌<◌, ◌≤◌, List, [], ◌++◌, length, take}
+use Rattle.std.specs.Prelude.{◌≡◌, ℕ, ◌*◌, ◌<◌, ◌≤◌, List, [], ◌++◌, length, take, Ok}
 use Rattle.lines.specs.Lines.{least_room}
 use Rattle.ladders.specs.Ladder.{most_ladder}
 use Rattle.sheet.specs.Sheet.{most_bytes, line, end, refuse, line_at, printed}
@@ -9,7 +9,6 @@ use Rattle.sheet.specs.Kinds.{room_of, text_at, printed_as}
 use Rattle.sheet.specs.Fill.{filled_as, left_as}
 use Rattle.sheet.specs.declared.text.Kind.{Kind}
 use Rattle.sheet.specs.declared.text.Kind.TheVariants as Kind
-use Rattle.sheet.specs.declared.fill.FillAnswer.TheVariants as FillAnswer
 
 -- ---- a line fits the least line buffer, whatever the sheet and the place
 abbrev pub LinesFit : Type 0
@@ -61,18 +60,18 @@ PrintedBounded = (k : Kind) (s : List ℕ) → length (printed_as k s) ≤ most_
 
 -- ---- whole texts: a fill stays within its buffer; before the end it goes on, and stays within the sheet; from the end on it fills nothing and stays
 abbrev pub FillsFit : Type 0
-FillsFit = (k : Kind) (s : List ℕ) (at : ℕ) (b : List ℕ) (n next : ℕ) → filled_as k s at b ≡ FillAnswer.Filled n next → n ≤ length b
+FillsFit = (k : Kind) (s : List ℕ) (at : ℕ) (b : List ℕ) (n next : ℕ) → filled_as k s at b ≡ Ok (n, next) → n ≤ length b
 
 abbrev pub FillsMove : Type 0
-FillsMove = (k : Kind) (s : List ℕ) (at : ℕ) (b : List ℕ) (n next : ℕ) → filled_as k s at b ≡ FillAnswer.Filled n next → at < length s → (at < next) × (next ≤ length s)
+FillsMove = (k : Kind) (s : List ℕ) (at : ℕ) (b : List ℕ) (n next : ℕ) → filled_as k s at b ≡ Ok (n, next) → at < length s → (at < next) × (next ≤ length s)
 
 abbrev pub FillsEnd : Type 0
-FillsEnd = (k : Kind) (s : List ℕ) (at : ℕ) (b : List ℕ) (n next : ℕ) → filled_as k s at b ≡ FillAnswer.Filled n next → length s ≤ at → (n ≡ 0) × (next ≡ at)
+FillsEnd = (k : Kind) (s : List ℕ) (at : ℕ) (b : List ℕ) (n next : ℕ) → filled_as k s at b ≡ Ok (n, next) → length s ≤ at → (n ≡ 0) × (next ≡ at)
 
 -- ---- the fills make the whole: fills one after the other from a place until the end, each into a buffer of its own size, and the bytes that they hand on
 pub data Fills (k : Kind) (s : List ℕ) : ℕ → List ℕ → Type 0 where
   finished : {at : ℕ} → length s ≤ at → Fills k s at []
-  onward : {at next : ℕ} {u : List ℕ} (b : List ℕ) (n : ℕ) → at < length s → filled_as k s at b ≡ FillAnswer.Filled n next → Fills k s next u
+  onward : {at next : ℕ} {u : List ℕ} (b : List ℕ) (n : ℕ) → at < length s → filled_as k s at b ≡ Ok (n, next) → Fills k s next u
       → Fills k s at (take n (left_as k s at b) ++ u)
 
 abbrev pub FillsMakeTheWhole : Type 0

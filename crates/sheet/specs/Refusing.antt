@@ -1,5 +1,5 @@
 -- Document 01 and change request 4: each of 8, 9 and 21, and the line of each of 6, 7 and 2, is the reply of this layer in just the situation named. Named statements, each proved once, in proofs/. Definitions only.
-use Rattle.std.specs.Prelude.{◌≡◌, ◌⊎◌, ◌↔◌, ℕ, ◌<◌, ◌≤◌, true, List, length, drop}
+use Rattle.std.specs.Prelude.{◌≡◌, ◌⊎◌, ◌↔◌, ℕ, ◌<◌, ◌≤◌, true, List, length, drop, Err}
 use Rattle.amounts.specs.Refusals.{limits}
 use Rattle.record.specs.Refusals.{cut_short, malformed}
 use Rattle.record.specs.Record.{config_of, read_as}
@@ -17,7 +17,7 @@ use Rattle.sheet.specs.Kinds.{room_of}
 use Rattle.sheet.specs.Fill.{filled_as, left_as, filled}
 use Rattle.sheet.specs.declared.text.Kind.{Kind}
 use Rattle.sheet.specs.declared.line.LineAnswer.TheVariants as LineAnswer
-use Rattle.sheet.specs.declared.fill.FillAnswer.TheVariants as FillAnswer
+use Rattle.elementary.specs.Checks.{by}
 
 -- before the end of a sheet that is no longer than the longest
 abbrev pub Readable : List ℕ → ℕ → Type 0
@@ -26,14 +26,14 @@ Readable s at = (at < length s) × (length s ≤ most_bytes)
 -- ==== 8: the buffer has fewer than 64 bytes, whatever the sheet and the place
 abbrev pub BufferRefusals : Type 0
 BufferRefusals = (s : List ℕ) (at : ℕ) (b : List ℕ) (k : ℕ)
-    → ((answered (has_room b) (line_at s at) ≡ LineAnswer.Refused k) ↔ ((k ≡ small_buffer) × (length b < least_room)))
-    × ((filled s at b ≡ FillAnswer.Refused k) ↔ ((k ≡ small_buffer) × (length b < least_room)))
+    → ((answered (has_room b) (line_at s at) ≡ LineAnswer.Refused (by k)) ↔ ((k ≡ small_buffer) × (length b < least_room)))
+    × ((filled s at b ≡ Err (by k)) ↔ ((k ≡ small_buffer) × (length b < least_room)))
 
 -- of whole texts: 8 likewise; then 21, where the buffer has less than the room for any text of the kind; and a refusal leaves the buffer as it was
 abbrev pub FillRefusals : Type 0
 FillRefusals = (k : Kind) (s : List ℕ) (at : ℕ) (b : List ℕ) (n : ℕ)
-    → ((filled_as k s at b ≡ FillAnswer.Refused n) ↔ (((n ≡ small_buffer) × (length b < least_room)) ⊎ ((n ≡ small_ladder_buffer) × (least_room ≤ length b) × (length b < room_of k))))
-    × (filled_as k s at b ≡ FillAnswer.Refused n → left_as k s at b ≡ b)
+    → ((filled_as k s at b ≡ Err (by n)) ↔ (((n ≡ small_buffer) × (length b < least_room)) ⊎ ((n ≡ small_ladder_buffer) × (least_room ≤ length b) × (length b < room_of k))))
+    × (filled_as k s at b ≡ Err (by n) → left_as k s at b ≡ b)
 
 -- ==== of ladders: 8 likewise; then 21, where a record is read whose ladder, which 2, 1 and 3 do not refuse, wants more room; and a refusal leaves the buffer as it was
 abbrev pub ShortLadder : List ℕ → ℕ → ℕ → Type 0
@@ -42,9 +42,9 @@ ShortLadder s at room = Readable s at × ((r : Record) × (next : ℕ) × (read_
 
 abbrev pub LadderBufferRefusals : Type 0
 LadderBufferRefusals = (s : List ℕ) (at : ℕ) (b : List ℕ) (k : ℕ)
-    → ((answered (has_room b) (ladder_at (length b) s at) ≡ LineAnswer.Refused k)
+    → ((answered (has_room b) (ladder_at (length b) s at) ≡ LineAnswer.Refused (by k))
     ↔ (((k ≡ small_buffer) × (length b < least_room)) ⊎ ((k ≡ small_ladder_buffer) × (least_room ≤ length b) × ShortLadder s at (length b))))
-    × (answered (has_room b) (ladder_at (length b) s at) ≡ LineAnswer.Refused k → left (has_room b) (ladder_at (length b) s at) b ≡ b)
+    × (answered (has_room b) (ladder_at (length b) s at) ≡ LineAnswer.Refused (by k) → left (has_room b) (ladder_at (length b) s at) b ≡ b)
 
 -- ==== the lines: `R 9` for a sheet over 65,536 bytes, before its end; else `R 6` and `R 7`, after which nothing is read, and `R 2`, after which reading goes on
 abbrev pub LongLine : Type 0

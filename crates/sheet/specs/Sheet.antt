@@ -12,6 +12,7 @@ use Rattle.record.specs.declared.record.RecordAnswer.{RecordAnswer}
 use Rattle.record.specs.declared.record.RecordAnswer.TheVariants as RecordAnswer
 use Rattle.sheet.specs.declared.line.LineAnswer.{LineAnswer}
 use Rattle.sheet.specs.declared.line.LineAnswer.TheVariants as LineAnswer
+use Rattle.elementary.specs.Checks.{by}
 
 -- the longest sheet
 abbrev pub most_bytes : ℕ
@@ -35,8 +36,8 @@ step_by (refusal n) next = refuse n
 -- of a sheet of n bytes, with f for the text of a record; after 6 or 7 nothing more is read
 unfoldable pub step_of : (Record → Text) → ℕ → RecordAnswer → Step
 step_of f n (RecordAnswer.Record r next) = step_by (f r) next
-step_of f n (RecordAnswer.Skipped k next) = line (refusal_line k) next
-step_of f n (RecordAnswer.Refused k) = line (refusal_line k) n
+step_of f n (RecordAnswer.Skipped r next) = line (refusal_line r.0) next
+step_of f n (RecordAnswer.Refused r) = line (refusal_line r.0) n
 
 -- is the place before the end, is the sheet no longer than the longest
 unfoldable pub step_if : Bool → Bool → (Record → Text) → ℕ → RecordAnswer → Step
@@ -56,10 +57,10 @@ line_at s at = step_at line_text s at (read_record s at)
 
 -- ---- what `next_line` answers, and what it leaves in the buffer: has that the room
 unfoldable pub answered : Bool → Step → LineAnswer
-answered false x = LineAnswer.Refused small_buffer
+answered false x = LineAnswer.Refused (by small_buffer)
 answered true (line t next) = LineAnswer.Written (length t) next
 answered true end = LineAnswer.End
-answered true (refuse n) = LineAnswer.Refused n
+answered true (refuse n) = LineAnswer.Refused (by n)
 
 unfoldable pub left : Bool → Step → List ℕ → List ℕ
 left false x b = b

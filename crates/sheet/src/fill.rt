@@ -5,17 +5,11 @@ ghost use Rattle.sheet.specs.Fill.{filled_as, left_as, filled, left_in};
 
 use crate::line::LineAnswer;
 use crate::text::{Kind, next_text};
+use elementary::Refusal;
 use ladders::MOST_LADDER;
 use ladders::refusals::SMALL_LADDER_BUFFER;
 use lines::LEAST_ROOM;
 use lines::refusals::SMALL_BUFFER;
-
-// The bytes that the texts take and the place of the next record, or a refusal by 8 or 21.
-#[derive(Clone, Copy)]
-pub enum FillAnswer {
-    Filled(usize, usize),
-    Refused(u8),
-}
 
 // The room for any text of a kind.
 fn room_of(kind: Kind) -> usize
@@ -29,33 +23,39 @@ fn room_of(kind: Kind) -> usize
 }
 
 // Puts the texts of a kind from a place of a sheet on into a buffer, one after the other from its
-// start, as many as fit: while there is room for any. Refused by 8, and by 21 where the buffer has
-// less than the room for any ladder, which leaves the buffer as it is.
-pub fn fill_texts(sheet: &[u8], at: usize, out: &mut [u8], kind: Kind) -> FillAnswer
+// start, as many as fit: while there is room for any. Answers how many bytes they take and the place of the
+// next record. Refused by 8, and by 21 where the buffer has less than the room for any ladder, which leaves
+// the buffer as it is.
+pub fn fill_texts(
+    sheet: &[u8],
+    at: usize,
+    out: &mut [u8],
+    kind: Kind,
+) -> Result<(usize, usize), Refusal>
     ensures value { result ≡ filled_as kind sheet.now at out.old }
     ensures out_after { out.new ≡ left_as kind sheet.now at out.old }
 {
     if out.len() < LEAST_ROOM {
-        return FillAnswer::Refused(SMALL_BUFFER);
+        return Err(SMALL_BUFFER);
     }
     let room = room_of(kind);
     if out.len() < room {
-        return FillAnswer::Refused(SMALL_LADDER_BUFFER);
+        return Err(SMALL_LADDER_BUFFER);
     }
     let mut n: usize = 0;
     let mut next = at;
     while out.len() - n >= room {
         let LineAnswer::Written(k, place) = next_text(sheet, next, &mut out[n..], kind) else {
-            return FillAnswer::Filled(n, next);
+            return Ok((n, next));
         };
         n += k;
         next = place;
     }
-    FillAnswer::Filled(n, next)
+    Ok((n, next))
 }
 
 // The same of the lines: refused by 8, which leaves the buffer as it is.
-pub fn fill_lines(sheet: &[u8], at: usize, out: &mut [u8]) -> FillAnswer
+pub fn fill_lines(sheet: &[u8], at: usize, out: &mut [u8]) -> Result<(usize, usize), Refusal>
     ensures value { result ≡ filled sheet.now at out.old }
     ensures out_after { out.new ≡ left_in sheet.now at out.old }
 {

@@ -7,11 +7,12 @@ ghost use Rattle.sheet.specs.Horizon.{record_plan, plan_at};
 
 use crate::line::LineAnswer;
 use crate::text::{Kind, next_text};
-use lines::{LineWritten, write_plan};
+use elementary::Refusal;
+use lines::write_plan;
 use record::{Record, config_of};
 
 // The line of a record's plan.
-pub(crate) fn write_record_plan(line: &mut [u8], r: Record) -> LineWritten
+pub(crate) fn write_record_plan(line: &mut [u8], r: Record) -> Result<usize, Refusal>
     ensures value { result ≡ wrote (line_for (record_plan r) line.old) }
     ensures line_after { line.new ≡ text_left (line_for (record_plan r) line.old) line.old }
 {

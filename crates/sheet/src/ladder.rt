@@ -6,24 +6,25 @@ ghost use Rattle.sheet.specs.Ladders.{record_ladder, ladder_at};
 
 use crate::line::LineAnswer;
 use crate::text::{Kind, next_text};
+use elementary::Refusal;
 use ladders::refusals::SMALL_LADDER_BUFFER;
-use ladders::{LadderAnswer, write_ladder};
-use lines::{LineWritten, write_refusal};
+use ladders::write_ladder;
+use lines::write_refusal;
 use record::{Record, config_of};
 
 // The ladder of a record, or the line of what refuses it as a whole: refused by 21.
-pub(crate) fn write_record_ladder(out: &mut [u8], r: Record) -> LineWritten
+pub(crate) fn write_record_ladder(out: &mut [u8], r: Record) -> Result<usize, Refusal>
     requires { least_room ≤ length out.old }
     ensures value { result ≡ wrote (record_ladder (length out.old) r) }
     ensures out_after { out.new ≡ text_left (record_ladder (length out.old) r) out.old }
 {
     match write_ladder(r.mid_price, config_of(r), r.volatility, r.current_time, out) {
-        LadderAnswer::Written(n) => LineWritten::Written(n),
-        LadderAnswer::Refused(number) => {
-            if number == SMALL_LADDER_BUFFER {
-                return LineWritten::Refused(number);
+        Ok(n) => Ok(n),
+        Err(refusal) => {
+            if refusal == SMALL_LADDER_BUFFER {
+                return Err(refusal);
             }
-            write_refusal(out, number)
+            write_refusal(out, refusal)
         }
     }
 }

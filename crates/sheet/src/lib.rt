@@ -8,13 +8,11 @@ mod line;
 pub mod refusals;
 mod text;
 
-pub use fill::{FillAnswer, fill_lines, fill_texts};
+pub use fill::{fill_lines, fill_texts};
 pub use horizon::next_plan;
 pub use ladder::next_ladder;
-pub use ladders::{LadderAnswer, MOST_LADDER, write_ladder};
+pub use ladders::{MOST_LADDER, write_ladder};
 pub use line::{LineAnswer, MOST_BYTES, next_line};
 pub use lines::LEAST_ROOM;
-pub use record::{
-    RECORD_ROOM, Record, RecordAnswer, SaveAnswer, config_of, read_record, save_record,
-};
+pub use record::{RECORD_ROOM, Record, RecordAnswer, config_of, read_record, save_record};
 pub use text::Kind;

@@ -4,7 +4,8 @@ ghost use Rattle.lines.specs.Lines.{has_room, line_for, wrote, text_left};
 ghost use Rattle.sheet.specs.Sheet.{record_line, line_at, answered, left};
 
 use crate::text::{Kind, next_text};
-use lines::{LineWritten, write_answer};
+use elementary::Refusal;
+use lines::write_answer;
 use quote::GLFTStrategy;
 use record::{Record, config_of};
 
@@ -16,11 +17,11 @@ pub const MOST_BYTES: usize = 65536;
 pub enum LineAnswer {
     Written(usize, usize),
     End,
-    Refused(u8),
+    Refused(Refusal),
 }
 
 // The line of a record.
-pub(crate) fn write_record(line: &mut [u8], r: Record) -> LineWritten
+pub(crate) fn write_record(line: &mut [u8], r: Record) -> Result<usize, Refusal>
     ensures value { result ≡ wrote (line_for (record_line r) line.old) }
     ensures line_after { line.new ≡ text_left (line_for (record_line r) line.old) line.old }
 {

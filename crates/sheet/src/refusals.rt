@@ -1,4 +1,5 @@
 // The number that refuses in this layer.
+use elementary::Refusal;
 
 // A sheet over 65,536 bytes.
-pub const LONG_SHEET: u8 = 9;
+pub const LONG_SHEET: Refusal = Refusal(9);

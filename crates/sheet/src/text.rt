@@ -9,8 +9,9 @@ use crate::horizon::write_record_plan;
 use crate::ladder::write_record_ladder;
 use crate::line::{LineAnswer, MOST_BYTES, write_record};
 use crate::refusals::LONG_SHEET;
+use elementary::Refusal;
 use lines::refusals::SMALL_BUFFER;
-use lines::{LEAST_ROOM, LineWritten, write_refusal};
+use lines::{LEAST_ROOM, write_refusal};
 use record::{Record, RecordAnswer, read_as};
 
 // The kinds of text.
@@ -33,7 +34,7 @@ fn is_flat(kind: Kind) -> bool
 }
 
 // A record's text.
-fn write_text(out: &mut [u8], r: Record, kind: Kind) -> LineWritten
+fn write_text(out: &mut [u8], r: Record, kind: Kind) -> Result<usize, Refusal>
     requires { least_room ≤ length out.old }
     ensures value { result ≡ wrote (record_text kind (length out.old) r) }
     ensures out_after { out.new ≡ text_left (record_text kind (length out.old) r) out.old }
@@ -46,12 +47,12 @@ fn write_text(out: &mut [u8], r: Record, kind: Kind) -> LineWritten
 }
 
 // A step's answer, by that of a writer.
-fn stepped(written: LineWritten, next: usize) -> LineAnswer
+fn stepped(written: Result<usize, Refusal>, next: usize) -> LineAnswer
     ensures { result ≡ stepped_by written next }
 {
     match written {
-        LineWritten::Written(n) => LineAnswer::Written(n, next),
-        LineWritten::Refused(number) => LineAnswer::Refused(number),
+        Ok(n) => LineAnswer::Written(n, next),
+        Err(refusal) => LineAnswer::Refused(refusal),
     }
 }
 
@@ -72,7 +73,7 @@ pub(crate) fn next_text(sheet: &[u8], at: usize, out: &mut [u8], kind: Kind) -> 
     }
     match read_as(sheet, at, is_flat(kind)) {
         RecordAnswer::Record(r, next) => stepped(write_text(out, r, kind), next),
-        RecordAnswer::Skipped(number, next) => stepped(write_refusal(out, number), next),
-        RecordAnswer::Refused(number) => stepped(write_refusal(out, number), sheet.len()),
+        RecordAnswer::Skipped(refusal, next) => stepped(write_refusal(out, refusal), next),
+        RecordAnswer::Refused(refusal) => stepped(write_refusal(out, refusal), sheet.len()),
     }
 }

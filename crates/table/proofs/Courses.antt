@@ -1,4 +1,5 @@
 -- How a call goes, one of four ways: refused by the table's checks, refused by those of `exact_quotes`, from a row that agrees, or from a vector that is made. Assumes nothing.
+use Rattle.std.specs.Prelude.{Option, Some, None, Ok, Result}
 use mathlib.Core.Path.{◌≡◌, refl, sym, ap, ◌∙◌, subst}
 use Prim.Native.Nat.{ℕ}
 use mathlib.Core.Bool.{Bool, true}
@@ -6,7 +7,7 @@ use mathlib.Core.List.{List}
 use lib.IntN.{ℤ}
 use lib.Ieee.{Float}
 use lib.Ieee.Bits.{is_true}
-use Rattle.elementary.specs.Checks.{Verdict, passes, refused, first_failing, Refuses, Passes}
+use Rattle.elementary.specs.Checks.{Verdict, passes, refused, first_failing, Refuses, Passes, by}
 use Rattle.elementary.proofs.Checks.{first_failing_lem, none_failing}
 use Rattle.plan.specs.declared.RunInput.{RunInput}
 use Rattle.vector.specs.Values.{value_vector}
@@ -17,16 +18,14 @@ use Rattle.distances.specs.declared.Answer.TheVariants as Answer
 use Rattle.amounts.specs.Amounts.{amount_ok, tau_of}
 use Rattle.model.specs.Model.{lots, model_of, model_if, model_from, model_by, input_of, exact_checks, exact_model}
 use Rattle.model.specs.declared.GLFTConfig.{GLFTConfig}
-use Rattle.model.specs.declared.ModelAnswer.{ModelAnswer}
-use Rattle.model.specs.declared.ModelAnswer.TheVariants as ModelAnswer
 use Rattle.model.proofs.Passed.{Made, stopped, passed, made as made_by, exact_passed, bound_passed, lots_passed, tau_passed, floats_passed, goes_on, exact_amounts}
 use Rattle.quote.specs.Quotes.{exact_from, exact_answer, exact_by, exact_quotes, from_if, quotes_by_answer}
 use Rattle.quote.specs.declared.ExactQuotes.{ExactQuotes}
 use Rattle.quote.specs.declared.ExactQuotes.TheVariants as ExactQuotes
 use Rattle.table.specs.Table.{table_checks, found, vector_in, kept_in, Used, answer_with, used_with, used_if, answer_if, table_used, table_answer}
 use Rattle.table.specs.Promises.{input_for, row_answer}
-use Rattle.table.specs.declared.rows.Found.{Found}
-use Rattle.table.specs.declared.rows.Found.TheVariants as Found
+use Rattle.model.specs.declared.Model.{Model}
+use Rattle.elementary.specs.declared.Refusal.{Refusal}
 
 module _ (t : List ℕ) (mid h : ℤ) (c : GLFTConfig) (vol : ℤ) (now : ℕ) where
   abbrev x : RunInput
@@ -52,20 +51,20 @@ module _ (t : List ℕ) (mid h : ℤ) (c : GLFTConfig) (vol : ℤ) (now : ℕ) w
 
   -- ---- the four ways, with the reply, the table after it, and the answer before prices
   pub data Course : Used → Answer → Type 0 where
-    table_refused : {n : ℕ} → Refuses (table_checks t) n → Course (record { reply = ExactQuotes.Refused n; table = t }) (Answer.Refused n)
-    checks_refused : {n : ℕ} → Passes (table_checks t) → Refuses (exact_checks mid h c vol now) n → Course (record { reply = ExactQuotes.Refused n; table = t }) (Answer.Refused n)
-    taken : (r : ℕ) → Passes (table_checks t) → Passes (exact_checks mid h c vol now) → found t x ≡ Found.Row r
+    table_refused : {n : ℕ} → Refuses (table_checks t) n → Course (record { reply = ExactQuotes.Refused (by n); table = t }) (Answer.Refused (by n))
+    checks_refused : {n : ℕ} → Passes (table_checks t) → Refuses (exact_checks mid h c vol now) n → Course (record { reply = ExactQuotes.Refused (by n); table = t }) (Answer.Refused (by n))
+    taken : (r : ℕ) → Passes (table_checks t) → Passes (exact_checks mid h c vol now) → found t x ≡ Some r
         → Course (record { reply = exact_by mid least (row_answer t r h c vol); table = t }) (row_answer t r h c vol)
-    made : Passes (table_checks t) → Passes (exact_checks mid h c vol now) → found t x ≡ Found.Nothing
-        → Course (record { reply = exact_quotes mid h c vol now; table = kept_in Found.Nothing (exact_quotes mid h c vol now) x (value_vector x).vector t }) (exact_answer mid h c vol now)
+    made : Passes (table_checks t) → Passes (exact_checks mid h c vol now) → found t x ≡ None
+        → Course (record { reply = exact_quotes mid h c vol now; table = kept_in None (exact_quotes mid h c vol now) x (value_vector x).vector t }) (exact_answer mid h c vol now)
 
-  by_found : Passes (table_checks t) → Passes (exact_checks mid h c vol now) → (f : Found) → found t x ≡ f
-      → Course (used_with (ModelAnswer.Model (model_of c vol) (lots h c)) mid least (tau_of c.terminal_time now) t) (answer_with (ModelAnswer.Model (model_of c vol) (lots h c)) (tau_of c.terminal_time now) t)
+  by_found : Passes (table_checks t) → Passes (exact_checks mid h c vol now) → (f : Option ℕ) → found t x ≡ f
+      → Course (used_with (Ok (model_of c vol, lots h c)) mid least (tau_of c.terminal_time now) t) (answer_with (Ok (model_of c vol, lots h c)) (tau_of c.terminal_time now) t)
   unfolding used_with answer_with vector_in kept_in exact_quotes
-  by_found p k (Found.Row r) e = rw (e, priced k (row_answer t r h c vol)) (taken r p k e)
-  by_found p k Found.Nothing e = rw (e, ← (read_exact k), priced k (exact_answer mid h c vol now)) (made p k e)
+  by_found p k (Some r) e = rw (e, priced k (row_answer t r h c vol)) (taken r p k e)
+  by_found p k None e = rw (e, ← (read_exact k), priced k (exact_answer mid h c vol now)) (made p k e)
 
-  by_model : Passes (table_checks t) → {a : ModelAnswer} → Made (exact_checks mid h c vol now) (model_of c vol) (lots h c) a
+  by_model : Passes (table_checks t) → {a : Result (Model × ℤ) Refusal} → Made (exact_checks mid h c vol now) (model_of c vol) (lots h c) a
       → Course (used_with a mid least (tau_of c.terminal_time now) t) (answer_with a (tau_of c.terminal_time now) t)
   unfolding used_with answer_with
   by_model p (stopped k) = checks_refused p k

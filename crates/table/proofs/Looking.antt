@@ -1,4 +1,5 @@
 -- What the code learns of a table, test by test: of a row, of the whole, and of the first row that agrees. Assumes nothing.
+use Rattle.std.specs.Prelude.{Some, None, Ok, Err}
 use mathlib.Core.Path.{◌≡◌, refl, sym, ◌∙◌}
 use Prim.Native.Nat.{ℕ, suc, ◌+◌, ◌*◌, ◌-◌, ◌<◌, ◌≤◌}
 use native.Mathlib.Nat.{add-zero, sub-zero}
@@ -9,14 +10,12 @@ use mathlib.Core.List.{List}
 use borrow.Author.Tests.{le-leb, lt-leb}
 use lib.Dec.{leb, eqb}
 use lib.ListN.{length}
-use Rattle.elementary.specs.Checks.{verdict, first_of, first_failing, check_of}
-use Rattle.elementary.specs.declared.Check.TheVariants as Check
+use Rattle.elementary.specs.Checks.{verdict, first_of, first_failing, check_of, by}
 use Rattle.operator.specs.Vectors.{every}
 use Rattle.operator.proofs.Lists.{never_true}
 use Rattle.table.specs.Refusals.{small_table, bad_table}
 use Rattle.table.specs.Places.{table_room, row_at, bound_at}
 use Rattle.table.specs.Table.{number, filled, next, counts_ok, row_ok, table_ok, table_checks, first_from}
-use Rattle.table.specs.declared.rows.Found.TheVariants as Found
 use Rattle.table.proofs.Checked.{row_passed}
 
 -- ---- a row that begins at a place
@@ -43,15 +42,15 @@ module _ (t : List ℕ) where
   counts_off e = rw e
 
   -- 23, 24 and neither
-  pub small_refused : length t < table_room → Check.Refused small_table ≡ check_of (first_failing (table_checks t))
+  pub small_refused : length t < table_room → Err (by small_table) ≡ check_of (first_failing (table_checks t))
   unfolding check_of first_failing first_of verdict
   small_refused h = rw (lt-leb table_room (length t) h)
 
-  pub bad_refused : table_room ≤ length t → table_ok t ≡ false → Check.Refused bad_table ≡ check_of (first_failing (table_checks t))
+  pub bad_refused : table_room ≤ length t → table_ok t ≡ false → Err (by bad_table) ≡ check_of (first_failing (table_checks t))
   unfolding check_of first_failing first_of verdict
   bad_refused h e = rw (le-leb table_room (length t) h, e)
 
-  pub table_passes : table_room ≤ length t → table_ok t ≡ true → Check.Passes ≡ check_of (first_failing (table_checks t))
+  pub table_passes : table_room ≤ length t → table_ok t ≡ true → Ok tt ≡ check_of (first_failing (table_checks t))
   unfolding check_of first_failing first_of verdict
   table_passes h e = rw (le-leb table_room (length t) h, e)
 
@@ -60,7 +59,7 @@ pub first_all : (n : ℕ) (p : ℕ → Bool) → first_from 0 n p ≡ first_from
 first_all n p = rw (sub-zero n)
 
 module _ (n : ℕ) (p : ℕ → Bool) (r : ℕ) where
-  pub first_here : r < n → p r ≡ true → first_from r (n - r) p ≡ Found.Row r
+  pub first_here : r < n → p r ≡ true → first_from r (n - r) p ≡ Some r
   unfolding first_from
   first_here h e = let k : n - r ≡ suc (n - suc r) = omega arith in rw (k, e)
 
@@ -68,6 +67,6 @@ module _ (n : ℕ) (p : ℕ → Bool) (r : ℕ) where
   unfolding first_from
   first_on h e = let k : n - r ≡ suc (n - suc r) = omega arith in rw (k, e, add-one r)
 
-  pub first_none : n ≤ r → first_from r (n - r) p ≡ Found.Nothing
+  pub first_none : n ≤ r → first_from r (n - r) p ≡ None
   unfolding first_from
   first_none h = let k : n - r ≡ 0 = omega arith in rw k

@@ -1,4 +1,5 @@
 -- 23, 24 and the numbers after them: each is the reply in just the situation that the change request names. Assumes nothing.
+use Rattle.std.specs.Prelude.{Err}
 use mathlib.Core.Path.{◌≡◌, refl, sym, ap, ◌∙◌, subst}
 use mathlib.Core.Logic.{◌↔◌, ◌⊎◌, inl, inr}
 use Prim.Native.Nat.{ℕ, zero, suc, ◌+◌, ◌*◌, ◌/◌, ◌<◌, ◌≤◌}
@@ -10,10 +11,9 @@ use lib.ListN.{length}
 use lib.Dec.{T, leb, eqb}
 use lib.IntN.{ℤ, nat_abs}
 use lib.Ieee.{Float}
-use Rattle.elementary.specs.Checks.{verdict, first_of, first_failing, check_of, Refuses, here, later, Passes}
-use Rattle.elementary.specs.declared.Check.TheVariants as Check
+use Rattle.elementary.specs.Checks.{verdict, first_of, first_failing, check_of, Refuses, here, later, Passes, by}
 use Rattle.elementary.specs.Float.{positive}
-use Rattle.elementary.proofs.Checks.{none_failing, first_failing_lem}
+use Rattle.elementary.proofs.Checks.{none_failing, first_failing_lem, same_number, same_err}
 use Rattle.operator.specs.Vectors.{every}
 use Rattle.operator.specs.Operator.{rows}
 use Rattle.operator.proofs.Lists.{never_true, failing_one}
@@ -27,7 +27,6 @@ use Rattle.distances.specs.Reading.{sides_with, read_by, answer_from}
 use Rattle.distances.specs.Refusing.{ReadFails, DistancesRefused, by_5, by_1, by_4, by_11}
 use Rattle.distances.specs.declared.Answer.{Answer}
 use Rattle.distances.specs.declared.Answer.TheVariants as Answer
-use Rattle.distances.specs.declared.Sides.TheVariants as Sides
 use Rattle.distances.proofs.Reading.{read_refusals}
 use Rattle.distances.proofs.Refusing.{distances_refusals}
 use Rattle.distances.proofs.Finite.{finite_distances}
@@ -118,46 +117,46 @@ module _ (t : List ℕ) (mid h : ℤ) (c : GLFTConfig) (vol : ℤ) (now : ℕ) w
   checks_few (later a (later b (later d (later f (here e))))) = omega arith
   checks_few {n = n} (later a (later b (later d (later f (later _ x))))) = elim x [ ]
 
-  exact_few : (n : ℕ) → exact_quotes mid h c vol now ≡ ExactQuotes.Refused n → n ≤ 14
+  exact_few : (n : ℕ) → exact_quotes mid h c vol now ≡ ExactQuotes.Refused (by n) → n ≤ 14
   unfolding ReplyKept
   exact_few n e = subst ReplyKept e (replies_kept mid h c vol now)
 
   -- the answer of a row is refused as its distances are
-  row_distances : (r n : ℕ) → (row_answer t r h c vol ≡ Answer.Refused n) ↔ (exact_distances (row_vector t r).vector (model_of c vol).k (model_of c vol).base (lots h c) ≡ Sides.Refused n)
+  row_distances : (r n : ℕ) → (row_answer t r h c vol ≡ Answer.Refused (by n)) ↔ (exact_distances (row_vector t r).vector (model_of c vol).k (model_of c vol).base (lots h c) ≡ Err (by n))
   unfolding row_vector
   row_distances r n =
       let f = read_refusals (row_vector t r) (model_of c vol).k (model_of c vol).base (lots h c) n in
       (λ e. elim (f.0 e) [ inl d ↦ let z : ◌≡◌ {A = ℕ} 0 1 = cc in absurd (omega arith) | inr y ↦ y.2 ], λ e. f.1 (inr (number t (steps_at r), refl, e)))
 
-  row_by : (r n : ℕ) → (exact_by mid least (row_answer t r h c vol) ≡ ExactQuotes.Refused n) ↔ ((row_answer t r h c vol ≡ Answer.Refused n) ⊎ PricedOf mid least (row_answer t r h c vol) n)
+  row_by : (r n : ℕ) → (exact_by mid least (row_answer t r h c vol) ≡ ExactQuotes.Refused (by n)) ↔ ((row_answer t r h c vol ≡ Answer.Refused (by n)) ⊎ PricedOf mid least (row_answer t r h c vol) n)
   row_by r n = exact_by_lem mid least (row_answer t r h c vol) n (finite_distances.answer (row_vector t r) (model_of c vol).k (model_of c vol).base (lots h c))
 
-  row_few : (r n : ℕ) → exact_by mid least (row_answer t r h c vol) ≡ ExactQuotes.Refused n → n ≤ 14
+  row_few : (r n : ℕ) → exact_by mid least (row_answer t r h c vol) ≡ ExactQuotes.Refused (by n) → n ≤ 14
   row_few r n e = elim ((row_by r n).0 e) [ inl d ↦ distances_few ((distances_refusals _ _ _ _ n).0 ((row_distances r n).0 d)) | inr p ↦ priced_few p ]
 
   -- ---- 23
-  small_only : {v : Used} {a : Answer} → Course t mid h c vol now v a → v.reply ≡ ExactQuotes.Refused small_table → length t < table_room
+  small_only : {v : Used} {a : Answer} → Course t mid h c vol now v a → v.reply ≡ ExactQuotes.Refused (by small_table) → length t < table_room
   small_only (table_refused (here d)) e = leb-false table_room (length t) d
-  small_only (table_refused (later d (here f))) e = let z : ◌≡◌ {A = ℕ} 24 23 = cc in absurd (omega arith)
-  small_only (checks_refused {n} p k) e = let z : n ≡ 23 = cc in absurd (omega (arith, checks_few k))
+  small_only (table_refused (later d (here f))) e = let z : ◌≡◌ {A = ℕ} 24 23 = same_number (let y : by 24 ≡ by 23 = cc in y) in absurd (omega arith)
+  small_only (checks_refused {n} p k) e = let z : n ≡ 23 = same_number (let y : by n ≡ by 23 = cc in y) in absurd (omega (arith, checks_few k))
   small_only (taken r p k d) e = absurd (omega (arith, row_few r 23 e))
   small_only (made p k d) e = absurd (omega (arith, exact_few 23 e))
   small_only (table_refused {n = n} (later d (later _ x))) e = elim x [ ]
 
-  small_refused : length t < table_room → (table_used t mid h c vol now).reply ≡ ExactQuotes.Refused small_table
+  small_refused : length t < table_room → (table_used t mid h c vol now).reply ≡ ExactQuotes.Refused (by small_table)
   unfolding table_used used_if first_failing first_of verdict
   small_refused k = rw (lt-leb table_room (length t) k)
 
   -- ---- 24
-  bad_only : {v : Used} {a : Answer} → Course t mid h c vol now v a → v.reply ≡ ExactQuotes.Refused bad_table → (table_room ≤ length t) × Fails t
-  bad_only (table_refused (here d)) e = let z : ◌≡◌ {A = ℕ} 23 24 = cc in absurd (omega arith)
+  bad_only : {v : Used} {a : Answer} → Course t mid h c vol now v a → v.reply ≡ ExactQuotes.Refused (by bad_table) → (table_room ≤ length t) × Fails t
+  bad_only (table_refused (here d)) e = let z : ◌≡◌ {A = ℕ} 23 24 = same_number (let y : by 23 ≡ by 24 = cc in y) in absurd (omega arith)
   bad_only (table_refused (later d (here f))) e = (leb-true table_room (length t) d, bad_fails t f)
-  bad_only (checks_refused {n} p k) e = let z : n ≡ 24 = cc in absurd (omega (arith, checks_few k))
+  bad_only (checks_refused {n} p k) e = let z : n ≡ 24 = same_number (let y : by n ≡ by 24 = cc in y) in absurd (omega (arith, checks_few k))
   bad_only (taken r p k d) e = absurd (omega (arith, row_few r 24 e))
   bad_only (made p k d) e = absurd (omega (arith, exact_few 24 e))
   bad_only (table_refused {n = n} (later d (later _ x))) e = elim x [ ]
 
-  bad_refused : table_room ≤ length t → Fails t → (table_used t mid h c vol now).reply ≡ ExactQuotes.Refused bad_table
+  bad_refused : table_room ≤ length t → Fails t → (table_used t mid h c vol now).reply ≡ ExactQuotes.Refused (by bad_table)
   unfolding table_used used_if first_failing first_of verdict
   bad_refused k f = rw (le-leb table_room (length t) k, never_true (table_ok t) (λ o. no_fails t o f))
 
@@ -166,7 +165,7 @@ module _ (t : List ℕ) (mid h : ℤ) (c : GLFTConfig) (vol : ℤ) (now : ℕ) w
     ok : table_ok t ≡ true
     ok = unfailing t p.1
 
-    early : {n : ℕ} → Refuses (exact_checks mid h c vol now) n → (table_used t mid h c vol now).reply ≡ ExactQuotes.Refused n
+    early : {n : ℕ} → Refuses (exact_checks mid h c vol now) n → (table_used t mid h c vol now).reply ≡ ExactQuotes.Refused (by n)
     unfolding table_used used_if used_with first_failing first_of verdict exact_model
     early k = rw (le-leb table_room (length t) p.0, ok, stops (model_of c vol) (lots h c) k)
 
@@ -200,7 +199,7 @@ module _ (t : List ℕ) (mid h : ℤ) (c : GLFTConfig) (vol : ℤ) (now : ℕ) w
       held : within ((row_vector t r).vector.n / 2) (lots h c) ≡ true
       held = rw halved (lots_passed h c (exact_passed mid h c vol now k).3)
 
-      row-refused : (n : ℕ) → (row_answer t r h c vol ≡ Answer.Refused n) ↔ ((n ≡ numerical) × ReadFails (row_vector t r).vector m.k m.base (place c.max_inventory_lots (lots h c)))
+      row-refused : (n : ℕ) → (row_answer t r h c vol ≡ Answer.Refused (by n)) ↔ ((n ≡ numerical) × ReadFails (row_vector t r).vector m.k m.base (place c.max_inventory_lots (lots h c)))
       row-refused n =
           let d = distances_refusals (row_vector t r).vector m.k m.base (lots h c) in
           (λ e. go ((d n).0 ((row_distances r n).0 e)), λ e. rw e.0 ((row_distances r numerical).1 ((d numerical).1 (by_11 scaled sized held (rw halved e.1)))))
@@ -211,16 +210,16 @@ module _ (t : List ℕ) (mid h : ℤ) (c : GLFTConfig) (vol : ℤ) (now : ℕ) w
           go (by_4 e i j) = absurd (subst T (sym held ∙ j) tt)
           go (by_11 e i j y) = (refl, rw halved at y)
 
-    others_only : (n : ℕ) → {v : Used} {a : Answer} → Course t mid h c vol now v a → v.reply ≡ ExactQuotes.Refused n
+    others_only : (n : ℕ) → {v : Used} {a : Answer} → Course t mid h c vol now v a → v.reply ≡ ExactQuotes.Refused (by n)
         → Refuses (exact_checks mid h c vol now) n ⊎ (Passes (exact_checks mid h c vol now) × LaterRefused t mid h c vol now n)
     others_only n (table_refused k) e = absurd (not_refused t p.0 ok k)
-    others_only n (checks_refused {n = i} g k) e = let z : i ≡ n = cc in inl (subst (Refuses (exact_checks mid h c vol now)) z k)
+    others_only n (checks_refused {n = i} g k) e = let z : i ≡ n = same_number (let y : by i ≡ by n = cc in y) in inl (subst (Refuses (exact_checks mid h c vol now)) z k)
     others_only n (taken r g k d) e =
         let f = found_first t x r d in
         elim ((row_by r n).0 e) [ inl y ↦ (let q = (row-refused k r f n).0 y in inr (k, row_read r f q.0 q.1)) | inr y ↦ inr (k, row_priced r f y) ]
     others_only n (made g k d) e = inr (k, made-refused (found_none t x d) e)
 
-    later_is : (n : ℕ) → Passes (exact_checks mid h c vol now) → LaterRefused t mid h c vol now n → {v : Used} {a : Answer} → Course t mid h c vol now v a → v.reply ≡ ExactQuotes.Refused n
+    later_is : (n : ℕ) → Passes (exact_checks mid h c vol now) → LaterRefused t mid h c vol now n → {v : Used} {a : Answer} → Course t mid h c vol now v a → v.reply ≡ ExactQuotes.Refused (by n)
     later_is n k y (table_refused d) = absurd (not_refused t p.0 ok d)
     later_is n k y (checks_refused g d) = absurd (both_ways k d)
     later_is n k (row_read r f e q) (taken i g d o) =
@@ -232,13 +231,13 @@ module _ (t : List ℕ) (mid h : ℤ) (c : GLFTConfig) (vol : ℤ) (now : ℕ) w
     later_is n k (made-refused f e) (made g d o) = e
 
 -- ---- clearing
-clear_refused : (t : List ℕ) (n : ℕ) → (cleared_by t ≡ Check.Refused n) ↔ ((n ≡ small_table) × (length t < table_room))
+clear_refused : (t : List ℕ) (n : ℕ) → (cleared_by t ≡ Err (by n)) ↔ ((n ≡ small_table) × (length t < table_room))
 unfolding check_of first_failing first_of verdict
 clear_refused t n = (λ e. go (leb table_room (length t)) refl e, λ e. rw (lt-leb table_room (length t) e.1, e.0))
   where
-    go : (b : Bool) → leb table_room (length t) ≡ b → check_of (first_of (verdict (b, small_table)) (first_failing [])) ≡ Check.Refused n → (n ≡ small_table) × (length t < table_room)
+    go : (b : Bool) → leb table_room (length t) ≡ b → check_of (first_of (verdict (b, small_table)) (first_failing [])) ≡ Err (by n) → (n ≡ small_table) × (length t < table_room)
     go true d e = let z : ◌≡◌ {A = ℕ} 0 1 = cc in absurd (omega arith)
-    go false d e = (cc, leb-false table_room (length t) d)
+    go false d e = (sym (same_err e), leb-false table_room (length t) d)
 
 pub table_refusals : TableRefusals
 table_refusals =

@@ -1,4 +1,5 @@
 -- A table that came from a cleared one: every filled row is the value vector of an input. Clearing makes it so, every call keeps it so, and every answer is then that of `exact_quotes`. Assumes nothing.
+use Rattle.std.specs.Prelude.{Some, None}
 use mathlib.Core.Path.{◌≡◌, refl, sym, ap, ◌∙◌, subst}
 use mathlib.Core.Logic.{◌≢◌}
 use Prim.Native.Nat.{ℕ, zero, suc, ◌+◌, ◌*◌, ◌%◌, ◌<◌, ◌≤◌, min}
@@ -13,7 +14,7 @@ use lib.Ieee.{Float, binary64, fits}
 use lib.Ieee.Bits.{of_bits-to_bits}
 use lib.Ieee.Fits.{mul-fits, div-fits}
 use Rattle.elementary.specs.Float.{hex}
-use Rattle.elementary.specs.Checks.{Verdict, passes, refused, verdict, first_of, first_failing, Refuses, here, later, Passes, none, each}
+use Rattle.elementary.specs.Checks.{Verdict, passes, refused, verdict, first_of, first_failing, Refuses, here, later, Passes, none, each, by}
 use Rattle.plan.specs.Plan.{room}
 use Rattle.plan.specs.declared.RunInput.{RunInput}
 use Rattle.vector.specs.Values.{value_vector}
@@ -32,7 +33,6 @@ use Rattle.quote.specs.declared.ExactQuotes.TheVariants as ExactQuotes
 use Rattle.table.specs.Places.{table_room}
 use Rattle.table.specs.Table.{number, filled, next, row_vector, row_ok, table_ok, room_checks, table_checks, found, bits, with_row, kept_in, Used, table_used, table_answer, cleared_if, cleared}
 use Rattle.table.specs.Promises.{Same, First, Passing, MadeFrom, Added, input_for, row_answer, TableCleared}
-use Rattle.table.specs.declared.rows.Found.TheVariants as Found
 use Rattle.table.proofs.Checked.{TablePassed, RowPassed, row_pass, table_pass, table_passed, agreed}
 use Rattle.table.proofs.FirstRow.{found_row}
 use Rattle.table.proofs.Courses.{Course, table_refused, checks_refused, taken, made, course, read_exact}
@@ -184,21 +184,21 @@ module _ (t : List ℕ) (mid h : ℤ) (c : GLFTConfig) (vol : ℤ) (now : ℕ) (
   x = input_for c vol now
 
   -- the row that is taken is the call's own vector
-  own_row : (r : ℕ) → found t x ≡ Found.Row r → row_vector t r ≡ value_vector x
+  own_row : (r : ℕ) → found t x ≡ Some r → row_vector t r ≡ value_vector x
   own_row r e =
       let (k, a, b) = found_row t x r e in
       let (y, g, m) = o.made_rows r k in
       m.1 ∙ ap value_vector (one_input t r y x g (input_fits c vol now) m.0 (agreed t x r a))
 
-  own_answer : Passes (exact_checks mid h c vol now) → (r : ℕ) → found t x ≡ Found.Row r → row_answer t r h c vol ≡ exact_answer mid h c vol now
+  own_answer : Passes (exact_checks mid h c vol now) → (r : ℕ) → found t x ≡ Some r → row_answer t r h c vol ≡ exact_answer mid h c vol now
   own_answer k r e = ap (λ (a : VectorAnswer). answer_from a (model_of c vol).k (model_of c vol).base (lots h c)) (own_row r e) ∙ sym (read_exact t mid h c vol now k)
 
-  refused_alone : {n : ℕ} → Refuses (exact_checks mid h c vol now) n → (exact_answer mid h c vol now ≡ Answer.Refused n)
+  refused_alone : {n : ℕ} → Refuses (exact_checks mid h c vol now) n → (exact_answer mid h c vol now ≡ Answer.Refused (by n))
   unfolding exact_answer exact_from exact_model
   refused_alone k = rw (stops (model_of c vol) (lots h c) k)
 
   -- where a vector is made: kept or not
-  kept_sound : (e : ExactQuotes) → exact_quotes mid h c vol now ≡ e → Passes (exact_checks mid h c vol now) → Sound (kept_in Found.Nothing e x (value_vector x).vector t)
+  kept_sound : (e : ExactQuotes) → exact_quotes mid h c vol now ≡ e → Passes (exact_checks mid h c vol now) → Sound (kept_in None e x (value_vector x).vector t)
   unfolding kept_in exact_quotes
   kept_sound (ExactQuotes.Quotes g s) e k =
       let d = done_of mid c.min_spread g s (model_of c vol).k (model_of c vol).base (lots h c) (value_vector x) (ap (exact_by mid c.min_spread) (sym (read_exact t mid h c vol now k)) ∙ e) in

@@ -1,4 +1,5 @@
 -- What the stores of the writers leave: of zeros, of the bits of floats, and of a row's numbers. Assumes nothing.
+use Rattle.std.specs.Prelude.{Ok, Err}
 use mathlib.Core.Path.{◌≡◌, refl, sym, ap, ◌∙◌}
 use mathlib.Core.List.{List, [], ◌∷◌, ◌++◌, map, append-nil}
 use Prim.Native.Nat.{ℕ, zero, suc, ◌+◌, ◌-◌, ◌%◌, min, ◌<◌, ◌≤◌}
@@ -9,8 +10,7 @@ use lib.ListN.{length, get_or, set, take, drop, replicate, length-set, length-ma
 use lib.Seq.{length-take-le, take_all, take_at, take-suc, drop_at, drop-cons, drop-drop, set_at, append_snoc, sets-eq}
 use borrow.Rule.Slice.PartMut.{put_mid}
 use lib.Ieee.{Float, nan}
-use Rattle.elementary.specs.Checks.{verdict, first_of, first_failing, check_of}
-use Rattle.elementary.specs.declared.Check.TheVariants as Check
+use Rattle.elementary.specs.Checks.{verdict, first_of, first_failing, check_of, by}
 use Rattle.plan.specs.declared.RunInput.{RunInput}
 use Rattle.vector.specs.declared.ValueVector.{ValueVector}
 use Rattle.distances.specs.Distances.{lent}
@@ -92,10 +92,10 @@ row_put x s v t u at f n ea ef en kw ko eu = put_back at 809 u (set (set t 0 f) 
 
 -- ---- clearing
 module _ (t : List ℕ) where
-  pub clear_passes : (out : List ℕ) → table_room ≤ length t → out ≡ replicate (length t) 0 → (Check.Passes ≡ cleared_by t) × (out ≡ cleared t)
+  pub clear_passes : (out : List ℕ) → table_room ≤ length t → out ≡ replicate (length t) 0 → (Ok tt ≡ cleared_by t) × (out ≡ cleared t)
   unfolding check_of first_failing first_of verdict cleared_if
   clear_passes out h e = rw (le-leb table_room (length t) h) (refl, e)
 
-  pub clear_refused : length t < table_room → (Check.Refused small_table ≡ cleared_by t) × (t ≡ cleared t)
+  pub clear_refused : length t < table_room → (Err (by small_table) ≡ cleared_by t) × (t ≡ cleared t)
   unfolding check_of first_failing first_of verdict cleared_if
   clear_refused h = rw (lt-leb table_room (length t) h) (refl, refl)

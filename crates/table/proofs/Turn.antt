@@ -1,4 +1,5 @@
 -- A new vector takes the rows in turn, the oldest going first. Assumes nothing.
+use Rattle.std.specs.Prelude.{Option, Some, None}
 use mathlib.Core.Path.{◌≡◌, refl, sym, ap, ◌∙◌, subst}
 use mathlib.Core.Logic.{◌≢◌}
 use Prim.Native.Nat.{ℕ, zero, suc, ◌+◌, ◌-◌, ◌%◌, ◌<◌, ◌≤◌, min, suc-le-suc}
@@ -7,7 +8,7 @@ use native.Mathlib.Omega.{arith}
 use mathlib.Core.List.{List, [], ◌∷◌, ◌++◌}
 use lib.ListN.{length}
 use lib.IntN.{ℤ}
-use Rattle.elementary.specs.Checks.{Passes}
+use Rattle.elementary.specs.Checks.{Passes, by}
 use Rattle.plan.specs.declared.RunInput.{RunInput}
 use Rattle.vector.specs.Values.{value_vector}
 use Rattle.distances.specs.declared.Answer.{Answer}
@@ -20,8 +21,6 @@ use Rattle.quote.specs.declared.ExactQuotes.TheVariants as ExactQuotes
 use Rattle.table.specs.Places.{table_room, rows_kept}
 use Rattle.table.specs.Table.{filled, next, table_checks, found, with_row, kept_in, Used, table_used, cleared}
 use Rattle.table.specs.Promises.{Call, clear, quote, after_call, after_all, NoneAgrees, Added, input_for, adds_by, adds, history, MadeFrom, At, head, tail, InTurn, RowsInTurn}
-use Rattle.table.specs.declared.rows.Found.{Found}
-use Rattle.table.specs.declared.rows.Found.TheVariants as Found
 use Rattle.table.proofs.Checked.{TablePassed, table_passed}
 use Rattle.table.proofs.Courses.{Course, table_refused, checks_refused, taken, made, course, read_exact}
 use Rattle.vector.proofs.Arrays.{Ran, ran}
@@ -40,7 +39,7 @@ module _ (t : List ℕ) (mid h : ℤ) (c : GLFTConfig) (vol : ℤ) (now : ℕ) w
       ran x s (done_of mid c.min_spread q s (model_of c vol).k (model_of c vol).base (lots h c) (value_vector x) (ap (exact_by mid c.min_spread) (sym (read_exact t mid h c vol now k)) ∙ e))
 
   -- ---- what such a call changes
-  kept_is : (q : GlftQuotes) (s : ℕ) (e : ExactQuotes) → e ≡ ExactQuotes.Quotes q s → kept_in Found.Nothing e x (value_vector x).vector t ≡ with_row x s (value_vector x).vector t
+  kept_is : (q : GlftQuotes) (s : ℕ) (e : ExactQuotes) → e ≡ ExactQuotes.Quotes q s → kept_in None e x (value_vector x).vector t ≡ with_row x s (value_vector x).vector t
   unfolding kept_in
   kept_is q s e d = rw d
 
@@ -77,16 +76,16 @@ module _ (t : List ℕ) (x : RunInput) (s : ℕ) (f : Ran x.bound s (value_vecto
       let a = added t x s f o.long o.passed in
       record { count = omega (arith, w.count, a.filled_rows); turn = omega (arith, w.turn, a.next_row); row = turn_row }
 
-adds_none : (f : Found) (n : ℕ) (x : RunInput) → adds_by f (ExactQuotes.Refused n) x ≡ []
+adds_none : (f : Option ℕ) (n : ℕ) (x : RunInput) → adds_by f (ExactQuotes.Refused (by n)) x ≡ []
 unfolding adds_by
-adds_none (Found.Row r) n x = refl
-adds_none Found.Nothing n x = refl
+adds_none (Some r) n x = refl
+adds_none None n x = refl
 
 module _ (t : List ℕ) (mid h : ℤ) (c : GLFTConfig) (vol : ℤ) (now : ℕ) (o : Sound t) (l : List RunInput) (w : InTurn t l) where
   abbrev y : RunInput
   y = input_for c vol now
 
-  turn_made : Passes (exact_checks mid h c vol now) → (e : ExactQuotes) → exact_quotes mid h c vol now ≡ e → InTurn (kept_in Found.Nothing e y (value_vector y).vector t) (adds_by Found.Nothing e y ++ l)
+  turn_made : Passes (exact_checks mid h c vol now) → (e : ExactQuotes) → exact_quotes mid h c vol now ≡ e → InTurn (kept_in None e y (value_vector y).vector t) (adds_by None e y ++ l)
   unfolding kept_in adds_by
   turn_made k (ExactQuotes.Quotes q s) e = turn_added t y s (made_ran t mid h c vol now q s k e) o l w
   turn_made k (ExactQuotes.OverStepCap need b s) e = w

@@ -1,4 +1,5 @@
 -- A row that agrees is taken as it stands; which calls change nothing; and clearing. Assumes nothing.
+use Rattle.std.specs.Prelude.{Some, None}
 use mathlib.Core.Path.{◌≡◌, refl, sym, ap, ◌∙◌, subst}
 use mathlib.Core.Logic.{◌≢◌}
 use Prim.Native.Nat.{ℕ, suc, ◌*◌, ◌+◌, ◌<◌, ◌≤◌}
@@ -9,7 +10,7 @@ use borrow.Author.Tests.{lt-leb, leb-true, leb-false, eqb-true, eqb-false}
 use lib.ListN.{length}
 use lib.Dec.{T, leb, eqb}
 use lib.IntN.{ℤ}
-use Rattle.elementary.specs.Checks.{verdict, first_of, first_failing, Refuses, here, later, Passes, none, each}
+use Rattle.elementary.specs.Checks.{verdict, first_of, first_failing, Refuses, here, later, Passes, none, each, by}
 use Rattle.elementary.proofs.Checks.{first_failing_lem, none_failing}
 use Rattle.operator.proofs.Lists.{never_true}
 use Rattle.plan.specs.declared.RunInput.{RunInput}
@@ -25,8 +26,6 @@ use Rattle.quote.specs.declared.ExactQuotes.TheVariants as ExactQuotes
 use Rattle.table.specs.Places.{table_room, steps_at}
 use Rattle.table.specs.Table.{number, filled, next, row_vector, agrees, table_ok, table_checks, found, kept_in, Used, table_used, cleared_if, cleared}
 use Rattle.table.specs.Promises.{Same, First, NoneAgrees, Fails, many_filled, far_next, next_not_count, many_steps, no_bound, large_bound, other_length, Passing, input_for, row_answer, TableTaken, TableUnchanged, TableCleared}
-use Rattle.table.specs.declared.rows.Found.{Found}
-use Rattle.table.specs.declared.rows.Found.TheVariants as Found
 use Rattle.table.proofs.Checked.{TablePassed, RowPassed, row_passed, row_pass, table_passed, table_pass, agreed, agree}
 use Rattle.table.proofs.FirstRow.{found_row, row_found, found_nothing, nothing_found}
 use Rattle.table.proofs.Courses.{Course, table_refused, checks_refused, taken, made, course}
@@ -41,19 +40,19 @@ both_ways {n = n} none x = elim x [ ]
 
 -- ---- the row that is found is the first that agrees
 module _ (t : List ℕ) (x : RunInput) where
-  pub first_found : (r : ℕ) → First t x r → found t x ≡ Found.Row r
+  pub first_found : (r : ℕ) → First t x r → found t x ≡ Some r
   first_found r f = row_found t x r f.row (agree t x r f.same) (λ i k. never_true (agrees t x i) (λ e. f.before i k (agreed t x i e)))
 
-  pub found_first : (r : ℕ) → found t x ≡ Found.Row r → First t x r
+  pub found_first : (r : ℕ) → found t x ≡ Some r → First t x r
   found_first r e = let (k, a, b) = found_row t x r e in record { row = k; same = agreed t x r a; before = λ i h s. absurd (subst T (sym (agree t x i s) ∙ b i h) tt) }
 
-  pub found_none : found t x ≡ Found.Nothing → NoneAgrees t x
+  pub found_none : found t x ≡ None → NoneAgrees t x
   found_none e i k s = absurd (subst T (sym (agree t x i s) ∙ found_nothing t x e i k) tt)
 
-  pub one_first : (r p : ℕ) → First t x r → found t x ≡ Found.Row p → p ≡ r
-  one_first r p f e = let z : Found.Row p ≡ Found.Row r = sym e ∙ first_found r f in cc
+  pub one_first : (r p : ℕ) → First t x r → found t x ≡ Some p → p ≡ r
+  one_first r p f e = let z : Some p ≡ Some r = sym e ∙ first_found r f in cc
 
-  pub first_some : (r : ℕ) → First t x r → found t x ≡ Found.Nothing → ⊥
+  pub first_some : (r : ℕ) → First t x r → found t x ≡ None → ⊥
   first_some r f e = found_none e r f.row f.same
 
 -- ---- a table passes just where nothing that 24 names is there
@@ -128,7 +127,7 @@ module _ (t : List ℕ) (mid h : ℤ) (c : GLFTConfig) (vol : ℤ) (now : ℕ) w
       sym z ∙ ap (λ (i : ℕ). number t (steps_at i)) (one_first t x r m f d)
   taken_steps r q s f (made g n d) e = absurd (first_some t x r f d)
 
-  kept_not : (e : ExactQuotes) → ((q : GlftQuotes) (s : ℕ) → e ≡ ExactQuotes.Quotes q s → ⊥) → kept_in Found.Nothing e x (value_vector x).vector t ≡ t
+  kept_not : (e : ExactQuotes) → ((q : GlftQuotes) (s : ℕ) → e ≡ ExactQuotes.Quotes q s → ⊥) → kept_in None e x (value_vector x).vector t ≡ t
   unfolding kept_in
   kept_not (ExactQuotes.Quotes q s) n = absurd (n q s refl)
   kept_not (ExactQuotes.OverStepCap need b s) n = refl

@@ -1,7 +1,6 @@
 -- Change request 8, as named statements. Each is proved once, in proofs/. Definitions only.
-use Rattle.std.specs.Prelude.{◌≡◌, ◌⊎◌, ◌↔◌, ◌≢◌, ℕ, suc, ◌+◌, ◌*◌, ◌-◌, ◌%◌, ◌<◌, ◌≤◌, min, List, [], ◌∷◌, ◌++◌, length, ℤ, neg_ℤ}
-use Rattle.elementary.specs.Checks.{Refuses, Passes}
-use Rattle.elementary.specs.declared.Check.TheVariants as Check
+use Rattle.std.specs.Prelude.{◌≡◌, ◌⊎◌, ◌↔◌, ◌≢◌, ℕ, suc, ◌+◌, ◌*◌, ◌-◌, ◌%◌, ◌<◌, ◌≤◌, min, List, [], ◌∷◌, ◌++◌, length, ℤ, neg_ℤ, Option, Some, None, Err}
+use Rattle.elementary.specs.Checks.{Refuses, Passes, by}
 use Rattle.operator.specs.Vectors.{at}
 use Rattle.plan.specs.Plan.{cap, room, largest_bound}
 use Rattle.plan.specs.declared.RunInput.{RunInput}
@@ -26,8 +25,6 @@ use Rattle.quote.specs.declared.ExactQuotes.TheVariants as ExactQuotes
 use Rattle.table.specs.Refusals.{small_table, bad_table}
 use Rattle.table.specs.Places.{table_room, rows_kept, filled_at, next_at, row_size, row_at, steps_at, length_at, bound_at, alpha_at, beta_at, eta_at, tau_at, weight_at, offset_at}
 use Rattle.table.specs.Table.{number, filled, next, row_vector, bits, found, table_used, table_answer, cleared_by, cleared}
-use Rattle.table.specs.declared.rows.Found.{Found}
-use Rattle.table.specs.declared.rows.Found.TheVariants as Found
 
 -- ---- the calls of both desks, in any order, clearing among them; each has its own numbers
 pub data Call : Type 0 where
@@ -135,11 +132,11 @@ pub record Added (t u : List ℕ) (x : RunInput) (s : ℕ) (v : ValueVector) : T
 
 -- ---- the rows are taken in turn, the oldest going first
 -- what a call adds: its own input, where no row agrees and it ends in quotes
-unfoldable pub adds_by : Found → ExactQuotes → RunInput → List RunInput
-adds_by (Found.Row r) e x = []
-adds_by Found.Nothing (ExactQuotes.Quotes q s) x = x ∷ []
-adds_by Found.Nothing (ExactQuotes.OverStepCap need b s) x = []
-adds_by Found.Nothing (ExactQuotes.Refused n) x = []
+unfoldable pub adds_by : Option ℕ → ExactQuotes → RunInput → List RunInput
+adds_by (Some r) e x = []
+adds_by None (ExactQuotes.Quotes q s) x = x ∷ []
+adds_by None (ExactQuotes.OverStepCap need b s) x = []
+adds_by None (ExactQuotes.Refused n) x = []
 
 abbrev pub adds : List ℕ → ℤ → ℤ → GLFTConfig → ℤ → ℕ → List RunInput
 adds t mid h c vol now = adds_by (found t (input_for c vol now)) (table_used t mid h c vol now).reply (input_for c vol now)
@@ -177,18 +174,18 @@ pub data LaterRefused (t : List ℕ) (mid h : ℤ) (c : GLFTConfig) (vol : ℤ) 
   row_read : (r : ℕ) → First t (input_for c vol now) r → n ≡ numerical → ReadFails (row_vector t r).vector (model_of c vol).k (model_of c vol).base (place c.max_inventory_lots (lots h c))
       → LaterRefused t mid h c vol now n
   row_priced : (r : ℕ) → First t (input_for c vol now) r → PricedOf mid c.min_spread (row_answer t r h c vol) n → LaterRefused t mid h c vol now n
-  made : NoneAgrees t (input_for c vol now) → exact_quotes mid h c vol now ≡ ExactQuotes.Refused n → LaterRefused t mid h c vol now n
+  made : NoneAgrees t (input_for c vol now) → exact_quotes mid h c vol now ≡ ExactQuotes.Refused (by n) → LaterRefused t mid h c vol now n
 
 pub record TableRefusals : Type 0 where
-  pub small : (t : List ℕ) (mid h : ℤ) (c : GLFTConfig) (vol : ℤ) (now : ℕ) → ((table_used t mid h c vol now).reply ≡ ExactQuotes.Refused small_table) ↔ (length t < table_room)
+  pub small : (t : List ℕ) (mid h : ℤ) (c : GLFTConfig) (vol : ℤ) (now : ℕ) → ((table_used t mid h c vol now).reply ≡ ExactQuotes.Refused (by small_table)) ↔ (length t < table_room)
   pub bad : (t : List ℕ) (mid h : ℤ) (c : GLFTConfig) (vol : ℤ) (now : ℕ)
-      → ((table_used t mid h c vol now).reply ≡ ExactQuotes.Refused bad_table) ↔ ((table_room ≤ length t) × Fails t)
+      → ((table_used t mid h c vol now).reply ≡ ExactQuotes.Refused (by bad_table)) ↔ ((table_room ≤ length t) × Fails t)
   -- on a table that passes: the checks of `exact_quotes`, and then the vector's and the prices'
   pub others : (t : List ℕ) (mid h : ℤ) (c : GLFTConfig) (vol : ℤ) (now n : ℕ) → Passing t
-      → ((table_used t mid h c vol now).reply ≡ ExactQuotes.Refused n)
+      → ((table_used t mid h c vol now).reply ≡ ExactQuotes.Refused (by n))
       ↔ (Refuses (exact_checks mid h c vol now) n ⊎ (Passes (exact_checks mid h c vol now) × LaterRefused t mid h c vol now n))
   -- clearing knows 23 alone
-  pub clearing : (t : List ℕ) (n : ℕ) → (cleared_by t ≡ Check.Refused n) ↔ ((n ≡ small_table) × (length t < table_room))
+  pub clearing : (t : List ℕ) (n : ℕ) → (cleared_by t ≡ Err (by n)) ↔ ((n ≡ small_table) × (length t < table_room))
 
 -- ==== clearing: every number is 0, and there are as many
 pub record TableCleared : Type 0 where

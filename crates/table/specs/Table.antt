@@ -1,10 +1,9 @@
 -- Change request 8: a table of value vectors, which two desks share. Definitions only.
-use Rattle.std.specs.Prelude.{ℕ, zero, suc, ◌+◌, ◌%◌, min, Bool, ◌&&◌, ◌||◌, cond, List, [], ◌∷◌, ◌++◌, map, length, get_or, set, take, drop, replicate, ℤ, leb, eqb, Float}
+use Rattle.std.specs.Prelude.{ℕ, zero, suc, ◌+◌, ◌%◌, min, Bool, ◌&&◌, ◌||◌, cond, List, [], ◌∷◌, ◌++◌, map, length, get_or, set, take, drop, replicate, ℤ, leb, eqb, Float, Option, Some, None, Result, Ok, Err}
 use Rattle.std.specs.Float.{binary64}
 use Rattle.std.specs.Float.Ieee.{to_bits}
 use Rattle.elementary.specs.Float.{hex}
-use Rattle.elementary.specs.Checks.{Verdict, passes, refused, first_failing, check_of}
-use Rattle.elementary.specs.declared.Check.{Check}
+use Rattle.elementary.specs.Checks.{Verdict, passes, refused, first_failing, check_of, by}
 use Rattle.operator.specs.Vectors.{tab, every}
 use Rattle.operator.specs.Operator.{rows}
 use Rattle.plan.specs.Plan.{cap, room, bound_ok}
@@ -20,15 +19,13 @@ use Rattle.distances.specs.declared.Answer.TheVariants as Answer
 use Rattle.amounts.specs.Amounts.{tau_of}
 use Rattle.model.specs.Model.{input_of, exact_model}
 use Rattle.model.specs.declared.GLFTConfig.{GLFTConfig}
-use Rattle.model.specs.declared.ModelAnswer.{ModelAnswer}
-use Rattle.model.specs.declared.ModelAnswer.TheVariants as ModelAnswer
 use Rattle.quote.specs.Quotes.{quotes_by_answer}
 use Rattle.quote.specs.declared.ExactQuotes.{ExactQuotes}
 use Rattle.quote.specs.declared.ExactQuotes.TheVariants as ExactQuotes
 use Rattle.table.specs.Refusals.{small_table, bad_table}
 use Rattle.table.specs.Places.{table_room, rows_kept, filled_at, next_at, row_at, steps_at, length_at, bound_at, alpha_at, beta_at, eta_at, tau_at, weight_at, offset_at}
-use Rattle.table.specs.declared.rows.Found.{Found}
-use Rattle.table.specs.declared.rows.Found.TheVariants as Found
+use Rattle.elementary.specs.declared.Refusal.{Refusal}
+use Rattle.model.specs.declared.Model.{Model}
 
 -- ---- what a table holds
 abbrev pub number : List ℕ → ℕ → ℕ
@@ -77,12 +74,12 @@ agrees t x r =
     && eqb (number t (tau_at r)) (bits x.tau)
 
 -- the first of n rows, from row r on, of which p holds
-unfoldable pub first_from : ℕ → ℕ → (ℕ → Bool) → Found
-first_from r zero p = Found.Nothing
-first_from r (suc n) p = cond (p r) (Found.Row r) (first_from (suc r) n p)
+unfoldable pub first_from : ℕ → ℕ → (ℕ → Bool) → Option ℕ
+first_from r zero p = None
+first_from r (suc n) p = cond (p r) (Some r) (first_from (suc r) n p)
 
 -- of the filled rows the first that agrees
-abbrev pub found : List ℕ → RunInput → Found
+abbrev pub found : List ℕ → RunInput → Option ℕ
 found t x = first_from 0 (filled t) (agrees t x)
 
 -- ---- a new row takes the place of the oldest: the rows are taken in turn
@@ -100,16 +97,16 @@ with_row x s v t = put_at (row_at (next t)) (row_numbers x s v) (set (set t fill
 
 -- ---- a call
 -- its vector: the row that was found, as it stands, or the one that is made
-unfoldable pub vector_in : Found → List ℕ → RunInput → VectorAnswer
-vector_in (Found.Row r) t x = row_vector t r
-vector_in Found.Nothing t x = value_vector x
+unfoldable pub vector_in : Option ℕ → List ℕ → RunInput → VectorAnswer
+vector_in (Some r) t x = row_vector t r
+vector_in None t x = value_vector x
 
 -- the table after it: a vector that was made is kept where the call ends in quotes
-unfoldable pub kept_in : Found → ExactQuotes → RunInput → ValueVector → List ℕ → List ℕ
-kept_in (Found.Row r) e x v t = t
-kept_in Found.Nothing (ExactQuotes.Quotes q s) x v t = with_row x s v t
-kept_in Found.Nothing (ExactQuotes.OverStepCap need b s) x v t = t
-kept_in Found.Nothing (ExactQuotes.Refused n) x v t = t
+unfoldable pub kept_in : Option ℕ → ExactQuotes → RunInput → ValueVector → List ℕ → List ℕ
+kept_in (Some r) e x v t = t
+kept_in None (ExactQuotes.Quotes q s) x v t = with_row x s v t
+kept_in None (ExactQuotes.OverStepCap need b s) x v t = t
+kept_in None (ExactQuotes.Refused n) x v t = t
 
 -- the reply, and the table after it
 pub record Used : Type 0 where
@@ -117,9 +114,9 @@ pub record Used : Type 0 where
   pub table : List ℕ
 
 -- by the model: from its vector, or refused by 2, 1, 3, 4 or 5
-unfoldable pub used_with : ModelAnswer → ℤ → ℤ → Float → List ℕ → Used
-used_with (ModelAnswer.Refused n) mid least tau t = record { reply = ExactQuotes.Refused n; table = t }
-used_with (ModelAnswer.Model m q) mid least tau t =
+unfoldable pub used_with : Result (Model × ℤ) Refusal → ℤ → ℤ → Float → List ℕ → Used
+used_with (Err n) mid least tau t = record { reply = ExactQuotes.Refused n; table = t }
+used_with (Ok (m, q)) mid least tau t =
     let x = input_of m tau in
     let f = found t x in
     let a = vector_in f t x in
@@ -129,20 +126,20 @@ used_with (ModelAnswer.Model m q) mid least tau t =
 -- by the table's checks, which come first
 unfoldable pub used_if : Verdict → List ℕ → Used → Used
 used_if passes t u = u
-used_if (refused n) t u = record { reply = ExactQuotes.Refused n; table = t }
+used_if (refused n) t u = record { reply = ExactQuotes.Refused (by n); table = t }
 
 -- of a table, the mid, the holding, the configuration, the volatility and the current time
 unfoldable pub table_used : List ℕ → ℤ → ℤ → GLFTConfig → ℤ → ℕ → Used
 table_used t mid h c vol now = used_if (first_failing (table_checks t)) t (used_with (exact_model mid h c vol now) mid c.min_spread (tau_of c.terminal_time now) t)
 
 -- the answer before prices, which the reply is made from
-unfoldable pub answer_with : ModelAnswer → Float → List ℕ → Answer
-answer_with (ModelAnswer.Refused n) tau t = Answer.Refused n
-answer_with (ModelAnswer.Model m q) tau t = let x = input_of m tau in answer_from (vector_in (found t x) t x) m.k m.base q
+unfoldable pub answer_with : Result (Model × ℤ) Refusal → Float → List ℕ → Answer
+answer_with (Err n) tau t = Answer.Refused n
+answer_with (Ok (m, q)) tau t = let x = input_of m tau in answer_from (vector_in (found t x) t x) m.k m.base q
 
 unfoldable pub answer_if : Verdict → Answer → Answer
 answer_if passes a = a
-answer_if (refused n) a = Answer.Refused n
+answer_if (refused n) a = Answer.Refused (by n)
 
 unfoldable pub table_answer : List ℕ → ℤ → ℤ → GLFTConfig → ℤ → ℕ → Answer
 table_answer t mid h c vol now = answer_if (first_failing (table_checks t)) (answer_with (exact_model mid h c vol now) (tau_of c.terminal_time now) t)
@@ -152,7 +149,7 @@ unfoldable pub cleared_if : Verdict → List ℕ → List ℕ
 cleared_if passes t = replicate (length t) 0
 cleared_if (refused n) t = t
 
-abbrev pub cleared_by : List ℕ → Check
+abbrev pub cleared_by : List ℕ → Result Unit Refusal
 cleared_by t = check_of (first_failing (room_checks t))
 
 abbrev pub cleared : List ℕ → List ℕ

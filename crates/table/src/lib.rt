@@ -7,32 +7,29 @@ pub mod refusals;
 mod rows;
 mod writing;
 
-ghost use Rattle.std.specs.Prelude.{◌≡◌, true, ◌≤◌, length};
+ghost use Rattle.std.specs.Prelude.{◌≡◌, true, ◌≤◌, length, Ok, None};
 ghost use Rattle.quote.specs.Quotes.{quotes_by_answer};
 ghost use Rattle.distances.specs.Reading.{answer_from};
 ghost use Rattle.vector.specs.Values.{value_vector};
-ghost use Rattle.model.specs.declared.ModelAnswer.TheVariants as ModelAnswer;
 ghost use Rattle.table.specs.Places.{table_room};
 ghost use Rattle.table.specs.Table.{kept_in, used_with, table_used, cleared_by, cleared, table_ok};
-ghost use Rattle.table.specs.declared.rows.Found.TheVariants as Found;
 
-use elementary::Check;
-use model::{GLFTConfig, Model, ModelAnswer};
+use elementary::Refusal;
+use model::{GLFTConfig, Model};
 pub use places::TABLE_ROOM;
 use quote::{ExactQuotes, quotes_by};
-use rows::Found;
 use vector::RunInput;
 
 // Sets every number of a table to 0: refused by 23, and by nothing else.
-pub fn clear_table(table: &mut [u64]) -> Check
+pub fn clear_table(table: &mut [u64]) -> Result<(), Refusal>
     ensures value { result ≡ cleared_by table.old }
     ensures table_after { table.new ≡ cleared table.old }
 {
     if TABLE_ROOM <= table.len() {
         writing::set_zeros(table);
-        return Check::Passes;
+        return Ok(());
     }
-    Check::Refused(refusals::SMALL_TABLE)
+    Err(refusals::SMALL_TABLE)
 }
 
 // The quotes from a vector that is made, which is kept where there are quotes.
@@ -47,7 +44,7 @@ fn made_quotes(
 ) -> ExactQuotes
     requires { (table_room ≤ length table.old) × (table_ok table.old ≡ true) }
     ensures value { result ≡ quotes_by_answer mid least (answer_from (value_vector input) k base q) }
-    ensures table_after { table.new ≡ kept_in Found.Nothing result input (value_vector input).vector table.old }
+    ensures table_after { table.new ≡ kept_in None result input (value_vector input).vector table.old }
 {
     let a = vector::value_vector(input);
     let outcome = a.outcome;
@@ -81,13 +78,13 @@ fn made_quotes(
 // The quotes of a model at q lots: from the first row that agrees, or from a vector that is made.
 fn model_quotes(table: &mut [u64], mid: i64, least: i64, m: Model, q: i64, tau: f64) -> ExactQuotes
     requires { (table_room ≤ length table.old) × (table_ok table.old ≡ true) }
-    ensures value { result ≡ (used_with (ModelAnswer.Model m q) mid least tau table.old).reply }
-    ensures table_after { table.new ≡ (used_with (ModelAnswer.Model m q) mid least tau table.old).table }
+    ensures value { result ≡ (used_with (Ok (m, q)) mid least tau table.old).reply }
+    ensures table_after { table.new ≡ (used_with (Ok (m, q)) mid least tau table.old).table }
 {
     let input = model::run_input(m, tau);
     match rows::find(table, input) {
-        Found::Row(r) => quotes_by(mid, least, rows::answer_of_row(table, r, m.k, m.base, q)),
-        Found::Nothing => made_quotes(table, mid, least, m.k, m.base, q, input),
+        Some(r) => quotes_by(mid, least, rows::answer_of_row(table, r, m.k, m.base, q)),
+        None => made_quotes(table, mid, least, m.k, m.base, q, input),
     }
 }
 
@@ -106,18 +103,18 @@ pub fn table_quotes(
     ensures table_after { table.new ≡ (table_used table.old mid_price inventory config volatility current_time).table }
 {
     match rows::check_table(table) {
-        Check::Passes => {}
-        Check::Refused(number) => {
-            return ExactQuotes::Refused(number);
+        Ok(()) => {}
+        Err(refusal) => {
+            return ExactQuotes::Refused(refusal);
         }
     }
     let terminal = config.terminal_time;
     let least = config.min_spread;
     match Model::exact(mid_price, inventory, config, volatility, current_time) {
-        ModelAnswer::Model(m, q) => {
+        Ok((m, q)) => {
             let tau = amounts::seconds_to_terminal(terminal, current_time);
             model_quotes(table, mid_price, least, m, q, tau)
         }
-        ModelAnswer::Refused(number) => ExactQuotes::Refused(number),
+        Err(refusal) => ExactQuotes::Refused(refusal),
     }
 }

@@ -12,15 +12,8 @@ use crate::places::{
 };
 use crate::refusals::{BAD_TABLE, SMALL_TABLE};
 use distances::Answer;
-use elementary::{Check, bits_of};
+use elementary::{Refusal, bits_of};
 use vector::{MAX_EXPM_STEPS, MAX_INVENTORY_LOTS, RunInput};
-
-// The first row that agrees, if one does.
-#[derive(Clone, Copy)]
-pub(crate) enum Found {
-    Row(usize),
-    Nothing,
-}
 
 // Whether the two counts are such as calls leave them.
 fn counts_fit(filled: u64, next: u64) -> bool
@@ -71,16 +64,16 @@ fn table_fits(table: &[u64]) -> bool
 }
 
 // Whether a table passes: refused by 23, then 24.
-pub(crate) fn check_table(table: &[u64]) -> Check
+pub(crate) fn check_table(table: &[u64]) -> Result<(), Refusal>
     ensures { result ≡ check_of (first_failing (table_checks table.now)) }
 {
     if TABLE_ROOM <= table.len() {
         if table_fits(table) {
-            return Check::Passes;
+            return Ok(());
         }
-        return Check::Refused(BAD_TABLE);
+        return Err(BAD_TABLE);
     }
-    Check::Refused(SMALL_TABLE)
+    Err(SMALL_TABLE)
 }
 
 // Whether a row's vector was made from this input: the bound agrees, and each float bit for bit.
@@ -96,8 +89,8 @@ fn row_agrees(table: &[u64], r: usize, input: RunInput) -> bool
         & (table[at + TAU] == bits_of(input.tau))
 }
 
-// The first filled row that agrees.
-pub(crate) fn find(table: &[u64], input: RunInput) -> Found
+// The first filled row that agrees, if one does.
+pub(crate) fn find(table: &[u64], input: RunInput) -> Option<usize>
     requires { (table_room ≤ length table.now) × (filled table.now ≤ rows_kept) }
     ensures { result ≡ found table.now input }
 {
@@ -105,11 +98,11 @@ pub(crate) fn find(table: &[u64], input: RunInput) -> Found
     let mut r: usize = 0;
     while r < rows {
         if row_agrees(table, r, input) {
-            return Found::Row(r);
+            return Some(r);
         }
         r += 1;
     }
-    Found::Nothing
+    None
 }
 
 // The answer at q lots from a row as it stands, whose weights and offsets are lent: none is copied.

@@ -25,7 +25,6 @@ mod numbers;
 mod setting;
 
 use desk::{amount_at, config_at, put_exact};
-use elementary::Check;
 use harness::{
     LARGEST_BOUND, first, make_room, put, put_cut, put_number, put_refusal, read_block, word_at,
 };
@@ -73,8 +72,8 @@ fn put_zeros(out: &mut [u8], at: usize, table: &[u64]) -> usize {
 // Clears the table.
 fn put_cleared(out: &mut [u8], at: usize, table: &mut [u64]) -> usize {
     match clear_table(table) {
-        Check::Passes => put_zeros(out, at, table),
-        Check::Refused(number) => put_refusal(out, at, number),
+        Ok(()) => put_zeros(out, at, table),
+        Err(refusal) => put_refusal(out, at, refusal.0),
     }
 }
 
@@ -118,7 +117,7 @@ fn put_quoted(out: &mut [u8], start: usize, s: &[u8], at: usize, table: &mut [u6
 // Quotes, or refuses a bound that 32 bits do not hold.
 fn put_call(out: &mut [u8], start: usize, s: &[u8], at: usize, table: &mut [u64]) -> usize {
     if word_at(s, at, 48) > LARGEST_BOUND {
-        return put_refusal(out, start, LIMITS);
+        return put_refusal(out, start, LIMITS.0);
     }
     put_quoted(out, start, s, at, table)
 }
@@ -195,15 +194,9 @@ fn put_lines(
     Progress { used, lent }
 }
 
-// What may follow a block: more, with as many numbers for the next call, or nothing.
-#[derive(Clone, Copy)]
-enum Ahead {
-    More(usize),
-    Nothing,
-}
-
-// Reads a block and writes its lines. A full one holds whole records, and more may follow it.
-fn run_block(numbers: &mut [u64], lent: usize) -> Ahead {
+// Reads a block and writes its lines. A full one holds whole records, and more may follow it: then it answers
+// how many numbers the next call gets.
+fn run_block(numbers: &mut [u64], lent: usize) -> Option<usize> {
     let mut block = io::large_buffer();
     let n = read_block(&mut block, BLOCK);
     let mut out = io::large_buffer();
@@ -211,9 +204,9 @@ fn run_block(numbers: &mut [u64], lent: usize) -> Ahead {
     let used = put_cut(&mut out, lines.used, n % RECORD);
     // where standard output takes no more, nothing more is read
     if io::write_all(harness::STDOUT, first(&out, used)) && n == BLOCK {
-        return Ahead::More(lines.lent);
+        return Some(lines.lent);
     }
-    Ahead::Nothing
+    None
 }
 
 fn main() {
@@ -222,7 +215,7 @@ fn main() {
     let mut lent = TABLE_ROOM;
     let mut blocks = harness::MANY;
     while blocks > 0 {
-        let Ahead::More(n) = run_block(numbers, lent) else {
+        let Some(n) = run_block(numbers, lent) else {
             return;
         };
         lent = n;

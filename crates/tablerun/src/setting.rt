@@ -8,53 +8,46 @@ use table::places::{
 };
 use vector::MAX_DIM;
 
-// Where a number stands in a table.
-#[derive(Clone, Copy)]
-enum Place {
-    At(usize),
-    Nowhere,
-}
-
 // The weight or the offset of a place, from the first one on.
-fn entry_place(first: usize, place: u64) -> Place
+fn entry_place(first: usize, place: u64) -> Option<usize>
     requires { first < 4096 }
 {
     if place < MAX_DIM as u64 {
-        return Place::At(first + place as usize);
+        return Some(first + place as usize);
     }
-    Place::Nowhere
+    None
 }
 
 // The number with a role in the row that begins at a place.
-fn place_in_row(row: usize, role: u64, place: u64) -> Place
+fn place_in_row(row: usize, role: u64, place: u64) -> Option<usize>
     requires { row ≤ 2429 }
 {
     match role {
-        2 => Place::At(row + STEPS),
-        3 => Place::At(row + LENGTH),
-        4 => Place::At(row + BOUND),
-        5 => Place::At(row + ALPHA),
-        6 => Place::At(row + BETA),
-        7 => Place::At(row + ETA),
-        8 => Place::At(row + TAU),
+        2 => Some(row + STEPS),
+        3 => Some(row + LENGTH),
+        4 => Some(row + BOUND),
+        5 => Some(row + ALPHA),
+        6 => Some(row + BETA),
+        7 => Some(row + ETA),
+        8 => Some(row + TAU),
         9 => entry_place(row + WEIGHTS, place),
         10 => entry_place(row + OFFSETS, place),
-        _ => Place::Nowhere,
+        _ => None,
     }
 }
 
 // The number with a role, in a row and at a place where the role has them.
-fn place_of(role: u64, row: u64, place: u64) -> Place {
+fn place_of(role: u64, row: u64, place: u64) -> Option<usize> {
     if role == 0 {
-        return Place::At(FILLED);
+        return Some(FILLED);
     }
     if role == 1 {
-        return Place::At(NEXT);
+        return Some(NEXT);
     }
     if row < ROWS {
         return place_in_row(FIRST_ROW + row as usize * ROW, role, place);
     }
-    Place::Nowhere
+    None
 }
 
 // Sets the number with a role, if the table has room for the rows and there is such a number.
@@ -62,7 +55,7 @@ pub(crate) fn set_number(table: &mut [u64], role: u64, row: u64, place: u64, bit
     if table.len() < TABLE_ROOM {
         return;
     }
-    let Place::At(i) = place_of(role, row, place) else {
+    let Some(i) = place_of(role, row, place) else {
         return;
     };
     if i < table.len() {

@@ -21,6 +21,7 @@ use Rattle.plan.specs.declared.FirstPlan.{FirstPlan}
 use Rattle.plan.proofs.Plans.{planned_some, planned_within, planned_same}
 use Rattle.plan.proofs.Ahead.{begun, first_begins, first_when}
 use Rattle.vector.proofs.RunLaws.{on_ended}
+use Rattle.elementary.specs.Checks.{by}
 
 module _ (x : RunInput) where
   abbrev p : Fixed
@@ -37,7 +38,7 @@ module _ (x : RunInput) where
   Tied (FirstPlan.Steps zero) = (lt 0ᶠ tau ≡ false) × (spent (run x) ≡ 0)
   Tied (FirstPlan.Steps (suc n)) = FirstGoes x (suc n)
   Tied (FirstPlan.OverCap need left) = (run x ≡ over_cap need left) × (left ≡ cap)
-  Tied (FirstPlan.Refused n) = (n ≡ numerical) × (run x ≡ failed 0)
+  Tied (FirstPlan.Refused n) = (n.0 ≡ numerical) × (run x ≡ failed 0)
 
   pub run_first : lt 0ᶠ tau ≡ true → run x ≡ run_on cap p (first_turn p tau)
   unfolding run run_from

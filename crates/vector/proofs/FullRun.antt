@@ -35,6 +35,7 @@ use Rattle.series.proofs.Half.{at_far}
 use Rattle.series.proofs.Full.{at_full, size_full, full_own_tab, full_with, every_with, full_fill, left_full, right_full, centred_factors, finite_full}
 use Rattle.vector.proofs.FullPlan.{divided_full, rebalances_full, norm_full}
 use Rattle.vector.proofs.RunLaws.{Scaled, begun, not_begun, run_later, run_refused}
+use Rattle.elementary.specs.Checks.{by}
 
 -- ---- a plan
 module _ (h : Bool) (n b : ℕ) (rest : Float) (o left right d : List Float) (eta : Float) (two : 2 ≤ n) (fits : b ≤ cap) (good : Bool) (el : left ≡ tab n (left_at o)) (er : right ≡ tab n (right_by h n o))
@@ -68,7 +69,7 @@ module _ (h : Bool) (n b : ℕ) (rest : Float) (o left right d : List Float) (et
       → BegunIs (full_fixed h n d eta) b rest (full h n o) (full_factors h n left right) (full_factors h n right left) (full h n diag) a
   begun_full ed g q e s = begun (full_fixed h n d eta) b rest (full h n o) _ _ (full h n diag) fits good left_is (ap₂ (full_factors h n) er el ∙ right_full h n o two) good_is a g q (plan_slices ed q e ∙ plan_full) (scaled_full q s)
 
-  not_begun_full : good ≡ false → a ≡ stopped_of (Outcome.Refused 11)
+  not_begun_full : good ≡ false → a ≡ stopped_of (Outcome.Refused (by 11))
       → BegunIs (full_fixed h n d eta) b rest (full h n o) (full_factors h n left right) (full_factors h n right left) (full h n diag) a
   not_begun_full g = not_begun (full_fixed h n d eta) b rest (full h n o) _ _ (full h n diag) fits good left_is (ap₂ (full_factors h n) er el ∙ right_full h n o two) good_is a g
 

@@ -27,6 +27,7 @@ use Rattle.vector.specs.declared.run.Pace.{Pace}
 use Rattle.operator.proofs.Lists.{every_true}
 use Rattle.series.proofs.Extremes.{smallest_floor}
 use Rattle.plan.proofs.Plans.{planned_some}
+use Rattle.elementary.specs.Checks.{by}
 
 never : {A : Type 0} → ◌≡◌ {A = ℕ} 0 1 → A
 never e = absurd (omega arith)
@@ -48,9 +49,9 @@ module _ (p : Fixed) (r : Ended) (w o left right diag : List Float) where
   over : (x : Outcome) → EndIs r x w o → Standing p r w o left right diag (stopped_of x)
   over x h = record { within = omega arith; scaled = λ k. absurd (omega arith); goes = λ k. absurd (omega arith); asks = λ e. never (cc e); stops = λ _ _. h }
 
-  failed_over : (b s : ℕ) → run_on b p (ended (failed s)) ≡ r → Standing p r w o left right diag (stopped_of (Outcome.Refused 11))
+  failed_over : (b s : ℕ) → run_on b p (ended (failed s)) ≡ r → Standing p r w o left right diag (stopped_of (Outcome.Refused (by 11)))
   unfolding EndIs
-  failed_over b s e = over (Outcome.Refused 11) (rw (← e, on_ended p b (failed s)) refl)
+  failed_over b s e = over (Outcome.Refused (by 11)) (rw (← e, on_ended p b (failed s)) refl)
 
   -- with steps to go, or done
   paced_on : (s b : ℕ) (rest dt : Float) → b ≤ cap → diag ≡ tab p.n (λ i. at p.diagonal i ⊗ dt) → (1 ≤ s → run_on b p (going (going_over w o left right dt rest s)) ≡ r) → (s ≡ 0 → EndIs r (Outcome.Done (cap - b)) w o)
@@ -82,7 +83,7 @@ module _ (p : Fixed) (b : ℕ) (rest : Float) (o left right diag : List Float) (
     unfolding begin plan_of
     begun h q e d ea = record { stands = rw (ea, ← el, ← er, ← eg, h) (by_plan _ _ _ q (planned_some _ b) e d); less = rw ea (told_less q) }
 
-    pub not_begun : good ≡ false → a ≡ stopped_of (Outcome.Refused 11) → BegunIs p b rest o left right diag a
+    pub not_begun : good ≡ false → a ≡ stopped_of (Outcome.Refused (by 11)) → BegunIs p b rest o left right diag a
     unfolding begin start
     not_begun h ea = record { stands = rw (ea, ← el, ← er, ← eg, h) (failed_over p _ _ o left right diag b _ refl); less = rw ea (omega arith) }
 
@@ -132,7 +133,7 @@ calm_is n f s = go (ltb 0 s)
     go false = every_true n
 
 -- what the code does after a step: v its sum, w that divided, calm where no weight calls for rebalancing
-pub after_refused : (n : ℕ) (a : Pace) (w o : List Float) (good : Bool) (r : Pace) (w' o' : List Float) → good ≡ false → r ≡ stopped_of (Outcome.Refused 11) → AfterIs good n a w o r w' o'
+pub after_refused : (n : ℕ) (a : Pace) (w o : List Float) (good : Bool) (r : Pace) (w' o' : List Float) → good ≡ false → r ≡ stopped_of (Outcome.Refused (by 11)) → AfterIs good n a w o r w' o'
 unfolding AfterBy
 after_refused n a w o good r w' o' eg e = rw eg e
 
@@ -156,7 +157,7 @@ module _ (n : ℕ) (a : Pace) (v o : List Float) (m : Float) (w : List Float) (g
     unfolding AfterBy
     after_asked t e₁ e₂ e = rw (is_divided, eg, called, ← k, ← ef, t) (e, e₁, e₂)
 
-    pub after_failed : f ≡ false → r ≡ stopped_of (Outcome.Refused 11) → AfterIs good n a (divided n v) o r w' o'
+    pub after_failed : f ≡ false → r ≡ stopped_of (Outcome.Refused (by 11)) → AfterIs good n a (divided n v) o r w' o'
     unfolding AfterBy
     after_failed t e = rw (is_divided, eg, called, ← k, ← ef, t) e
 

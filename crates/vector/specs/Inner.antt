@@ -10,6 +10,7 @@ use Rattle.vector.specs.Run.{rebalances, run_on}
 use Rattle.vector.specs.declared.Outcome.{Outcome}
 use Rattle.plan.specs.declared.plan.Planned.{Planned}
 use Rattle.vector.specs.declared.run.Pace.{Pace}
+use Rattle.elementary.specs.Checks.{by}
 
 abbrev pub going_over : List Float → List Float → List Float → List Float → Float → Float → ℕ → Going
 going_over w o left right dt remaining steps = record { w = w; o = o; left = left; right = right; dt = dt; remaining = remaining; steps = steps }
@@ -19,13 +20,13 @@ abbrev pub paced_of : ℕ → ℕ → Float → Float → Pace
 paced_of s b rest dt = record { steps = s; budget = b; remaining = rest; dt = dt; ask = false; stop = Outcome.Done (cap - b) }
 
 abbrev pub asked_of : ℕ → Float → Pace
-asked_of b rest = record { steps = 0; budget = b; remaining = rest; dt = 0ᶠ; ask = true; stop = Outcome.Refused numerical }
+asked_of b rest = record { steps = 0; budget = b; remaining = rest; dt = 0ᶠ; ask = true; stop = Outcome.Refused (by numerical) }
 
 abbrev pub stopped_of : Outcome → Pace
 stopped_of r = record { steps = 0; budget = 0; remaining = 0ᶠ; dt = 0ᶠ; ask = false; stop = r }
 
 abbrev pub refused_pace : Pace
-refused_pace = stopped_of (Outcome.Refused numerical)
+refused_pace = stopped_of (Outcome.Refused (by numerical))
 
 -- what the code answers for a plan, b being the budget left
 abbrev pub told : ℕ → Float → Planned → Pace
@@ -35,13 +36,13 @@ told b rest Planned.Refused = refused_pace
 
 unfoldable pub end_by : ℕ → Outcome → Outcome
 end_by zero r = r
-end_by (suc s) r = Outcome.Refused numerical
+end_by (suc s) r = Outcome.Refused (by numerical)
 
 -- ---- the end of a run
 unfoldable pub EndIs : Ended → Outcome → List Float → List Float → Type 0
 EndIs (vector w' o' s) r w o = (r ≡ Outcome.Done s) × (w ≡ w') × (o ≡ o')
 EndIs (over_cap need b) r w o = r ≡ Outcome.OverCap need b (cap - b)
-EndIs (failed s) r w o = r ≡ Outcome.Refused numerical
+EndIs (failed s) r w o = r ≡ Outcome.Refused (by numerical)
 
 -- ---- after a step, w being its weights divided: was it good, is there rebalancing, is each weight positive
 unfoldable pub AfterBy : Bool → Bool → Bool → ℕ → Pace → List Float → List Float → Pace → List Float → List Float → Type 0

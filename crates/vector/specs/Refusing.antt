@@ -11,6 +11,7 @@ use Rattle.vector.specs.Values.{value_vector}
 use Rattle.vector.specs.Causes.{RunFails}
 use Rattle.plan.specs.declared.RunInput.{RunInput}
 use Rattle.vector.specs.declared.Outcome.TheVariants as Outcome
+use Rattle.elementary.specs.Checks.{by}
 
 -- in order: the floats, the bound, and a run that fails
 pub data VectorRefused (x : RunInput) : ℕ → Type 0 where
@@ -19,4 +20,4 @@ pub data VectorRefused (x : RunInput) : ℕ → Type 0 where
   by_11 : {s : ℕ} → rates_ok x ≡ true → bound_ok x.bound ≡ true → lt 0ᶠ x.tau ≡ true → RunFails (fixed x) x.tau s → VectorRefused x numerical
 
 abbrev pub VectorRefusals : Type 0
-VectorRefusals = (x : RunInput) (n : ℕ) → ((value_vector x).outcome ≡ Outcome.Refused n) ↔ VectorRefused x n
+VectorRefusals = (x : RunInput) (n : ℕ) → ((value_vector x).outcome ≡ Outcome.Refused (by n)) ↔ VectorRefused x n

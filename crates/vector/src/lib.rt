@@ -9,7 +9,7 @@ ghost use Rattle.std.specs.Prelude.{◌≡◌};
 ghost use Rattle.vector.specs.Run.{rebalances};
 ghost use Rattle.vector.specs.Values.{value_vector};
 
-use elementary::Check;
+use elementary::Refusal;
 pub use plan::{
     FirstPlan, MAX_DIM, MAX_EXPM_STEPS, MAX_INVENTORY_LOTS, RunInput, check_input, first_plan,
 };
@@ -27,12 +27,12 @@ pub struct ValueVector {
 }
 
 // The end of a run: the steps spent; or the steps needed, the budget left and the steps spent; or a
-// refusal's number.
+// refusal. A report is no refusal, so the three stand beside one another.
 #[derive(Clone, Copy)]
 pub enum Outcome {
     Done(u32),
     OverCap(f64, u32, u32),
-    Refused(u8),
+    Refused(Refusal),
 }
 
 // A run's end, with the value vector beside it: the blank one, unless the run is done.
@@ -55,10 +55,7 @@ pub fn value_vector(input: RunInput) -> VectorAnswer
     ensures { result ≡ value_vector input }
 {
     match check_input(input) {
-        Check::Passes => {}
-        Check::Refused(number) => {
-            return run::refused_vector(number);
-        }
+        Ok(()) => run::run_vector(input),
+        Err(refusal) => run::refused_vector(refusal),
     }
-    run::run_vector(input)
 }

@@ -18,6 +18,7 @@ ghost use Rattle.vector.specs.Half.{full_fixed, RowsStand};
 
 use crate::refusals::NUMERICAL;
 use crate::{MAX_DIM, MAX_EXPM_STEPS, Outcome, RunInput, ValueVector, VectorAnswer};
+use elementary::Refusal;
 use plan::Planned;
 
 // Where a run stands: the steps planned, the budget left, the time left and the time of a step;
@@ -322,12 +323,12 @@ pub(crate) fn blank() -> ValueVector
     }
 }
 
-// A refusal, by its number, with the blank vector.
-pub fn refused_vector(number: u8) -> VectorAnswer
-    ensures { result ≡ refused_vector number }
+// A refusal, with the blank vector.
+pub fn refused_vector(refusal: Refusal) -> VectorAnswer
+    ensures { result ≡ refused_vector refusal }
 {
     VectorAnswer {
-        outcome: Outcome::Refused(number),
+        outcome: Outcome::Refused(refusal),
         vector: blank(),
     }
 }

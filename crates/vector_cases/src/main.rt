@@ -29,9 +29,9 @@ fn put_outcome(out: &mut [u8], start: usize, outcome: Outcome) -> usize {
             put_number(out, at, steps as u64)
         }
         Outcome::OverCap(need, budget, steps) => put_cap(out, start, need, budget, steps),
-        Outcome::Refused(number) => {
+        Outcome::Refused(refusal) => {
             let at = put(out, start, b"refused");
-            put_number(out, at, number as u64)
+            put_number(out, at, refusal.0 as u64)
         }
     }
 }

@@ -8,19 +8,19 @@ use Rattle.distances.specs.FloatEntry.{entry_checks, entry_if, entry_over, float
 use Rattle.distances.proofs.Checked.{passed}
 use Rattle.distances.proofs.float_entry.Goals as goal
 
-pub returns-in-Refused : goal.returns-in-Refused
+pub returns-in-Err : goal.returns-in-Err
 unfolding float_entry entry_over entry_if
-returns-in-Refused c =
-    rw (check_refused _ _ (rw (to_z-of_z c.ranges.q) at (sym c.in-Refused.is ∙ c.check_entry.ensures))) c.refused_entry.ensures
+returns-in-Err c =
+    rw (check_refused _ _ (rw (to_z-of_z c.ranges.q) at (sym c.in-Err.is ∙ c.check_entry.ensures))) c.refused_entry.ensures
 
 pub entry_within-requires : goal.entry_within-requires
 entry_within-requires c =
-    let passes-is : let a = c.args in first_failing (entry_checks a.k a.base a.input a.q) ≡ passes = check_passes _ (rw (to_z-of_z c.ranges.q) at (sym c.in-Passes.is ∙ c.check_entry.ensures)) in
+    let passes-is : let a = c.args in first_failing (entry_checks a.k a.base a.input a.q) ≡ passes = check_passes _ (rw (to_z-of_z c.ranges.q) at (sym c.in-Ok.is ∙ c.check_entry.ensures)) in
     let p = passed _ _ _ c.args.q passes-is in
     rw (to_z-of_z c.ranges.q) (p.floats, p.bound_is_ok, leb-true _ _ p.held)
 
-pub returns : goal.returns
+pub returns-in-Ok : goal.returns-in-Ok
 unfolding float_entry entry_over entry_if
-returns c =
-    let passes-is : let a = c.args in first_failing (entry_checks a.k a.base a.input a.q) ≡ passes = check_passes _ (rw (to_z-of_z c.ranges.q) at (sym c.in-Passes.is ∙ c.check_entry.ensures)) in
+returns-in-Ok c =
+    let passes-is : let a = c.args in first_failing (entry_checks a.k a.base a.input a.q) ≡ passes = check_passes _ (rw (to_z-of_z c.ranges.q) at (sym c.in-Ok.is ∙ c.check_entry.ensures)) in
     rw (passes-is, c.entry_within.ensures, to_z-of_z c.ranges.q)

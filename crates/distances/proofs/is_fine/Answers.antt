@@ -2,10 +2,10 @@ use mathlib.Core.Path.{sym, ap, ◌∙◌}
 use Rattle.distances.specs.Distances.{fine}
 use Rattle.distances.proofs.is_fine.Goals as goal
 
-pub returns-in-At : goal.returns-in-At
+pub returns-in-Some : goal.returns-in-Some
 unfolding fine
-returns-in-At c = c.is_finite.ensures ∙ sym (ap fine c.in-At.is)
+returns-in-Some c = c.is_finite.ensures ∙ sym (ap fine c.in-Some.is)
 
-pub returns-in-Absent : goal.returns-in-Absent
+pub returns-in-None : goal.returns-in-None
 unfolding fine
-returns-in-Absent c = sym (ap fine c.in-Absent.is)
+returns-in-None c = sym (ap fine c.in-None.is)

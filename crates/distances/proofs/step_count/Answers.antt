@@ -9,15 +9,15 @@ use Rattle.distances.specs.Count.{count_over, step_count}
 use Rattle.distances.proofs.Checked.{passed, input_passes}
 use Rattle.distances.proofs.step_count.Goals as goal
 
-pub returns-in-Passes : goal.returns-in-Passes
+pub returns-in-Ok : goal.returns-in-Ok
 unfolding step_count count_over first_plan plan_over plan_if
-returns-in-Passes c =
-    let passes-is : let a = c.args in first_failing (entry_checks a.k a.base a.input a.q) ≡ passes = check_passes _ (rw (to_z-of_z c.ranges.q) at (sym c.in-Passes.is ∙ c.check_entry.ensures)) in
+returns-in-Ok c =
+    let passes-is : let a = c.args in first_failing (entry_checks a.k a.base a.input a.q) ≡ passes = check_passes _ (rw (to_z-of_z c.ranges.q) at (sym c.in-Ok.is ∙ c.check_entry.ensures)) in
     let e = passes-is in
     let p = passed _ _ _ c.args.q e in
     rw e (rw (input_passes _ _ _ p.floats p.bound_is_ok) at c.first_plan.ensures)
 
-pub returns-in-Refused : goal.returns-in-Refused
+pub returns-in-Err : goal.returns-in-Err
 unfolding step_count count_over plan_if
-returns-in-Refused c =
-    rw (check_refused _ _ (rw (to_z-of_z c.ranges.q) at (sym c.in-Refused.is ∙ c.check_entry.ensures)))
+returns-in-Err c =
+    rw (check_refused _ _ (rw (to_z-of_z c.ranges.q) at (sym c.in-Err.is ∙ c.check_entry.ensures)))

@@ -1,11 +1,15 @@
-use lib.Ieee.{of_bits, div}
+use Rattle.std.proofs.Common.{◌≡◌, refl, ◌∙◌}
+use Rattle.std.specs.Prelude.{Float, Option, Some, None}
+use Rattle.std.specs.Option.{unwrap_or}
+use lib.Ieee.{nan, of_bits, div}
 use Rattle.elementary.specs.Elementary.{told, or_nan}
 use Rattle.elementary.proofs.or_nan.Goals as goal
 
-pub returns-in-Value : goal.returns-in-Value
+in_place : (r : Option Float) → unwrap_or r nan ≡ or_nan (told r)
 unfolding or_nan told
-returns-in-Value c = rw c.in-Value.is
+in_place (Some x) = refl
+in_place None = refl
 
-pub returns-in-Refused : goal.returns-in-Refused
-unfolding or_nan told of_bits div
-returns-in-Refused c = rw c.in-Refused.is
+pub returns : goal.returns
+unfolding of_bits div
+returns c = c.unwrap_or.ensures ∙ in_place c.args.r

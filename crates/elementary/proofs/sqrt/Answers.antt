@@ -1,9 +1,9 @@
+use Rattle.std.specs.Prelude.{Some, None}
 use Rattle.std.proofs.Common.{◌≡◌, ℕ, zero, suc, ◌*◌, ◌<◌, Bool, true, false, ◌&&◌, ◌||◌, T, eqb, ltb, sym, refl, ap, ◌∙◌, subst, true≢false, zero-lt-suc, mul-pos, arith, le-ltb, lt-ltb, eq-eqb, eqb-true}
 use mathlib.Core.Bool.{beq, false≢true}
 use lib.Ieee.{Float, nan, inf, fin, binary64, up, down, level, lt, eq, of_bits}
 use lib.Ieee.Fits.{up_pos}
 use lib.Ieee.Bits.{is_true}
-use Rattle.elementary.specs.declared.Real.TheVariants.{Value, Refused}
 use Rattle.elementary.specs.Float.{finite, positive, count, hex}
 use Rattle.elementary.specs.Reply.{value}
 use Rattle.elementary.specs.Elementary.{told, SQRT, sqrt_of}
@@ -21,7 +21,7 @@ zero-level s u d = go s (eqb (0 * u * 1) (0 * 1 * d)) (eqb (0 * u * 1) 0) (eq-eq
     go false a b p q = cc
 
 -- a zero is its own root
-zero-root : (x : Float) → eq x (hex 0) ≡ true → told (Value x) ≡ SQRT x
+zero-root : (x : Float) → eq x (hex 0) ≡ true → told (Some x) ≡ SQRT x
 unfolding told SQRT eq of_bits
 zero-root nan h = absurd (false≢true h)
 zero-root (inf s) h = absurd (false≢true h)
@@ -45,7 +45,7 @@ positive-root (fin false zero e) p = absurd (false≢true (sym (zero-below (up e
 positive-root (fin false (suc m) e) p = refl
 
 -- any other is refused
-no-root : (x : Float) → eq x (hex 0) ≡ false → positive x ≡ false → told Refused ≡ SQRT x
+no-root : (x : Float) → eq x (hex 0) ≡ false → positive x ≡ false → told None ≡ SQRT x
 unfolding told SQRT eq positive finite lt of_bits
 no-root nan z p = refl
 no-root (inf s) z p = refl

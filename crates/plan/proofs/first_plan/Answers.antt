@@ -7,16 +7,16 @@ use Rattle.plan.specs.Count.{first_plan, plan_over, plan_if}
 use Rattle.plan.proofs.Bounds.{input_passed}
 use Rattle.plan.proofs.first_plan.Goals as goal
 
-passes-is : (c : goal.In-Passes) → first_failing (input_checks c.args.input) ≡ passes
-passes-is c = check_passes _ (sym c.in-Passes.is ∙ c.check_input.ensures)
+passes-is : (c : goal.In-Ok) → first_failing (input_checks c.args.input) ≡ passes
+passes-is c = check_passes _ (sym c.in-Ok.is ∙ c.check_input.ensures)
 
 pub plan_within-requires : goal.plan_within-requires
 plan_within-requires c = input_passed _ (passes-is c)
 
-pub returns-in-Passes : goal.returns-in-Passes
+pub returns-in-Ok : goal.returns-in-Ok
 unfolding first_plan plan_over plan_if
-returns-in-Passes c = rw (passes-is c.before) c.plan_within.ensures
+returns-in-Ok c = rw (passes-is c.before) c.plan_within.ensures
 
-pub returns-in-Refused : goal.returns-in-Refused
+pub returns-in-Err : goal.returns-in-Err
 unfolding first_plan plan_over plan_if
-returns-in-Refused c = rw (check_refused _ _ (sym c.in-Refused.is ∙ c.check_input.ensures))
+returns-in-Err c = rw (check_refused _ _ (sym c.in-Err.is ∙ c.check_input.ensures))

@@ -21,9 +21,9 @@ hand_on-requires c =
     (c.first.ensures ∙ ap (take c.fill-texts.result.count) c.fill-texts.ensures.out_after) in
     next.0
 
-pub returns-in-Failed : goal.returns-in-Failed
+pub returns-in-Err : goal.returns-in-Err
 unfolding Counted
-returns-in-Failed c = tt
+returns-in-Err c = tt
 
 pub loop-at-smaller : goal.loop-at-smaller
 loop-at-smaller c =
@@ -38,7 +38,7 @@ loop-at-preserved c =
     (c.first.ensures ∙ ap (take c.fill-texts.result.count) c.fill-texts.ensures.out_after) in
     let moves : (c.loop-at.at < c.fill-texts.result.next) × (c.fill-texts.result.next ≤ length c.args.s.now) = let a = c.args in
     fills_move a.kind a.s.now c.loop-at.at c.loop-at.out _ _ c.fill-texts.ensures.filled c.loop-at-test.true in
-    let n = handed_on _ _ _ c.in-On.is c.hand_on.ensures in
+    let n = handed_on _ _ _ c.in-Ok.is c.hand_on.ensures in
     (subst (Handing _ _ _) (sym n) next.1, c.loop-at.invariant.1 ∙ sym c.fill-texts.auto.out, moves.1)
 
 pub returns : goal.returns

@@ -11,20 +11,20 @@ find-requires c = (c.requires.0, (table_passed c.args.table.now c.requires.1).fe
 
 pub answer_of_row-requires : goal.answer_of_row-requires
 answer_of_row-requires c =
-    let e = sym c.find.ensures ∙ c.in-Row.is in
+    let e = sym c.find.ensures ∙ c.in-Some.is in
     let (few, passes) = row_ready c.args.table.now _ _ c.requires.1 e in
     (c.requires.0, few, passes)
 
-pub returns-in-Row : goal.returns-in-Row
-returns-in-Row c =
+pub returns-in-Some : goal.returns-in-Some
+returns-in-Some c =
     let t = c.args.table.now in
-    let e = ap (found t) (sym c.run_input-input.ensures) ∙ sym c.find.ensures ∙ c.in-Row.is in
+    let e = ap (found t) (sym c.run_input-input.ensures) ∙ sym c.find.ensures ∙ c.in-Some.is in
     let u = used_row c.args.m c.args.q c.args.mid c.args.least c.args.tau t _ e in
     record { value = rw (u, c.quotes_by.ensures, to_z-of_z c.ranges.mid, to_z-of_z c.ranges.least, c.answer_of_row.ensures, to_z-of_z c.ranges.q); table_after = rw u }
 
-pub returns-in-Nothing : goal.returns-in-Nothing
-returns-in-Nothing c =
-    let e = sym c.find.ensures ∙ c.in-Nothing.is in
+pub returns-in-None : goal.returns-in-None
+returns-in-None c =
+    let e = sym c.find.ensures ∙ c.in-None.is in
     let m = c.made_quotes.ensures in
     let p = used_made c.args.m c.args.q c.args.mid c.args.least c.args.tau c.args.table.now _ c.run_input-input.ensures _ _ _ (to_z-of_z c.ranges.mid) (to_z-of_z c.ranges.least)
     (to_z-of_z c.ranges.q) e _ _ m.value m.table_after in record { value = p.0; table_after = p.1 }

@@ -7,17 +7,17 @@ use Rattle.vector.specs.Values.{vector_if, vector_over, value_vector}
 use Rattle.plan.proofs.Bounds.{input_passed}
 use Rattle.vector.proofs.value_vector.Goals as goal
 
-passes-is : (c : goal.In-Passes) → first_failing (input_checks c.args.input) ≡ passes
-passes-is c = check_passes _ (sym c.in-Passes.is ∙ c.check_input.ensures)
+passes-is : (c : goal.In-Ok) → first_failing (input_checks c.args.input) ≡ passes
+passes-is c = check_passes _ (sym c.in-Ok.is ∙ c.check_input.ensures)
 
-pub returns-in-Refused : goal.returns-in-Refused
+pub returns-in-Err : goal.returns-in-Err
 unfolding value_vector vector_over vector_if
-returns-in-Refused c =
-    rw (check_refused _ _ (sym c.in-Refused.is ∙ c.check_input.ensures)) c.refused_vector.ensures
+returns-in-Err c =
+    rw (check_refused _ _ (sym c.in-Err.is ∙ c.check_input.ensures)) c.refused_vector.ensures
 
 pub run_vector-requires : goal.run_vector-requires
 run_vector-requires c = input_passed _ (passes-is c)
 
-pub returns : goal.returns
+pub returns-in-Ok : goal.returns-in-Ok
 unfolding value_vector vector_over vector_if
-returns c = rw (passes-is c.before) c.run_vector.ensures
+returns-in-Ok c = rw (passes-is c.before) c.run_vector.ensures

@@ -1,10 +1,10 @@
 use Rattle.distances.specs.FloatEntry.{with_vector}
 use Rattle.distances.proofs.entry.with_vector.Goals as goal
 
-pub returns-in-Distances : goal.returns-in-Distances
+pub returns-in-Ok : goal.returns-in-Ok
 unfolding with_vector
-returns-in-Distances c = rw c.in-Distances.is
+returns-in-Ok c = rw c.in-Ok.is
 
-pub returns-in-Refused : goal.returns-in-Refused
+pub returns-in-Err : goal.returns-in-Err
 unfolding with_vector
-returns-in-Refused c = rw (c.in-Refused.is, c.refused_entry.ensures)
+returns-in-Err c = rw (c.in-Err.is, c.refused_entry.ensures)

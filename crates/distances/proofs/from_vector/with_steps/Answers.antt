@@ -1,10 +1,10 @@
 use Rattle.distances.specs.Reading.{sides_with}
 use Rattle.distances.proofs.from_vector.with_steps.Goals as goal
 
-pub returns-in-Distances : goal.returns-in-Distances
+pub returns-in-Ok : goal.returns-in-Ok
 unfolding sides_with
-returns-in-Distances c = rw c.in-Distances.is
+returns-in-Ok c = rw c.in-Ok.is
 
-pub returns-in-Refused : goal.returns-in-Refused
+pub returns-in-Err : goal.returns-in-Err
 unfolding sides_with
-returns-in-Refused c = rw c.in-Refused.is
+returns-in-Err c = rw c.in-Err.is

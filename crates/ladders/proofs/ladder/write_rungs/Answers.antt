@@ -1,3 +1,4 @@
+use Rattle.std.specs.Prelude.{Ok}
 use mathlib.Core.Path.{◌≡◌, sym, ap, ◌∙◌, subst}
 use Prim.Native.Nat.{◌+◌, ◌-◌, ◌<◌, ◌≤◌}
 use native.Mathlib.Omega.{arith}
@@ -11,7 +12,6 @@ use Rattle.lots.specs.Reckoning.{reckoning, quotes_of_lots}
 use Rattle.quote.specs.Replies.{ReplyKept}
 use Rattle.ladders.specs.Ladder.{rungs, lot_at, ladder_line, ladder_lines, ladder}
 use Rattle.lots.specs.declared.Reckoning.{Reckoning}
-use Rattle.lines.specs.declared.line.LineWritten.TheVariants as LineWritten
 use Rattle.lines.proofs.Written.{line_there, same_written, never_refused}
 use Rattle.lines.specs.Lines.{answer_line, least_room}
 use Rattle.buffers.specs.Over.{over}
@@ -56,7 +56,7 @@ shape_of-out-in_default c =
     let answer-is : let a = c.args in c.quotes_in-answer.result ≡ quotes_of_lots (to_z w64 (of_z w64 a.mid_price)) a.config c.reckon-r.result (lot_at a.config c.loop-i.i) = let a = c.args in
     let f : SFits w64 c.lot_at-lot.result = record { sfits = c.lot_at-lot.type_inv } in
     c.quotes_in-answer.ensures ∙ ap (quotes_of_lots (to_z w64 (of_z w64 a.mid_price)) a.config c.reckon-r.result) (to_z-of_z f ∙ c.lot_at-lot.ensures) in
-    let written : let l = c.loop-i in let a = c.args in let u = ladder_line (to_z w64 (of_z w64 a.mid_price)) a.config c.reckon-r.result l.i in (c.write_answer.result ≡ LineWritten.Written (length u)) × (c.write_answer.new.line ≡ over u (mid_of l.at (length l.out - l.at) l.out)) = let l = c.loop-i in
+    let written : let l = c.loop-i in let a = c.args in let u = ladder_line (to_z w64 (of_z w64 a.mid_price)) a.config c.reckon-r.result l.i in (c.write_answer.result ≡ Ok (length u)) × (c.write_answer.new.line ≡ over u (mid_of l.at (length l.out - l.at) l.out)) = let l = c.loop-i in
     let e = c.write_answer.ensures in
     let there = line_there (answer_line c.quotes_in-answer.result) _ (part_room _ _ _ _ _ l.invariant.wrote (laying_room _ _ _ _ _ _ _ l.invariant c.requires.room line-due)) in
     rw (← answer-is) (e.value ∙ there.0, e.line_after ∙ there.1) in
@@ -70,7 +70,7 @@ returns-in_default c =
     let answer-is : let a = c.args in c.quotes_in-answer.result ≡ quotes_of_lots (to_z w64 (of_z w64 a.mid_price)) a.config c.reckon-r.result (lot_at a.config c.loop-i.i) = let a = c.args in
     let f : SFits w64 c.lot_at-lot.result = record { sfits = c.lot_at-lot.type_inv } in
     c.quotes_in-answer.ensures ∙ ap (quotes_of_lots (to_z w64 (of_z w64 a.mid_price)) a.config c.reckon-r.result) (to_z-of_z f ∙ c.lot_at-lot.ensures) in
-    let written : let l = c.loop-i in let a = c.args in let u = ladder_line (to_z w64 (of_z w64 a.mid_price)) a.config c.reckon-r.result l.i in (c.write_answer.result ≡ LineWritten.Written (length u)) × (c.write_answer.new.line ≡ over u (mid_of l.at (length l.out - l.at) l.out)) = let l = c.loop-i in
+    let written : let l = c.loop-i in let a = c.args in let u = ladder_line (to_z w64 (of_z w64 a.mid_price)) a.config c.reckon-r.result l.i in (c.write_answer.result ≡ Ok (length u)) × (c.write_answer.new.line ≡ over u (mid_of l.at (length l.out - l.at) l.out)) = let l = c.loop-i in
     let e = c.write_answer.ensures in
     let there = line_there (answer_line c.quotes_in-answer.result) _ (part_room _ _ _ _ _ l.invariant.wrote (laying_room _ _ _ _ _ _ _ l.invariant c.requires.room line-due)) in
     rw (← answer-is) (e.value ∙ there.0, e.line_after ∙ there.1) in
@@ -92,13 +92,13 @@ overflow_add-at c =
     let answer-is : let a = c.args in c.quotes_in-answer.result ≡ quotes_of_lots (to_z w64 (of_z w64 a.mid_price)) a.config c.reckon-r.result (lot_at a.config c.loop-i.i) = let a = c.args in
     let f : SFits w64 c.lot_at-lot.result = record { sfits = c.lot_at-lot.type_inv } in
     c.quotes_in-answer.ensures ∙ ap (quotes_of_lots (to_z w64 (of_z w64 a.mid_price)) a.config c.reckon-r.result) (to_z-of_z f ∙ c.lot_at-lot.ensures) in
-    let written : let l = c.loop-i in let a = c.args in let u = ladder_line (to_z w64 (of_z w64 a.mid_price)) a.config c.reckon-r.result l.i in (c.write_answer.result ≡ LineWritten.Written (length u)) × (c.write_answer.new.line ≡ over u (mid_of l.at (length l.out - l.at) l.out)) = let l = c.loop-i in
+    let written : let l = c.loop-i in let a = c.args in let u = ladder_line (to_z w64 (of_z w64 a.mid_price)) a.config c.reckon-r.result l.i in (c.write_answer.result ≡ Ok (length u)) × (c.write_answer.new.line ≡ over u (mid_of l.at (length l.out - l.at) l.out)) = let l = c.loop-i in
     let e = c.write_answer.ensures in
     let there = line_there (answer_line c.quotes_in-answer.result) _ (part_room _ _ _ _ _ l.invariant.wrote (laying_room _ _ _ _ _ _ _ l.invariant c.requires.room line-due)) in
     rw (← answer-is) (e.value ∙ there.0, e.line_after ∙ there.1) in
-    let line-added : let l = c.loop-i in let a = c.args in let k = c.in-Written.k in (k ≤ least_room) × Laying (to_z w64 (of_z w64 a.mid_price)) a.config c.reckon-r.result a.out.now (put_mid l.at (length l.out - l.at) l.out c.write_answer.new.line) (l.at + k) (l.i + 1) = let l = c.loop-i in
+    let line-added : let l = c.loop-i in let a = c.args in let k = c.in-Ok.k in (k ≤ least_room) × Laying (to_z w64 (of_z w64 a.mid_price)) a.config c.reckon-r.result a.out.now (put_mid l.at (length l.out - l.at) l.out c.write_answer.new.line) (l.at + k) (l.i + 1) = let l = c.loop-i in
     let e = written in
-    laying_more _ _ _ _ _ _ _ l.invariant c.requires.room _ _ line-due answer_kept e.1 (same_written (sym c.in-Written.is ∙ e.0)) in
+    laying_more _ _ _ _ _ _ _ l.invariant c.requires.room _ _ line-due answer_kept e.1 (same_written (sym c.in-Ok.is ∙ e.0)) in
     omega (arith, bounded, line-due, c.loop-i.invariant.room, line-added.0)
 
 pub overflow_add-i : goal.overflow_add-i
@@ -124,13 +124,13 @@ loop-i-preserved c =
     let answer-is : let a = c.args in c.quotes_in-answer.result ≡ quotes_of_lots (to_z w64 (of_z w64 a.mid_price)) a.config c.reckon-r.result (lot_at a.config c.loop-i.i) = let a = c.args in
     let f : SFits w64 c.lot_at-lot.result = record { sfits = c.lot_at-lot.type_inv } in
     c.quotes_in-answer.ensures ∙ ap (quotes_of_lots (to_z w64 (of_z w64 a.mid_price)) a.config c.reckon-r.result) (to_z-of_z f ∙ c.lot_at-lot.ensures) in
-    let written : let l = c.loop-i in let a = c.args in let u = ladder_line (to_z w64 (of_z w64 a.mid_price)) a.config c.reckon-r.result l.i in (c.write_answer.result ≡ LineWritten.Written (length u)) × (c.write_answer.new.line ≡ over u (mid_of l.at (length l.out - l.at) l.out)) = let l = c.loop-i in
+    let written : let l = c.loop-i in let a = c.args in let u = ladder_line (to_z w64 (of_z w64 a.mid_price)) a.config c.reckon-r.result l.i in (c.write_answer.result ≡ Ok (length u)) × (c.write_answer.new.line ≡ over u (mid_of l.at (length l.out - l.at) l.out)) = let l = c.loop-i in
     let e = c.write_answer.ensures in
     let there = line_there (answer_line c.quotes_in-answer.result) _ (part_room _ _ _ _ _ l.invariant.wrote (laying_room _ _ _ _ _ _ _ l.invariant c.requires.room line-due)) in
     rw (← answer-is) (e.value ∙ there.0, e.line_after ∙ there.1) in
-    let line-added : let l = c.loop-i in let a = c.args in let k = c.in-Written.k in (k ≤ least_room) × Laying (to_z w64 (of_z w64 a.mid_price)) a.config c.reckon-r.result a.out.now (put_mid l.at (length l.out - l.at) l.out c.write_answer.new.line) (l.at + k) (l.i + 1) = let l = c.loop-i in
+    let line-added : let l = c.loop-i in let a = c.args in let k = c.in-Ok.k in (k ≤ least_room) × Laying (to_z w64 (of_z w64 a.mid_price)) a.config c.reckon-r.result a.out.now (put_mid l.at (length l.out - l.at) l.out c.write_answer.new.line) (l.at + k) (l.i + 1) = let l = c.loop-i in
     let e = written in
-    laying_more _ _ _ _ _ _ _ l.invariant c.requires.room _ _ line-due answer_kept e.1 (same_written (sym c.in-Written.is ∙ e.0)) in
+    laying_more _ _ _ _ _ _ _ l.invariant c.requires.room _ _ line-due answer_kept e.1 (same_written (sym c.in-Ok.is ∙ e.0)) in
     line-added.1
 
 pub shape_of-out : goal.shape_of-out

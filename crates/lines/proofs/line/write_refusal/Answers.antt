@@ -5,12 +5,14 @@ use Rattle.lines.specs.Lines.{refusal_line}
 use Rattle.lines.proofs.Widths.{counted_most}
 use Rattle.lines.proofs.Written.{line_refused, line_written}
 use Rattle.lines.proofs.line.write_refusal.Goals as goal
+use Prim.Native.Nat.{◌<◌}
+use borrow.Author.Rules.{rules}
 
 pub returns-then-line-lt-LEAST_ROOM : goal.returns-then-line-lt-LEAST_ROOM
 returns-then-line-lt-LEAST_ROOM c = let p = line_refused _ _ c.if-line-lt-LEAST_ROOM.true in record { value = p.0; line_after = p.1 }
 
 pub write_counted-requires : goal.write_counted-requires
-write_counted-requires c = le_trans (counted_most 82 _ (omega (arith, c.ranges.number))) c.if-line-lt-LEAST_ROOM.false
+write_counted-requires c = let small : c.args.refusal.0 < 256 = search rules in le_trans (counted_most 82 _ (omega (arith, small))) c.if-line-lt-LEAST_ROOM.false
 
 pub returns : goal.returns
 unfolding refusal_line

@@ -3,10 +3,10 @@ use mir.Facts.{to_z-of_z}
 use borrow.Author.Rules.{rules}
 use Rattle.prices.proofs.judging.below.Goals as goal
 
-pub returns-in-At : goal.returns-in-At
+pub returns-in-Some : goal.returns-in-Some
 unfolding in_order
-returns-in-At c = rw (c.in-At.is, to_z-of_z c.ranges.b) (search rules)
+returns-in-Some c = rw (c.in-Some.is, to_z-of_z c.ranges.b) (search rules)
 
-pub returns-in-Absent : goal.returns-in-Absent
+pub returns-in-None : goal.returns-in-None
 unfolding in_order
-returns-in-Absent c = rw c.in-Absent.is
+returns-in-None c = rw c.in-None.is

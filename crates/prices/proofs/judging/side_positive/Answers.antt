@@ -2,10 +2,10 @@ use Rattle.prices.specs.Prices.{each}
 use borrow.Author.Rules.{rules}
 use Rattle.prices.proofs.judging.side_positive.Goals as goal
 
-pub returns-in-At : goal.returns-in-At
+pub returns-in-Some : goal.returns-in-Some
 unfolding each
-returns-in-At c = rw (c.in-At.is, c.is_positive.ensures) (search rules)
+returns-in-Some c = rw (c.in-Some.is, c.is_positive.ensures) (search rules)
 
-pub returns-in-Absent : goal.returns-in-Absent
+pub returns-in-None : goal.returns-in-None
 unfolding each
-returns-in-Absent c = rw c.in-Absent.is
+returns-in-None c = rw c.in-None.is

@@ -15,21 +15,21 @@ use Rattle.prices.proofs.widening.ask_price.Goals as goal
 pub overflow_add-result : goal.overflow_add-result
 unfolding each
 overflow_add-result c =
-    let distance : ℤ = c.in-At.d in
+    let distance : ℤ = c.in-Some.d in
     let distance_is : to_z w64 (of_z w64 distance) ≡ distance = search rules in
     let outward : ℤ = distance +ℤ c.args.w in
-    let distance-ok : T (amount_ok distance) = rw c.in-At.is at c.requires.2 in
+    let distance-ok : T (amount_ok distance) = rw c.in-Some.is at c.requires.2 in
     let outward-size : nat_abs outward ≤ 4 * amount_limit = omega (arith, amount_size distance distance-ok, c.requires.1, size_add distance c.args.w) in
     let outward-fits : SFits w64 outward = size_fits outward (omega (arith, outward-size)) in
     rw (distance_is, to_z-of_z c.ranges.w) outward-fits
 
-pub overflow_add-result-in-At : goal.overflow_add-result-in-At
+pub overflow_add-result-in-Some : goal.overflow_add-result-in-Some
 unfolding each
-overflow_add-result-in-At c =
-    let distance : ℤ = c.in-At.d in
+overflow_add-result-in-Some c =
+    let distance : ℤ = c.in-Some.d in
     let distance_is : to_z w64 (of_z w64 distance) ≡ distance = search rules in
     let outward : ℤ = distance +ℤ c.args.w in
-    let distance-ok : T (amount_ok distance) = rw c.in-At.is at c.requires.2 in
+    let distance-ok : T (amount_ok distance) = rw c.in-Some.is at c.requires.2 in
     let outward-size : nat_abs outward ≤ 4 * amount_limit = omega (arith, amount_size distance distance-ok, c.requires.1, size_add distance c.args.w) in
     let outward-fits : SFits w64 outward = size_fits outward (omega (arith, outward-size)) in
     let price : ℤ = c.args.mid +ℤ outward in
@@ -37,20 +37,20 @@ overflow_add-result-in-At c =
     let f = c.ranges in
     rw (distance_is, to_z-of_z f.w, to_z-of_z outward-fits, to_z-of_z f.mid) price-fits
 
-pub returns-in-At : goal.returns-in-At
+pub returns-in-Some : goal.returns-in-Some
 unfolding ask_price each
-returns-in-At c =
-    let distance : ℤ = c.in-At.d in
+returns-in-Some c =
+    let distance : ℤ = c.in-Some.d in
     let distance_is : to_z w64 (of_z w64 distance) ≡ distance = search rules in
     let outward : ℤ = distance +ℤ c.args.w in
-    let distance-ok : T (amount_ok distance) = rw c.in-At.is at c.requires.2 in
+    let distance-ok : T (amount_ok distance) = rw c.in-Some.is at c.requires.2 in
     let outward-size : nat_abs outward ≤ 4 * amount_limit = omega (arith, amount_size distance distance-ok, c.requires.1, size_add distance c.args.w) in
     let outward-fits : SFits w64 outward = size_fits outward (omega (arith, outward-size)) in
     let price : ℤ = c.args.mid +ℤ outward in
     let price-fits : SFits w64 price = size_fits price (omega (arith, amount_size c.args.mid c.requires.0, outward-size, size_add c.args.mid outward)) in
     let f = c.ranges in
-    rw (c.in-At.is, distance_is, to_z-of_z f.w, to_z-of_z outward-fits, to_z-of_z f.mid, to_z-of_z price-fits)
+    rw (c.in-Some.is, distance_is, to_z-of_z f.w, to_z-of_z outward-fits, to_z-of_z f.mid, to_z-of_z price-fits)
 
-pub returns-in-Absent : goal.returns-in-Absent
+pub returns-in-None : goal.returns-in-None
 unfolding ask_price
-returns-in-Absent c = rw c.in-Absent.is
+returns-in-None c = rw c.in-None.is

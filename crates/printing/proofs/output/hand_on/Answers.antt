@@ -4,10 +4,11 @@ use native.Mathlib.Omega.{arith}
 use Rattle.printing.specs.Printing.{HandedOn}
 use Rattle.printing.proofs.Handing.{next_most}
 use Rattle.printing.proofs.output.hand_on.Goals as goal
+use Rattle.std.proofs.lemmas.Result.{err_from_is_err_and}
 
-pub returns-in-Err : goal.returns-in-Err
+pub returns-in_err-write_all : goal.returns-in_err-write_all
 unfolding HandedOn
-returns-in-Err c = tt
+returns-in_err-write_all c = rw (err_from_is_err_and c.from_residual.result c.from_residual.ensures.1).1 tt
 
 pub overflow_add-result : goal.overflow_add-result
 overflow_add-result c =

@@ -4,6 +4,10 @@ use Rattle.quote.specs.Quotes.{closed_from, closed_answer, closed_by, closed_for
 use Rattle.amounts.proofs.Limits.{kept}
 use Rattle.model.proofs.Passed.{closed_amounts}
 use Rattle.quote.proofs.GLFTStrategy.closed_form_quotes.Goals as goal
+use Rattle.elementary.proofs.Results.{handed_on}
+use mir.Syntax.{w64}
+use mir.Val.{to_z, of_z}
+use borrow.Author.Rules.{rules}
 
 pub closed_of-requires : goal.closed_of-requires
 closed_of-requires c =
@@ -11,18 +15,19 @@ closed_of-requires c =
     rw (c.closed_form.ensures, to_z-of_z r.mid_price, to_z-of_z r.inventory, to_z-of_z r.volatility) in
     let a = c.args in
     rw (to_z-of_z c.ranges.mid_price, kept a.config.min_spread c.struct_told-1.given.1.1.1.1.1.1.0.1)
-    (closed_amounts a.mid_price a.inventory a.config a.volatility _ _ (model_is ∙ c.in-Model.is))
+    (closed_amounts a.mid_price a.inventory a.config a.volatility _ _ (model_is ∙ c.in_ok-m.was))
 
-pub returns-in-Model : goal.returns-in-Model
+pub returns : goal.returns
 unfolding closed_form_quotes closed_answer closed_from
-returns-in-Model c =
+returns c =
     let model_is : let a = c.args in closed_model a.mid_price a.inventory a.config a.volatility ≡ c.closed_form.result = let r = c.ranges in
     rw (c.closed_form.ensures, to_z-of_z r.mid_price, to_z-of_z r.inventory, to_z-of_z r.volatility) in
-    rw (c.closed_of.ensures, c.distances.ensures, model_is, c.in-Model.is, to_z-of_z c.ranges.mid_price, kept c.args.config.min_spread c.struct_told-1.given.1.1.1.1.1.1.0.1, kept c.in-Model.q c.in-Model.known_told-1-own.given.1.0.1)
+    let lots_is : to_z w64 (of_z w64 c.in_ok-m.q) ≡ c.in_ok-m.q = search rules in
+    rw (c.closed_of.ensures, c.distances.ensures, model_is, c.in_ok-m.was, to_z-of_z c.ranges.mid_price, kept c.args.config.min_spread c.struct_told-1.given.1.1.1.1.1.1.0.1, lots_is)
 
-pub returns-in-Refused : goal.returns-in-Refused
+pub returns-in_err-m : goal.returns-in_err-m
 unfolding closed_form_quotes closed_answer closed_from closed_by
-returns-in-Refused c =
+returns-in_err-m c =
     let model_is : let a = c.args in closed_model a.mid_price a.inventory a.config a.volatility ≡ c.closed_form.result = let r = c.ranges in
     rw (c.closed_form.ensures, to_z-of_z r.mid_price, to_z-of_z r.inventory, to_z-of_z r.volatility) in
-    rw (model_is, c.in-Refused.is)
+    handed_on c.from_residual.result c.in_err-m.field-0.0 c.from_residual.ensures.1 ∙ rw (model_is, c.in_err-m.was)

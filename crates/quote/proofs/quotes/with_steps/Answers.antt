@@ -1,10 +1,10 @@
 use Rattle.quote.specs.Quotes.{with_steps}
 use Rattle.quote.proofs.quotes.with_steps.Goals as goal
 
-pub returns-in-Quotes : goal.returns-in-Quotes
+pub returns-in-Ok : goal.returns-in-Ok
 unfolding with_steps
-returns-in-Quotes c = rw c.in-Quotes.is
+returns-in-Ok c = rw c.in-Ok.is
 
-pub returns-in-Refused : goal.returns-in-Refused
+pub returns-in-Err : goal.returns-in-Err
 unfolding with_steps
-returns-in-Refused c = rw c.in-Refused.is
+returns-in-Err c = rw c.in-Err.is

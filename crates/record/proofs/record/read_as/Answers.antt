@@ -12,16 +12,16 @@ read_taken : (flat : Bool) (s : List ℕ) (at : ℕ) (v r : List ℕ) (next : �
 unfolding read_as record_from held_as
 read_taken flat s at v r next e k = rw (e, k)
 
-pub returns-in-Taken : goal.returns-in-Taken
-returns-in-Taken c =
-    let parts : let a = c.args in let v = c.take_numbers.new.out in (r : List ℕ) × (numbers fields (drop a.at a.sheet.now) ≡ taken v r) × (c.in-Taken.next ≡ length a.sheet.now - length r) = let d = c.place_in-start.ensures.1 in
+pub returns-in-Ok : goal.returns-in-Ok
+returns-in-Ok c =
+    let parts : let a = c.args in let v = c.take_numbers.new.out in (r : List ℕ) × (numbers fields (drop a.at a.sheet.now) ≡ taken v r) × (c.in-Ok.next ≡ length a.sheet.now - length r) = let d = c.place_in-start.ensures.1 in
     let e = rw d at c.take_numbers.ensures in
-    taken_parts _ _ _ _ (sym c.in-Taken.is ∙ e.value) e.stored in
+    taken_parts _ _ _ _ (sym c.in-Ok.is ∙ e.value) e.stored in
     let p = parts in
     rw (read_taken _ _ _ _ _ _ p.1 p.2, ← c.numbers_of.ensures, c.record_of_numbers.ensures)
 
-pub returns-in-Refused : goal.returns-in-Refused
+pub returns-in-Err : goal.returns-in-Err
 unfolding read_as record_from held_as
-returns-in-Refused c =
+returns-in-Err c =
     let d = c.place_in-start.ensures.1 in
-    rw (refused_parts _ _ _ (sym c.in-Refused.is ∙ rw d at c.take_numbers.ensures.value))
+    rw (refused_parts _ _ _ (sym c.in-Err.is ∙ rw d at c.take_numbers.ensures.value))

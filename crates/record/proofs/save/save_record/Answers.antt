@@ -1,9 +1,9 @@
 -- `record::save::save_record` meets its contract: the tests in their order, and the numbers of a record that can be saved fit the buffer. Assumes nothing.
+use Rattle.std.specs.Prelude.{Ok}
 use mathlib.Core.Path.{sym, ap, ◌∙◌, subst}
 use native.Mathlib.Omega.{arith}
 use lib.Dec.{T}
 use Rattle.record.specs.Save.{record_bytes, save_ok}
-use Rattle.record.specs.declared.save.SaveAnswer.TheVariants as SaveAnswer
 use Rattle.record.proofs.Saving.{numbers_eleven, bytes_fit, saved_short, saved_none, saved_whole}
 use Rattle.record.proofs.save.save_record.Goals as goal
 
@@ -30,7 +30,7 @@ returns-then-can_save c =
     let a = c.args in
     let k = saved_whole a.r a.out.now c.if-out-lt-RECORD_ROOM.false (sym c.can_save.ensures ∙ c.if-can_save.true) in
     let i = c.numbers_of-v.ensures in
-    record { value = ap SaveAnswer.Saved (rw i at c.write_numbers.ensures.value) ∙ sym k.0; out_after = rw i at c.write_numbers.ensures.out_after ∙ sym k.1 }
+    record { value = ap Ok (rw i at c.write_numbers.ensures.value) ∙ sym k.0; out_after = rw i at c.write_numbers.ensures.out_after ∙ sym k.1 }
 
 pub returns : goal.returns
 returns c =

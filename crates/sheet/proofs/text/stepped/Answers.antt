@@ -1,10 +1,10 @@
 use Rattle.sheet.specs.Inner.{stepped_by}
 use Rattle.sheet.proofs.text.stepped.Goals as goal
 
-pub returns-in-Written : goal.returns-in-Written
+pub returns-in-Ok : goal.returns-in-Ok
 unfolding stepped_by
-returns-in-Written c = rw c.in-Written.is
+returns-in-Ok c = rw c.in-Ok.is
 
-pub returns-in-Refused : goal.returns-in-Refused
+pub returns-in-Err : goal.returns-in-Err
 unfolding stepped_by
-returns-in-Refused c = rw c.in-Refused.is
+returns-in-Err c = rw c.in-Err.is

@@ -4,8 +4,9 @@ use native.Mathlib.Omega.{arith}
 use Rattle.vector.specs.Inner.{end_by}
 use Rattle.vector.specs.declared.Outcome.{Outcome}
 use Rattle.vector.proofs.run.end_of.Goals as goal
+use Rattle.elementary.specs.Checks.{by}
 
-some_left : (s : ℕ) (r : Outcome) → 0 < s → Outcome.Refused 11 ≡ end_by s r
+some_left : (s : ℕ) (r : Outcome) → 0 < s → Outcome.Refused (by 11) ≡ end_by s r
 unfolding end_by
 some_left zero r h = absurd (omega arith)
 some_left (suc s) r h = refl
