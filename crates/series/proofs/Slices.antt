@@ -3,9 +3,9 @@ use mathlib.Core.Path.{◌≡◌, refl, sym, ap, ap₂, ◌∙◌}
 use Prim.Native.Nat.{ℕ, zero, suc, ◌+◌, ◌-◌, ◌<◌, ◌≤◌}
 use native.Mathlib.Numerals.{add-one}
 use native.Mathlib.Omega.{arith}
-use mathlib.Core.Bool.{Bool, true, false, not, ◌&&◌, false≢true}
+use mathlib.Core.Bool.{Bool, true, false, ◌&&◌}
 use mathlib.Core.List.{List}
-use borrow.Author.Tests.{lt-ltb, le-ltb, leb-true, leb-false, le-leb}
+use borrow.Author.Tests.{lt-ltb, le-ltb, leb-true, le-leb}
 use lib.IntN.{pos}
 use lib.Dec.{T, ltb, leb}
 use lib.ListN.{length}
@@ -105,26 +105,13 @@ module _ (half plain : Bool) (p : Operator) (eta : Float) where
       let u : 101 - j ≡ suc (101 - (j + 1)) = omega arith in
       rw (m, add-one j) (rw (e, u, add-one j) at i)
 
-  at_end : (k j : ℕ) (s : SliceSum) → more_terms k true half plain p eta j s ≡ s
+  -- once it has converged
+  pub at_end : (k j : ℕ) (b : Bool) (s : SliceSum) → b ≡ true → more_terms k b half plain p eta j s ≡ s
   unfolding more_terms
-  at_end zero j s = refl
-  at_end (suc k) j s = refl
+  at_end zero j b s e = refl
+  at_end (suc k) j b s e = rw e refl
 
   -- after the loop
-  pub ended : (j : ℕ) (c : Bool) (s : SliceSum) → (leb j 100 && not c) ≡ false → more_terms (101 - j) c half plain p eta j s ≡ s
+  pub ended : (j : ℕ) (c : Bool) (s : SliceSum) → 100 < j → more_terms (101 - j) c half plain p eta j s ≡ s
   unfolding more_terms
-  ended j true s e = at_end (101 - j) j s
-  ended j false s e = go (leb j 100) refl e
-    where
-      go : (a : Bool) → leb j 100 ≡ a → (a && true) ≡ false → more_terms (101 - j) false half plain p eta j s ≡ s
-      go true h e = absurd (false≢true (sym e))
-      go false h e = let k = leb-false j 100 h in let z : 101 - j ≡ 0 = omega arith in rw z refl
-
--- the loop's test
-pub goes_on : (j : ℕ) (c : Bool) → (leb j 100 && not c) ≡ true → (j ≤ 100) × (c ≡ false)
-goes_on j c e = go (leb j 100) c refl e
-  where
-    go : (a c : Bool) → leb j 100 ≡ a → (a && not c) ≡ true → (j ≤ 100) × (c ≡ false)
-    go true true h e = absurd (false≢true e)
-    go true false h e = (leb-true j 100 h, refl)
-    go false c h e = absurd (false≢true e)
+  ended j c s h = let z : 101 - j ≡ 0 = omega arith in rw z refl

@@ -106,10 +106,11 @@ fn sum_series(op: TwoRows, v: Pair) -> Partial
     ensures { partial_of result ≡ series_over true false (operator_of op) op.eta_dt (pair_of v) }
 {
     let mut s = first_pair(op, v);
-    let mut order: u32 = 2;
-    while (order <= MAX_TAYLOR_ORDER) & !s.settled {
+    for order in 2..=MAX_TAYLOR_ORDER {
+        if s.settled {
+            return s;
+        }
         s = next_pair(op, s, order);
-        order += 1;
     }
     s
 }

@@ -21,10 +21,8 @@ fn all_small(t: &[f64], v: &[f64]) -> bool
     ensures { result ≡ converged (length t.now) v.now t.now }
 {
     let mut all = true;
-    let mut i: usize = 0;
-    while i < t.len() {
+    for i in 0..t.len() {
         all = all & is_small(t[i], v[i]);
-        i += 1;
     }
     all
 }
@@ -57,19 +55,18 @@ fn first_term(
     ensures { sum_of out.new v.new result ≡ with_term (length v.old) v.old
         (slice_term half false (operator_over (length v.old) diag.now left.now right.now) eta_dt 1 v.old) }
 {
+    let last = out.len() - 1;
     let mut lower = 0.0;
-    let mut i: usize = 0;
-    while i + 1 < out.len() {
+    for i in 0..last {
         let x = v[i];
         let t = crate::rows::row_at(v, diag, eta_dt, left, right, i, lower, v[i + 1]);
         out[i] = t;
         v[i] = x + t;
         lower = x;
-        i += 1;
     }
-    let t = crate::rows::last_row(v, diag, eta_dt, left, right, half, i, lower);
-    out[i] = t;
-    v[i] = v[i] + t;
+    let t = crate::rows::last_row(v, diag, eta_dt, left, right, half, last, lower);
+    out[last] = t;
+    v[last] = v[last] + t;
     has_converged(out, v)
 }
 
@@ -93,21 +90,20 @@ fn next_term(
         (slice_term half plain (operator_over (length x.old) diag.now left.now right.now) eta_dt order x.old) }
 {
     let inv = 1.0 / (order as f64);
+    let last = x.len() - 1;
     let first = crate::rows::row_at(x, diag, eta_dt, left, right, 0, 0.0, x[1]) * inv;
     let mut lower = x[0];
-    let mut i: usize = 1;
-    while i + 1 < x.len() {
+    for i in 1..last {
         let centre = x[i];
         let beside = crate::rows::beside(left, right, plain, i, lower, x[i + 1]);
         let t = (eta_dt * beside - diag[i] * centre) * inv;
         x[i] = t;
         v[i] = v[i] + t;
         lower = centre;
-        i += 1;
     }
-    let last = crate::rows::last_row(x, diag, eta_dt, left, right, half, i, lower) * inv;
-    x[i] = last;
-    v[i] = v[i] + last;
+    let end = crate::rows::last_row(x, diag, eta_dt, left, right, half, last, lower) * inv;
+    x[last] = end;
+    v[last] = v[last] + end;
     x[0] = first;
     v[0] = v[0] + first;
     has_converged(x, v)
@@ -130,13 +126,15 @@ fn taylor_rows(
     ensures { sum_of term.new v.new result
         ≡ series_over half plain (operator_over (length v.old) diag.now left.now right.now) eta_dt v.old }
 {
-    let mut settled = first_term(v, diag, eta_dt, left, right, half, term);
-    let mut order: u32 = 2;
-    while (order <= MAX_TAYLOR_ORDER) & !settled {
-        settled = next_term(term, diag, eta_dt, left, right, half, plain, order, v);
-        order += 1;
+    if first_term(v, diag, eta_dt, left, right, half, term) {
+        return true;
     }
-    settled
+    for order in 2..=MAX_TAYLOR_ORDER {
+        if next_term(term, diag, eta_dt, left, right, half, plain, order, v) {
+            return true;
+        }
+    }
+    false
 }
 
 // Whether there are at least two rows, and all slices are of one length.

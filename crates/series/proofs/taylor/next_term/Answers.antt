@@ -20,7 +20,7 @@ loop-i-init c =
     let p = c.requires in
     let x = c.args.x.now in
     let some : 0 < length x = le_trans (lit≤ tt) p.two_rows in
-    (le_refl 1, p.two_rows, refl, p.sizes.term_n, before_later x 1 (le_refl 1), later_one _ x some, later_one _ c.args.v.now (rw p.sizes.term_n some))
+    (before_later x 1 (le_refl 1), later_one _ x some, later_one _ c.args.v.now (rw p.sizes.term_n some))
 
 pub loop-i-preserved : goal.loop-i-preserved
 loop-i-preserved c =
@@ -28,19 +28,15 @@ loop-i-preserved c =
     let x = a.x.now in
     let k = c.loop-i.i in
     let i = c.loop-i.invariant in
-    let here : at c.loop-i.x k ≡ at x k = ap (λ (m : List Float). at m k) i.5 ∙ at_filled _ x k k (le_refl k) in
-    let above : at c.loop-i.x (k + 1) ≡ at x (k + 1) = ap (λ (m : List Float). at m (k + 1)) i.5 ∙ at_filled _ x k (k + 1) (omega arith) in
-    let sum : at c.loop-i.v k ≡ at a.v.now k = ap (λ (m : List Float). at m k) i.6 ∙ at_filled _ _ k k (le_refl k) in
+    let here : at c.loop-i.x k ≡ at x k = ap (λ (m : List Float). at m k) i.1 ∙ at_filled _ x k k (le_refl k) in
+    let above : at c.loop-i.x (k + 1) ≡ at x (k + 1) = ap (λ (m : List Float). at m (k + 1)) i.1 ∙ at_filled _ x k (k + 1) (omega arith) in
+    let sum : at c.loop-i.v k ≡ at a.v.now k = ap (λ (m : List Float). at m k) i.2 ∙ at_filled _ _ k k (le_refl k) in
     let t : a.eta_dt ⊗ c.beside-beside.result ⊖ at a.diag.now k ⊗ at c.loop-i.x k ≡ row a.half a.plain x a.diag.now a.eta_dt a.left.now a.right.now k =
-    row_inner a.half a.plain _ a.eta_dt x k _ _ _ _ i.0 (omega arith) i.4 above c.beside-beside.ensures (ap (λ (z : Float). a.eta_dt ⊗ c.beside-beside.result ⊖ at a.diag.now k ⊗ z) here) in
+    row_inner a.half a.plain _ a.eta_dt x k _ _ _ _ (omega arith) (omega arith) i.0 above c.beside-beside.ensures (ap (λ (z : Float). a.eta_dt ⊗ c.beside-beside.result ⊖ at a.diag.now k ⊗ z) here) in
     let up : k ≡ k + 1 - 1 = omega arith in (
-      omega arith,
-      omega arith,
-      simp length-set i.2,
-      simp length-set i.3,
       here ∙ ap (at x) up ∙ before_later x (k + 1) (omega arith),
-      stored _ x _ k _ i.1 i.5 (ap (λ (y : Float). y ⊗ (1ᶠ ⊘ whole (pos a.order))) t ∙ later_is _ x k i.0),
-      stored _ a.v.now _ k _ (omega arith) i.6 (ap₂ (λ (y z : Float). y ⊕ z ⊗ (1ᶠ ⊘ whole (pos a.order))) sum t ∙ later_is _ a.v.now k i.0),
+      stored _ x _ k _ (omega arith) i.1 (ap (λ (y : Float). y ⊗ (1ᶠ ⊘ whole (pos a.order))) t ∙ later_is _ x k (omega arith)),
+      stored _ a.v.now _ k _ (omega arith) i.2 (ap₂ (λ (y z : Float). y ⊕ z ⊗ (1ᶠ ⊘ whole (pos a.order))) sum t ∙ later_is _ a.v.now k (omega arith)),
     )
 
 pub bounds-x-0-2 : goal.bounds-x-0-2
@@ -69,19 +65,21 @@ returns c =
     let v = a.v.now in
     let n = length x in
     let k = c.loop-i.i in
+    let m = n - 1 in
+    let end : k ≡ m = omega arith in
     let i = c.loop-i.invariant in
     let inv = 1ᶠ ⊘ whole (pos a.order) in
     let f = entry a.half a.plain x a.diag.now a.eta_dt a.left.now a.right.now inv in
     let some : 0 < n = le_trans (lit≤ tt) p.two_rows in
-    let here : at c.loop-i.x k ≡ at x k = ap (λ (m : List Float). at m k) i.5 ∙ at_filled _ x k k (le_refl k) in
-    let sum : at c.loop-i.v k ≡ at v k = ap (λ (m : List Float). at m k) i.6 ∙ at_filled _ _ k k (le_refl k) in
+    let here : at c.loop-i.x m ≡ at x m = ap (λ (l : List Float). at l m) i.1 ∙ at_filled _ x k m (omega arith) in
+    let sum : at c.loop-i.v m ≡ at v m = ap (λ (l : List Float). at l m) i.2 ∙ at_filled _ _ k m (omega arith) in
     let first : c.row_at.result ≡ row a.half a.plain x a.diag.now a.eta_dt a.left.now a.right.now 0 =
     row_through a.half a.plain _ a.eta_dt x 0 _ _ _ p.two_rows (before_first x 0 refl) refl refl c.row_at.ensures in
-    let last : c.last_row.result ≡ row a.half a.plain x a.diag.now a.eta_dt a.left.now a.right.now k =
-    row_last a.half a.plain _ a.eta_dt x k _ _ (omega arith) i.4 (rw here at c.last_row.ensures) in
-    let terms = stored_last (later f x) x _ k k n _ (omega arith) refl refl i.5 (ap (λ (y : Float). y ⊗ inv) last ∙ later_is f x k i.0) in
-    let sums = stored_last (later (λ j. at v j ⊕ f j) v) v _ k k n _ (omega arith) refl p.sizes.term_n i.6 (ap₂ (λ (y z : Float). y ⊕ z ⊗ inv) sum last ∙ later_is (λ j. at v j ⊕ f j) v k i.0) in
+    let last : c.last_row.result ≡ row a.half a.plain x a.diag.now a.eta_dt a.left.now a.right.now m =
+    row_last a.half a.plain _ a.eta_dt x m _ _ (omega arith) (rw end at i.0) (rw here at c.last_row.ensures) in
+    let terms = stored_last (later f x) x _ k m n _ (omega arith) (omega arith) refl i.1 (ap (λ (y : Float). y ⊗ inv) last ∙ later_is f x m (omega arith)) in
+    let sums = stored_last (later (λ j. at v j ⊕ f j) v) v _ k m n _ (omega arith) (omega arith) p.sizes.term_n i.2 (ap₂ (λ (y z : Float). y ⊕ z ⊗ inv) sum last ∙ later_is (λ j. at v j ⊕ f j) v m (omega arith)) in
     term_made a.half a.plain _ a.eta_dt a.order x v _ _ _
     (later_all f x _ n _ some terms (ap (λ (y : Float). y ⊗ inv) first))
     (later_all (λ j. at v j ⊕ f j) v _ n _ some sums (ap₂ (λ (y z : Float). y ⊕ z ⊗ inv) (later_first _ v _ n some sums) first))
-    (c.has_converged.ensures ∙ converged_at _ _ _ _ (simp length-set i.2))
+    (c.has_converged.ensures ∙ converged_at _ _ _ _ (simp length-set (omega arith)))
