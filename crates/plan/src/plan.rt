@@ -26,14 +26,10 @@ fn norm_of(diag_s: &[f64], eta: f64, left: &[f64], right: &[f64]) -> f64
     ensures { result ≡ norm (fixed_over (length diag_s.now) diag_s.now eta) left.now right.now }
 {
     let mut norm = 0.0;
-    let mut i: usize = 0;
-    while i < diag_s.len() {
+    for i in 0..diag_s.len() {
         let d = diag_s[i];
         let sum = operator::magnitude(d) + eta * (left[i] + right[i]);
-        if norm < sum {
-            norm = sum;
-        }
-        i += 1;
+        norm = crate::reals::larger_of(norm, sum);
     }
     norm
 }
@@ -42,8 +38,7 @@ fn norm_of(diag_s: &[f64], eta: f64, left: &[f64], right: &[f64]) -> f64
 fn steps_needed(size: f64) -> f64
     ensures { result ≡ needed size }
 {
-    let up = crate::reals::ceil_or_nan(size / STEP_NORM);
-    if up < 1.0 { 1.0 } else { up }
+    crate::reals::larger_of(crate::reals::ceil_or_nan(size / STEP_NORM), 1.0)
 }
 
 // The plan for a norm times a time that is finite and positive.
