@@ -140,20 +140,18 @@ fn largest(w: &[f64]) -> Top
     let mut odd = 0.0;
     let mut first = true;
     let mut second = true;
-    let mut i: usize = 0;
-    while i + 1 < w.len() {
-        let x = w[i];
-        let y = w[i + 1];
+    for k in 0..w.len() / 2 {
+        let x = w[2 * k];
+        let y = w[2 * k + 1];
         even = plan::larger_of(even, x);
         odd = plan::larger_of(odd, y);
         first = first & (0.0 < x);
         second = second & (0.0 < y);
-        i += 2;
     }
     let both = plan::larger_of(even, odd);
     let all = first & second;
-    if i < w.len() {
-        let x = w[i];
+    if w.len() % 2 == 1 {
+        let x = w[w.len() - 1];
         return top_of(plan::larger_of(both, x), all & (0.0 < x));
     }
     top_of(both, all)
@@ -165,12 +163,10 @@ fn divide(w: &mut [f64], max: f64, steps: u32) -> bool
     ensures value { result ≡ not (rebalances (fold smaller (inf false) w.new) steps) }
 {
     let mut calm = true;
-    let mut i: usize = 0;
-    while i < w.len() {
+    for i in 0..w.len() {
         let x = w[i] / max;
         w[i] = x;
         calm = calm & !crate::must_rebalance(x, steps);
-        i += 1;
     }
     calm
 }
@@ -183,13 +179,11 @@ fn rebalance(w: &mut [f64], o: &mut [f64]) -> bool
     ensures value { result ≡ every (length w.old) (λ i. positive (at w.old i)) }
 {
     let mut all = true;
-    let mut i: usize = 0;
-    while i < w.len() {
+    for i in 0..w.len() {
         let x = w[i];
         all = all & elementary::is_positive_finite(x);
         o[i] = o[i] + crate::reals::ln_or_nan(x);
         w[i] = 1.0;
-        i += 1;
     }
     all
 }
@@ -332,24 +326,13 @@ pub fn refused_vector(number: u8) -> VectorAnswer
     }
 }
 
-// Every weight 1.0.
-fn fill_ones(w: &mut [f64])
-    ensures { w.new ≡ fill (length w.old) 1ᶠ }
-{
-    let mut i: usize = 0;
-    while i < w.len() {
-        w[i] = 1.0;
-        i += 1;
-    }
-}
-
 // A vector of n entries at the end of the time: weights of 1.0, offsets of 0.0.
 fn at_end(n: usize) -> ValueVector
     requires { n ≤ 401 }
     ensures { result ≡ vector_of n (fill n 1ᶠ) (fill n 0ᶠ) }
 {
     let mut w = plan::zeros();
-    fill_ones(&mut w[..n]);
+    w[..n].fill(1.0);
     ValueVector {
         w,
         log_offset: plan::zeros(),
@@ -363,10 +346,8 @@ fn fill_mirror(x: &mut [f64], n: usize)
     ensures { x.new ≡ filled_out (length x.old) n x.old x.old }
 {
     let last = x.len() - 1;
-    let mut i = n;
-    while i < x.len() {
+    for i in n..x.len() {
         x[i] = x[last - i];
-        i += 1;
     }
 }
 
