@@ -7,59 +7,48 @@ ghost use Rattle.series.specs.Slices.{beside_of};
 
 use operator::past_last;
 
-// Row i of B x, from the entries of x beside row i.
-pub(crate) fn row_at(
-    x: &[f64],
-    diag: &[f64],
-    eta_dt: f64,
-    left: &[f64],
-    right: &[f64],
-    i: usize,
-    lower: f64,
-    upper: f64,
-) -> f64
-    requires { (i < length x.now) × (i < length diag.now) × (i < length left.now) × (i < length right.now) }
-    ensures { result ≡ eta_dt ⊗ (at left.now i ⊗ lower ⊕ at right.now i ⊗ upper) ⊖ at diag.now i ⊗ at x.now i }
-{
-    eta_dt * (left[i] * lower + right[i] * upper) - diag[i] * x[i]
+// The operator B over the rows of a step: its diagonal and its factors, which `plain` says to leave out
+// between the end rows.
+#[derive(Clone, Copy)]
+pub(crate) struct Rows<'a> {
+    pub(crate) diag: &'a [f64],
+    pub(crate) eta_dt: f64,
+    pub(crate) left: &'a [f64],
+    pub(crate) right: &'a [f64],
+    pub(crate) half: bool,
+    pub(crate) plain: bool,
 }
 
-// The last row of B x, from the entry of x before it. Past the centre stands what stands before it, and
-// its factor with it.
-pub(crate) fn last_row(
-    x: &[f64],
-    diag: &[f64],
-    eta_dt: f64,
-    left: &[f64],
-    right: &[f64],
-    half: bool,
-    i: usize,
-    lower: f64,
-) -> f64
-    requires { (i < length x.now) × (i < length diag.now) × (i < length left.now) × (i < length right.now) }
-    ensures { result ≡ eta_dt ⊗ (at left.now i ⊗ lower ⊕ past half (at left.now i) (at right.now i) ⊗ past half lower 0ᶠ) ⊖ at diag.now i ⊗ at x.now i }
-{
-    let lf = left[i];
-    let rf = past_last(half, lf, right[i]);
-    let upper = past_last(half, lower, 0.0);
-    eta_dt * (lf * lower + rf * upper) - diag[i] * x[i]
-}
-
-// What the rows beside row i give it, through its factors, or plainly, without them: where these are 1.0
-// no product changes a bit.
-pub(crate) fn beside(
-    left: &[f64],
-    right: &[f64],
-    plain: bool,
-    i: usize,
-    lower: f64,
-    upper: f64,
-) -> f64
-    requires { (i < length left.now) × (i < length right.now) }
-    ensures { result ≡ beside_of plain (at left.now i) (at right.now i) lower upper }
-{
-    if plain {
-        return lower + upper;
+impl<'a> Rows<'a> {
+    // Row i of B x, from the entries of x beside row i.
+    pub(crate) fn row_at(self, x: &[f64], i: usize, lower: f64, upper: f64) -> f64
+        requires { (i < length x.now) × (i < length self.diag.now) × (i < length self.left.now) × (i < length self.right.now) }
+        ensures { result ≡ self.entry.eta_dt ⊗ (at self.entry.left.now i ⊗ lower ⊕ at self.entry.right.now i ⊗ upper) ⊖ at self.entry.diag.now i ⊗ at x.now i }
+    {
+        self.eta_dt * (self.left[i] * lower + self.right[i] * upper) - self.diag[i] * x[i]
     }
-    left[i] * lower + right[i] * upper
+
+    // The last row of B x, from the entry of x before it. Past the centre stands what stands before it, and
+    // its factor with it.
+    pub(crate) fn last_row(self, x: &[f64], i: usize, lower: f64) -> f64
+        requires { (i < length x.now) × (i < length self.diag.now) × (i < length self.left.now) × (i < length self.right.now) }
+        ensures { result ≡ self.entry.eta_dt ⊗ (at self.entry.left.now i ⊗ lower ⊕ past self.entry.half (at self.entry.left.now i) (at self.entry.right.now i) ⊗ past self.entry.half lower 0ᶠ) ⊖ at self.entry.diag.now i ⊗ at x.now i }
+    {
+        let lf = self.left[i];
+        let rf = past_last(self.half, lf, self.right[i]);
+        let upper = past_last(self.half, lower, 0.0);
+        self.eta_dt * (lf * lower + rf * upper) - self.diag[i] * x[i]
+    }
+
+    // What the rows beside row i give it, through its factors, or plainly, without them: where these are 1.0
+    // no product changes a bit.
+    pub(crate) fn beside(self, i: usize, lower: f64, upper: f64) -> f64
+        requires { (i < length self.left.now) × (i < length self.right.now) }
+        ensures { result ≡ beside_of self.entry.plain (at self.entry.left.now i) (at self.entry.right.now i) lower upper }
+    {
+        if self.plain {
+            return lower + upper;
+        }
+        self.left[i] * lower + self.right[i] * upper
+    }
 }

@@ -4,6 +4,8 @@ ghost use Rattle.std.specs.Prelude.{◌≡◌, ◌≤◌, false, length};
 ghost use Rattle.series.specs.Series.{small, converged, operator_over};
 ghost use Rattle.series.specs.Slices.{five_sized, slice_term, sum_of, with_term, series_over, step_over, Sizes};
 
+use crate::rows::Rows;
+
 const TAYLOR_TOL: f64 = 1e-16;
 
 pub(crate) const MAX_TAYLOR_ORDER: u32 = 100;
@@ -41,30 +43,22 @@ fn has_converged(t: &[f64], v: &[f64]) -> bool
 
 // Term 1, from v itself, and the sum with it; whether it has converged. `lower` is the entry of v
 // before row i, as it was.
-fn first_term(
-    v: &mut [f64],
-    diag: &[f64],
-    eta_dt: f64,
-    left: &[f64],
-    right: &[f64],
-    half: bool,
-    out: &mut [f64],
-) -> bool
+fn first_term<'a>(v: &mut [f64], rows: Rows<'a>, out: &mut [f64]) -> bool
     requires two_rows { 2 ≤ length v.old }
-    requires sizes { Sizes (length v.old) diag.now left.now right.now out.old }
+    requires sizes { Sizes (length v.old) rows.diag.now rows.left.now rows.right.now out.old }
     ensures { sum_of out.new v.new result ≡ with_term (length v.old) v.old
-        (slice_term half false (operator_over (length v.old) diag.now left.now right.now) eta_dt 1 v.old) }
+        (slice_term rows.entry.half false (operator_over (length v.old) rows.entry.diag.now rows.entry.left.now rows.entry.right.now) rows.entry.eta_dt 1 v.old) }
 {
     let last = out.len() - 1;
     let mut lower = 0.0;
     for i in 0..last {
         let x = v[i];
-        let t = crate::rows::row_at(v, diag, eta_dt, left, right, i, lower, v[i + 1]);
+        let t = rows.row_at(v, i, lower, v[i + 1]);
         out[i] = t;
         v[i] = x + t;
         lower = x;
     }
-    let t = crate::rows::last_row(v, diag, eta_dt, left, right, half, last, lower);
+    let t = rows.last_row(v, last, lower);
     out[last] = t;
     v[last] = v[last] + t;
     has_converged(out, v)
@@ -73,35 +67,25 @@ fn first_term(
 // A later term in place of the one before it, and the sum with it; whether it has converged. The first
 // and the last row stand apart, so that the rows between them read both neighbours; `lower` is the
 // entry of x before row i, as it was.
-fn next_term(
-    x: &mut [f64],
-    diag: &[f64],
-    eta_dt: f64,
-    left: &[f64],
-    right: &[f64],
-    half: bool,
-    plain: bool,
-    order: u32,
-    v: &mut [f64],
-) -> bool
+fn next_term<'a>(x: &mut [f64], rows: Rows<'a>, order: u32, v: &mut [f64]) -> bool
     requires two_rows { 2 ≤ length x.old }
-    requires sizes { Sizes (length x.old) diag.now left.now right.now v.old }
+    requires sizes { Sizes (length x.old) rows.diag.now rows.left.now rows.right.now v.old }
     ensures { sum_of x.new v.new result ≡ with_term (length x.old) v.old
-        (slice_term half plain (operator_over (length x.old) diag.now left.now right.now) eta_dt order x.old) }
+        (slice_term rows.entry.half rows.entry.plain (operator_over (length x.old) rows.entry.diag.now rows.entry.left.now rows.entry.right.now) rows.entry.eta_dt order x.old) }
 {
     let inv = 1.0 / (order as f64);
     let last = x.len() - 1;
-    let first = crate::rows::row_at(x, diag, eta_dt, left, right, 0, 0.0, x[1]) * inv;
+    let first = rows.row_at(x, 0, 0.0, x[1]) * inv;
     let mut lower = x[0];
     for i in 1..last {
         let centre = x[i];
-        let beside = crate::rows::beside(left, right, plain, i, lower, x[i + 1]);
-        let t = (eta_dt * beside - diag[i] * centre) * inv;
+        let beside = rows.beside(i, lower, x[i + 1]);
+        let t = (rows.eta_dt * beside - rows.diag[i] * centre) * inv;
         x[i] = t;
         v[i] = v[i] + t;
         lower = centre;
     }
-    let end = crate::rows::last_row(x, diag, eta_dt, left, right, half, last, lower) * inv;
+    let end = rows.last_row(x, last, lower) * inv;
     x[last] = end;
     v[last] = v[last] + end;
     x[0] = first;
@@ -111,26 +95,17 @@ fn next_term(
 
 // The work of `taylor_step` over slices. Nothing is copied: term 1 comes from v itself, and each later
 // one takes the place of the one before it in `term`.
-fn taylor_rows(
-    v: &mut [f64],
-    diag: &[f64],
-    eta_dt: f64,
-    left: &[f64],
-    right: &[f64],
-    half: bool,
-    plain: bool,
-    term: &mut [f64],
-) -> bool
+fn taylor_rows<'a>(v: &mut [f64], rows: Rows<'a>, term: &mut [f64]) -> bool
     requires two_rows { 2 ≤ length v.old }
-    requires sizes { Sizes (length v.old) diag.now left.now right.now term.old }
+    requires sizes { Sizes (length v.old) rows.diag.now rows.left.now rows.right.now term.old }
     ensures { sum_of term.new v.new result
-        ≡ series_over half plain (operator_over (length v.old) diag.now left.now right.now) eta_dt v.old }
+        ≡ series_over rows.entry.half rows.entry.plain (operator_over (length v.old) rows.entry.diag.now rows.entry.left.now rows.entry.right.now) rows.entry.eta_dt v.old }
 {
-    if first_term(v, diag, eta_dt, left, right, half, term) {
+    if first_term(v, rows, term) {
         return true;
     }
     for order in 2..=MAX_TAYLOR_ORDER {
-        if next_term(term, diag, eta_dt, left, right, half, plain, order, v) {
+        if next_term(term, rows, order, v) {
             return true;
         }
     }
@@ -169,5 +144,13 @@ pub fn taylor_step(
             return crate::pair::taylor_pair(v, diag, eta_dt, left, right, term);
         }
     }
-    taylor_rows(v, diag, eta_dt, left, right, half, plain, term)
+    let rows = Rows {
+        diag,
+        eta_dt,
+        left,
+        right,
+        half,
+        plain,
+    };
+    taylor_rows(v, rows, term)
 }

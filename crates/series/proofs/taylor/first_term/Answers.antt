@@ -25,8 +25,8 @@ loop-i-preserved c =
     let i = c.loop-i.invariant in
     let here : at c.loop-i.v k ≡ at v k = ap (λ (m : List Float). at m k) i.2 ∙ at_filled _ v k k (le_refl k) in
     let above : at c.loop-i.v (k + 1) ≡ at v (k + 1) = ap (λ (m : List Float). at m (k + 1)) i.2 ∙ at_filled _ v k (k + 1) (omega arith) in
-    let t : c.row_at-t.result ≡ row a.half v a.diag.now a.eta_dt a.left.now a.right.now k =
-    row_through a.half false _ a.eta_dt v k _ _ _ (omega arith) i.0 refl (never_plain (ltb 0 k)) (rw (here, above) at c.row_at-t.ensures) in
+    let t : c.row_at-t.result ≡ row a.rows.half v a.rows.diag.now a.rows.eta_dt a.rows.left.now a.rows.right.now k =
+    row_through a.rows.half false _ a.rows.eta_dt v k _ _ _ (omega arith) i.0 refl (never_plain (ltb 0 k)) (rw (here, above) at c.row_at-t.ensures) in
     let up : k ≡ k + 1 - 1 = omega arith in (
       here ∙ ap (at v) up ∙ before_later v (k + 1) (omega arith),
       stored _ _ _ k _ (omega arith) i.1 t,
@@ -51,7 +51,7 @@ returns c =
     let i = c.loop-i.invariant in
     let end : k ≡ n = omega arith in
     let here : at c.loop-i.v n ≡ at v n = ap (λ (m : List Float). at m n) i.2 ∙ at_filled _ v k n (omega arith) in
-    let t : c.last_row-t.result ≡ row a.half v a.diag.now a.eta_dt a.left.now a.right.now n =
-    row_last a.half false _ a.eta_dt v n _ _ (omega arith) (rw end at i.0) (rw here at c.last_row-t.ensures) in
-    first_made a.half false _ a.eta_dt v _ _ _ (stored_last _ _ _ k n (length v) _ (omega arith) (omega arith) (omega arith) i.1 t) (stored_last _ v _ k n (length v) _ (omega arith) (omega arith) refl i.2 (rw (here, t)))
+    let t : c.last_row-t.result ≡ row a.rows.half v a.rows.diag.now a.rows.eta_dt a.rows.left.now a.rows.right.now n =
+    row_last a.rows.half false _ a.rows.eta_dt v n _ _ (omega arith) (rw end at i.0) (rw here at c.last_row-t.ensures) in
+    first_made a.rows.half false _ a.rows.eta_dt v _ _ _ (stored_last _ _ _ k n (length v) _ (omega arith) (omega arith) (omega arith) i.1 t) (stored_last _ v _ k n (length v) _ (omega arith) (omega arith) refl i.2 (rw (here, t)))
     (c.has_converged.ensures ∙ converged_at _ _ _ _ (simp length-set (omega arith)))

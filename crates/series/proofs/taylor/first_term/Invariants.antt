@@ -16,4 +16,4 @@ row half v diag eta left right = slice_row half false (operator_over (length v) 
 
 abbrev pub invariant-loop-i : goal.invariant-loop-i
 invariant-loop-i l = (l.lower ≡ before l.initial.v l.i)
-    × (l.out ≡ filled (row l.half l.initial.v l.diag l.eta_dt l.left l.right) l.initial.out l.i) × (l.v ≡ filled (λ k. at l.initial.v k ⊕ row l.half l.initial.v l.diag l.eta_dt l.left l.right k) l.initial.v l.i)
+    × (l.out ≡ filled (row l.rows.half l.initial.v l.rows.diag.now l.rows.eta_dt l.rows.left.now l.rows.right.now) l.initial.out l.i) × (l.v ≡ filled (λ k. at l.initial.v k ⊕ row l.rows.half l.initial.v l.rows.diag.now l.rows.eta_dt l.rows.left.now l.rows.right.now k) l.initial.v l.i)

@@ -31,8 +31,8 @@ loop-i-preserved c =
     let here : at c.loop-i.x k ≡ at x k = ap (λ (m : List Float). at m k) i.1 ∙ at_filled _ x k k (le_refl k) in
     let above : at c.loop-i.x (k + 1) ≡ at x (k + 1) = ap (λ (m : List Float). at m (k + 1)) i.1 ∙ at_filled _ x k (k + 1) (omega arith) in
     let sum : at c.loop-i.v k ≡ at a.v.now k = ap (λ (m : List Float). at m k) i.2 ∙ at_filled _ _ k k (le_refl k) in
-    let t : a.eta_dt ⊗ c.beside-beside.result ⊖ at a.diag.now k ⊗ at c.loop-i.x k ≡ row a.half a.plain x a.diag.now a.eta_dt a.left.now a.right.now k =
-    row_inner a.half a.plain _ a.eta_dt x k _ _ _ _ (omega arith) (omega arith) i.0 above c.beside-beside.ensures (ap (λ (z : Float). a.eta_dt ⊗ c.beside-beside.result ⊖ at a.diag.now k ⊗ z) here) in
+    let t : a.rows.eta_dt ⊗ c.beside-beside.result ⊖ at a.rows.diag.now k ⊗ at c.loop-i.x k ≡ row a.rows.half a.rows.plain x a.rows.diag.now a.rows.eta_dt a.rows.left.now a.rows.right.now k =
+    row_inner a.rows.half a.rows.plain _ a.rows.eta_dt x k _ _ _ _ (omega arith) (omega arith) i.0 above c.beside-beside.ensures (ap (λ (z : Float). a.rows.eta_dt ⊗ c.beside-beside.result ⊖ at a.rows.diag.now k ⊗ z) here) in
     let up : k ≡ k + 1 - 1 = omega arith in (
       here ∙ ap (at x) up ∙ before_later x (k + 1) (omega arith),
       stored _ x _ k _ (omega arith) i.1 (ap (λ (y : Float). y ⊗ (1ᶠ ⊘ whole (pos a.order))) t ∙ later_is _ x k (omega arith)),
@@ -69,17 +69,17 @@ returns c =
     let end : k ≡ m = omega arith in
     let i = c.loop-i.invariant in
     let inv = 1ᶠ ⊘ whole (pos a.order) in
-    let f = entry a.half a.plain x a.diag.now a.eta_dt a.left.now a.right.now inv in
+    let f = entry a.rows.half a.rows.plain x a.rows.diag.now a.rows.eta_dt a.rows.left.now a.rows.right.now inv in
     let some : 0 < n = le_trans (lit≤ tt) p.two_rows in
     let here : at c.loop-i.x m ≡ at x m = ap (λ (l : List Float). at l m) i.1 ∙ at_filled _ x k m (omega arith) in
     let sum : at c.loop-i.v m ≡ at v m = ap (λ (l : List Float). at l m) i.2 ∙ at_filled _ _ k m (omega arith) in
-    let first : c.row_at.result ≡ row a.half a.plain x a.diag.now a.eta_dt a.left.now a.right.now 0 =
-    row_through a.half a.plain _ a.eta_dt x 0 _ _ _ p.two_rows (before_first x 0 refl) refl refl c.row_at.ensures in
-    let last : c.last_row.result ≡ row a.half a.plain x a.diag.now a.eta_dt a.left.now a.right.now m =
-    row_last a.half a.plain _ a.eta_dt x m _ _ (omega arith) (rw end at i.0) (rw here at c.last_row.ensures) in
+    let first : c.row_at.result ≡ row a.rows.half a.rows.plain x a.rows.diag.now a.rows.eta_dt a.rows.left.now a.rows.right.now 0 =
+    row_through a.rows.half a.rows.plain _ a.rows.eta_dt x 0 _ _ _ p.two_rows (before_first x 0 refl) refl refl c.row_at.ensures in
+    let last : c.last_row.result ≡ row a.rows.half a.rows.plain x a.rows.diag.now a.rows.eta_dt a.rows.left.now a.rows.right.now m =
+    row_last a.rows.half a.rows.plain _ a.rows.eta_dt x m _ _ (omega arith) (rw end at i.0) (rw here at c.last_row.ensures) in
     let terms = stored_last (later f x) x _ k m n _ (omega arith) (omega arith) refl i.1 (ap (λ (y : Float). y ⊗ inv) last ∙ later_is f x m (omega arith)) in
     let sums = stored_last (later (λ j. at v j ⊕ f j) v) v _ k m n _ (omega arith) (omega arith) p.sizes.term_n i.2 (ap₂ (λ (y z : Float). y ⊕ z ⊗ inv) sum last ∙ later_is (λ j. at v j ⊕ f j) v m (omega arith)) in
-    term_made a.half a.plain _ a.eta_dt a.order x v _ _ _
+    term_made a.rows.half a.rows.plain _ a.rows.eta_dt a.order x v _ _ _
     (later_all f x _ n _ some terms (ap (λ (y : Float). y ⊗ inv) first))
     (later_all (λ j. at v j ⊕ f j) v _ n _ some sums (ap₂ (λ (y z : Float). y ⊕ z ⊗ inv) (later_first _ v _ n some sums) first))
     (c.has_converged.ensures ∙ converged_at _ _ _ _ (simp length-set (omega arith)))

@@ -21,4 +21,4 @@ entry half plain x diag eta left right inv k = row half plain x diag eta left ri
 abbrev pub invariant-loop-i : goal.invariant-loop-i
 invariant-loop-i l =
     (l.lower ≡ before l.initial.x l.i)
-    × (l.x ≡ filled (later (entry l.half l.plain l.initial.x l.diag l.eta_dt l.left l.right l.inv) l.initial.x) l.initial.x l.i) × (l.v ≡ filled (later (λ k. at l.initial.v k ⊕ entry l.half l.plain l.initial.x l.diag l.eta_dt l.left l.right l.inv k) l.initial.v) l.initial.v l.i)
+    × (l.x ≡ filled (later (entry l.rows.half l.rows.plain l.initial.x l.rows.diag.now l.rows.eta_dt l.rows.left.now l.rows.right.now l.inv) l.initial.x) l.initial.x l.i) × (l.v ≡ filled (later (λ k. at l.initial.v k ⊕ entry l.rows.half l.rows.plain l.initial.x l.rows.diag.now l.rows.eta_dt l.rows.left.now l.rows.right.now l.inv k) l.initial.v) l.initial.v l.i)

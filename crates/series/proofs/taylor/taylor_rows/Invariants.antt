@@ -8,5 +8,5 @@ use Rattle.series.proofs.taylor.taylor_rows.Given as goal
 
 abbrev pub invariant-loop-order : goal.invariant-loop-order
 invariant-loop-order l =
-    let p = operator_over (length l.fn.v) l.diag l.left l.right in
-    more_terms (101 - l.order) false l.half l.plain p l.eta_dt l.order (sum_of l.term l.v false) ≡ series_over l.half l.plain p l.eta_dt l.fn.v
+    let p = operator_over (length l.fn.v) l.rows.diag.now l.rows.left.now l.rows.right.now in
+    more_terms (101 - l.order) false l.rows.half l.rows.plain p l.rows.eta_dt l.order (sum_of l.term l.v false) ≡ series_over l.rows.half l.rows.plain p l.rows.eta_dt l.fn.v
