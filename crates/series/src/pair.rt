@@ -7,6 +7,7 @@ ghost use Rattle.series.specs.Series.{operator_over};
 ghost use Rattle.series.specs.Slices.{slice_row, slice_term, sum_of, with_term, series_over};
 ghost use Rattle.series.specs.Pairs.{pair_of, operator_of, partial_of};
 
+use crate::rows::Rows;
 use crate::taylor::MAX_TAYLOR_ORDER;
 
 // The entries of the end row and of the centre.
@@ -116,22 +117,16 @@ fn sum_series(op: TwoRows, v: Pair) -> Partial
 }
 
 // The work of `taylor::taylor_step` over two rows, up to the centre.
-pub(crate) fn taylor_pair(
-    v: &mut [f64],
-    diag: &[f64],
-    eta_dt: f64,
-    left: &[f64],
-    right: &[f64],
-    term: &mut [f64],
-) -> bool
-    requires { (length v.old ≡ 2) × (length diag.now ≡ 2) × (length left.now ≡ 2) × (length right.now ≡ 2) × (length term.old ≡ 2) }
-    ensures { sum_of term.new v.new result ≡ series_over true false (operator_over 2 diag.now left.now right.now) eta_dt v.old }
+pub(crate) fn taylor_pair(v: &mut [f64], rows: Rows<'_>, term: &mut [f64]) -> bool
+    requires { (length v.old ≡ 2) × (length rows.diag.now ≡ 2) × (length rows.left.now ≡ 2) × (length rows.right.now ≡ 2) × (length term.old ≡ 2) }
+    ensures { sum_of term.new v.new result
+        ≡ series_over true false (operator_over 2 rows.entry.diag.now rows.entry.left.now rows.entry.right.now) rows.entry.eta_dt v.old }
 {
     let op = TwoRows {
-        eta_dt,
-        diag: pair_of(diag),
-        left: pair_of(left),
-        right: pair_of(right),
+        eta_dt: rows.eta_dt,
+        diag: pair_of(rows.diag),
+        left: pair_of(rows.left),
+        right: pair_of(rows.right),
     };
     let s = sum_series(op, pair_of(v));
     v[0] = s.sum.end;

@@ -19,7 +19,7 @@ pub(crate) struct Rows<'a> {
     pub(crate) plain: bool,
 }
 
-impl<'a> Rows<'a> {
+impl Rows<'_> {
     // Row i of B x, from the entries of x beside row i.
     pub(crate) fn row_at(self, x: &[f64], i: usize, lower: f64, upper: f64) -> f64
         requires { (i < length x.now) × (i < length self.diag.now) × (i < length self.left.now) × (i < length self.right.now) }

@@ -43,7 +43,7 @@ fn has_converged(t: &[f64], v: &[f64]) -> bool
 
 // Term 1, from v itself, and the sum with it; whether it has converged. `lower` is the entry of v
 // before row i, as it was.
-fn first_term<'a>(v: &mut [f64], rows: Rows<'a>, out: &mut [f64]) -> bool
+fn first_term(v: &mut [f64], rows: Rows<'_>, out: &mut [f64]) -> bool
     requires two_rows { 2 ≤ length v.old }
     requires sizes { Sizes (length v.old) rows.diag.now rows.left.now rows.right.now out.old }
     ensures { sum_of out.new v.new result ≡ with_term (length v.old) v.old
@@ -67,7 +67,7 @@ fn first_term<'a>(v: &mut [f64], rows: Rows<'a>, out: &mut [f64]) -> bool
 // A later term in place of the one before it, and the sum with it; whether it has converged. The first
 // and the last row stand apart, so that the rows between them read both neighbours; `lower` is the
 // entry of x before row i, as it was.
-fn next_term<'a>(x: &mut [f64], rows: Rows<'a>, order: u32, v: &mut [f64]) -> bool
+fn next_term(x: &mut [f64], rows: Rows<'_>, order: u32, v: &mut [f64]) -> bool
     requires two_rows { 2 ≤ length x.old }
     requires sizes { Sizes (length x.old) rows.diag.now rows.left.now rows.right.now v.old }
     ensures { sum_of x.new v.new result ≡ with_term (length x.old) v.old
@@ -95,7 +95,7 @@ fn next_term<'a>(x: &mut [f64], rows: Rows<'a>, order: u32, v: &mut [f64]) -> bo
 
 // The work of `taylor_step` over slices. Nothing is copied: term 1 comes from v itself, and each later
 // one takes the place of the one before it in `term`.
-fn taylor_rows<'a>(v: &mut [f64], rows: Rows<'a>, term: &mut [f64]) -> bool
+fn taylor_rows(v: &mut [f64], rows: Rows<'_>, term: &mut [f64]) -> bool
     requires two_rows { 2 ≤ length v.old }
     requires sizes { Sizes (length v.old) rows.diag.now rows.left.now rows.right.now term.old }
     ensures { sum_of term.new v.new result
@@ -139,11 +139,6 @@ pub fn taylor_step(
     if !step_fits(v.len(), diag.len(), left.len(), right.len(), term.len()) {
         return false;
     }
-    if half {
-        if v.len() == 2 {
-            return crate::pair::taylor_pair(v, diag, eta_dt, left, right, term);
-        }
-    }
     let rows = Rows {
         diag,
         eta_dt,
@@ -152,5 +147,8 @@ pub fn taylor_step(
         half,
         plain,
     };
+    if half && v.len() == 2 {
+        return crate::pair::taylor_pair(v, rows, term);
+    }
     taylor_rows(v, rows, term)
 }
