@@ -238,36 +238,37 @@ fn plan_steps(
     pace
 }
 
-// A plan for the rest of the time, from weights of 1.0, and its steps, with room for what they work
-// on.
-fn run_plan(
-    w: &mut [f64],
-    o: &mut [f64],
-    diag_s: &[f64],
+// What stays through a run over n rows: their diagonal a second and eta.
+#[derive(Clone, Copy)]
+struct Fixed<'a> {
+    diag_s: &'a [f64],
     eta: f64,
-    rest: f64,
-    budget: u32,
     n: usize,
     half: bool,
-) -> Pace
-    requires { (2 ≤ n) × (n ≤ 401) × (length w.old ≡ n) × (length o.old ≡ n) × (length diag_s.now ≡ n) × (budget ≤ cap) × (full half n w.old ≡ fill (full_size half n) 1ᶠ) }
-    ensures { Between (full_fixed half n diag_s.now eta)
-        (run_on budget (full_fixed half n diag_s.now eta) (begin (full_fixed half n diag_s.now eta) budget (fill (full_size half n) 1ᶠ) (full half n o.old) rest))
-        (full half n w.new) (full half n o.new) result × (weight result ≤ budget) }
+}
+
+// A plan for the rest of the time, from weights of 1.0, and its steps, with room for what they work
+// on.
+fn run_plan(w: &mut [f64], o: &mut [f64], fixed: Fixed<'_>, rest: f64, budget: u32) -> Pace
+    requires { let n = fixed.n in (2 ≤ n) × (n ≤ 401) × (length w.old ≡ n) × (length o.old ≡ n) × (length fixed.diag_s.now ≡ n) × (budget ≤ cap) × (full fixed.half n w.old ≡ fill (full_size fixed.half n) 1ᶠ) }
+    ensures { let f = fixed.entry in let p = full_fixed f.half f.n f.diag_s.now f.eta in
+        Between p (run_on budget p (begin p budget (fill (full_size f.half f.n) 1ᶠ) (full f.half f.n o.old) rest))
+        (full f.half f.n w.new) (full f.half f.n o.new) result × (weight result ≤ budget) }
 {
+    let n = fixed.n;
     let mut diag = plan::zeros();
     let mut left = plan::zeros();
     let mut right = plan::zeros();
     let planned = plan::set_plan(
         o,
-        diag_s,
+        fixed.diag_s,
         &mut diag[..n],
         &mut left[..n],
         &mut right[..n],
-        eta,
+        fixed.eta,
         rest,
         budget,
-        half,
+        fixed.half,
     );
     let first = pace_of(planned, budget, rest);
     let mut term = plan::zeros();
@@ -278,29 +279,22 @@ fn run_plan(
         &left[..n],
         &right[..n],
         &mut term[..n],
-        eta,
+        fixed.eta,
         first,
-        half,
+        fixed.half,
     )
 }
 
 // The run over a time above zero, from weights of 1.0: plan after plan.
-fn run_plans(
-    w: &mut [f64],
-    o: &mut [f64],
-    diag_s: &[f64],
-    eta: f64,
-    tau: f64,
-    n: usize,
-    half: bool,
-) -> Outcome
-    requires { (2 ≤ n) × (n ≤ 401) × (w.old ≡ fill n 1ᶠ) × (length o.old ≡ n) × (length diag_s.now ≡ n) }
-    ensures { EndIs (run_on cap (full_fixed half n diag_s.now eta) (begin (full_fixed half n diag_s.now eta) cap (fill (full_size half n) 1ᶠ) (full half n o.old) tau))
-        result (full half n w.new) (full half n o.new) }
+fn run_plans(w: &mut [f64], o: &mut [f64], fixed: Fixed<'_>, tau: f64) -> Outcome
+    requires { let n = fixed.n in (2 ≤ n) × (n ≤ 401) × (w.old ≡ fill n 1ᶠ) × (length o.old ≡ n) × (length fixed.diag_s.now ≡ n) }
+    ensures { let f = fixed.entry in let p = full_fixed f.half f.n f.diag_s.now f.eta in
+        EndIs (run_on cap p (begin p cap (fill (full_size f.half f.n) 1ᶠ) (full f.half f.n o.old) tau))
+        result (full f.half f.n w.new) (full f.half f.n o.new) }
 {
     let mut pace = asking(MAX_EXPM_STEPS, tau);
     while pace.ask {
-        pace = run_plan(w, o, diag_s, eta, pace.remaining, pace.budget, n, half);
+        pace = run_plan(w, o, fixed, pace.remaining, pace.budget);
     }
     end_of(pace)
 }
@@ -366,7 +360,13 @@ fn run_rows(w: &mut [f64], o: &mut [f64], input: RunInput, n: usize, half: bool)
         input.bound,
         &mut diag_s[..n],
     ) {
-        return run_plans(w, o, &diag_s[..n], input.eta, input.tau, n, half);
+        let fixed = Fixed {
+            diag_s: &diag_s[..n],
+            eta: input.eta,
+            n,
+            half,
+        };
+        return run_plans(w, o, fixed, input.tau);
     }
     Outcome::Refused(NUMERICAL)
 }

@@ -10,7 +10,7 @@ use Rattle.vector.proofs.run.run_plans.Goals as goal
 
 pub loop-pace-init : goal.loop-pace-init
 loop-pace-init c =
-    (refl, refl, between_first _ _ _ _ _ c.asking-pace.ensures (ap (full c.args.half c.args.n) c.requires.2 ∙ full_fill c.args.half c.args.n (omega (arith, c.requires.0)) 1ᶠ))
+    (refl, refl, between_first _ _ _ _ _ c.asking-pace.ensures (ap (full c.args.fixed.half c.args.fixed.n) c.requires.2 ∙ full_fill c.args.fixed.half c.args.fixed.n (omega (arith, c.requires.0)) 1ᶠ))
 
 pub run_plan-pace-requires : goal.run_plan-pace-requires
 run_plan-pace-requires c =

@@ -30,8 +30,8 @@ slice_bounds-diag_s-end-then-fill_shifted_diagonal c =
     let diagonal : let a = c.args in c.fill_shifted_diagonal.new.diag ≡ tab a.n (diagonal_at a.input.bound a.input.alpha a.input.beta a.input.eta) = diagonal_over_lem _ _ _ _ _ _ _ length-of c.requires.start.1 c.fill_shifted_diagonal.ensures.diag_after in
     stored_room _ _ _ _ diagonal
 
-pub slice_bounds-run_plans-end : goal.slice_bounds-run_plans-end
-slice_bounds-run_plans-end c =
+pub slice_bounds-fixed-end : goal.slice_bounds-fixed-end
+slice_bounds-fixed-end c =
     let few : c.args.n ≤ room = omega (arith, c.requires.start.1, c.requires.start.2) in
     let length-of : let n = c.args.n in length (take n c.zeros-diag_s.result) ≡ n = blank_length _ _ c.zeros-diag_s.ensures few in
     let diagonal : let a = c.args in c.fill_shifted_diagonal.new.diag ≡ tab a.n (diagonal_at a.input.bound a.input.alpha a.input.beta a.input.eta) = diagonal_over_lem _ _ _ _ _ _ _ length-of c.requires.start.1 c.fill_shifted_diagonal.ensures.diag_after in
