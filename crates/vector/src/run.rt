@@ -238,24 +238,23 @@ fn plan_steps(
     pace
 }
 
-// What stays through a run over n rows: their diagonal a second and eta.
+// What stays through a run: the diagonal a second, by its rows, and eta.
 #[derive(Clone, Copy)]
 struct Fixed<'a> {
     diag_s: &'a [f64],
     eta: f64,
-    n: usize,
     half: bool,
 }
 
 // A plan for the rest of the time, from weights of 1.0, and its steps, with room for what they work
 // on.
 fn run_plan(w: &mut [f64], o: &mut [f64], fixed: Fixed<'_>, rest: f64, budget: u32) -> Pace
-    requires { let n = fixed.n in (2 ≤ n) × (n ≤ 401) × (length w.old ≡ n) × (length o.old ≡ n) × (length fixed.diag_s.now ≡ n) × (budget ≤ cap) × (full fixed.half n w.old ≡ fill (full_size fixed.half n) 1ᶠ) }
-    ensures { let f = fixed.entry in let p = full_fixed f.half f.n f.diag_s.now f.eta in
-        Between p (run_on budget p (begin p budget (fill (full_size f.half f.n) 1ᶠ) (full f.half f.n o.old) rest))
-        (full f.half f.n w.new) (full f.half f.n o.new) result × (weight result ≤ budget) }
+    requires { let n = length fixed.diag_s.now in (2 ≤ n) × (n ≤ 401) × (length w.old ≡ n) × (length o.old ≡ n) × (budget ≤ cap) × (full fixed.half n w.old ≡ fill (full_size fixed.half n) 1ᶠ) }
+    ensures { let f = fixed.entry in let n = length f.diag_s.now in let p = full_fixed f.half n f.diag_s.now f.eta in
+        Between p (run_on budget p (begin p budget (fill (full_size f.half n) 1ᶠ) (full f.half n o.old) rest))
+        (full f.half n w.new) (full f.half n o.new) result × (weight result ≤ budget) }
 {
-    let n = fixed.n;
+    let n = fixed.diag_s.len();
     let mut diag = plan::zeros();
     let mut left = plan::zeros();
     let mut right = plan::zeros();
@@ -287,10 +286,10 @@ fn run_plan(w: &mut [f64], o: &mut [f64], fixed: Fixed<'_>, rest: f64, budget: u
 
 // The run over a time above zero, from weights of 1.0: plan after plan.
 fn run_plans(w: &mut [f64], o: &mut [f64], fixed: Fixed<'_>, tau: f64) -> Outcome
-    requires { let n = fixed.n in (2 ≤ n) × (n ≤ 401) × (w.old ≡ fill n 1ᶠ) × (length o.old ≡ n) × (length fixed.diag_s.now ≡ n) }
-    ensures { let f = fixed.entry in let p = full_fixed f.half f.n f.diag_s.now f.eta in
-        EndIs (run_on cap p (begin p cap (fill (full_size f.half f.n) 1ᶠ) (full f.half f.n o.old) tau))
-        result (full f.half f.n w.new) (full f.half f.n o.new) }
+    requires { let n = length fixed.diag_s.now in (2 ≤ n) × (n ≤ 401) × (w.old ≡ fill n 1ᶠ) × (length o.old ≡ n) }
+    ensures { let f = fixed.entry in let n = length f.diag_s.now in let p = full_fixed f.half n f.diag_s.now f.eta in
+        EndIs (run_on cap p (begin p cap (fill (full_size f.half n) 1ᶠ) (full f.half n o.old) tau))
+        result (full f.half n w.new) (full f.half n o.new) }
 {
     let mut pace = asking(MAX_EXPM_STEPS, tau);
     while pace.ask {
@@ -363,7 +362,6 @@ fn run_rows(w: &mut [f64], o: &mut [f64], input: RunInput, n: usize, half: bool)
         let fixed = Fixed {
             diag_s: &diag_s[..n],
             eta: input.eta,
-            n,
             half,
         };
         return run_plans(w, o, fixed, input.tau);

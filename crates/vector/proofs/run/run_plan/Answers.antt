@@ -1,5 +1,5 @@
 -- A plan and its steps lead from one plan to the next. Assumes nothing.
-use mathlib.Core.Path.{◌≡◌, sym, ap, ◌∙◌}
+use mathlib.Core.Path.{◌≡◌, refl, sym, ap, ◌∙◌}
 use Prim.Native.Nat.{ℕ, ◌≤◌}
 use mathlib.Core.List.{◌++◌}
 use lib.ListN.{length, take, drop}
@@ -32,42 +32,42 @@ slice_bounds-set_plan-end-3 c = sym (blank_length _ _ c.zeros-right.ensures c.re
 
 pub slice_bounds-diag-end-2 : goal.slice_bounds-diag-end-2
 slice_bounds-diag-end-2 c =
-    let places : ℕ = c.args.fixed.n in
+    let places : ℕ = length c.args.fixed.diag_s.now in
     let diag-back : length c.set_plan-planned.new.diag ≡ places = c.set_plan-planned.auto.diag ∙ blank_length _ _ c.zeros-diag.ensures c.requires.1 in
     let diag-room : places ≤ length (c.set_plan-planned.new.diag ++ drop places c.zeros-diag.result) = part_room _ c.set_plan-planned.new.diag _ diag-back in
     diag-room
 
 pub slice_bounds-plan_steps-end : goal.slice_bounds-plan_steps-end
 slice_bounds-plan_steps-end c =
-    let places : ℕ = c.args.fixed.n in
+    let places : ℕ = length c.args.fixed.diag_s.now in
     let diag-back : length c.set_plan-planned.new.diag ≡ places = c.set_plan-planned.auto.diag ∙ blank_length _ _ c.zeros-diag.ensures c.requires.1 in
     let diag-is : take places (c.set_plan-planned.new.diag ++ drop places c.zeros-diag.result) ≡ c.set_plan-planned.new.diag = part_back _ c.set_plan-planned.new.diag _ diag-back in
     sym (ap length diag-is ∙ diag-back)
 
 pub slice_bounds-left-end-2 : goal.slice_bounds-left-end-2
 slice_bounds-left-end-2 c =
-    let places : ℕ = c.args.fixed.n in
+    let places : ℕ = length c.args.fixed.diag_s.now in
     let left_back : length c.set_plan-planned.new.left ≡ places = c.set_plan-planned.auto.left ∙ blank_length _ _ c.zeros-left.ensures c.requires.1 in
     let left-room : places ≤ length (c.set_plan-planned.new.left ++ drop places c.zeros-left.result) = part_room _ c.set_plan-planned.new.left _ left_back in
     left-room
 
 pub slice_bounds-plan_steps-end-2 : goal.slice_bounds-plan_steps-end-2
 slice_bounds-plan_steps-end-2 c =
-    let places : ℕ = c.args.fixed.n in
+    let places : ℕ = length c.args.fixed.diag_s.now in
     let left_back : length c.set_plan-planned.new.left ≡ places = c.set_plan-planned.auto.left ∙ blank_length _ _ c.zeros-left.ensures c.requires.1 in
     let left_is : take places (c.set_plan-planned.new.left ++ drop places c.zeros-left.result) ≡ c.set_plan-planned.new.left = part_back _ c.set_plan-planned.new.left _ left_back in
     sym (ap length left_is ∙ left_back)
 
 pub slice_bounds-right-end-2 : goal.slice_bounds-right-end-2
 slice_bounds-right-end-2 c =
-    let places : ℕ = c.args.fixed.n in
+    let places : ℕ = length c.args.fixed.diag_s.now in
     let right-back : length c.set_plan-planned.new.right ≡ places = c.set_plan-planned.auto.right ∙ blank_length _ _ c.zeros-right.ensures c.requires.1 in
     let right-room : places ≤ length (c.set_plan-planned.new.right ++ drop places c.zeros-right.result) = part_room _ c.set_plan-planned.new.right _ right-back in
     right-room
 
 pub slice_bounds-plan_steps-end-3 : goal.slice_bounds-plan_steps-end-3
 slice_bounds-plan_steps-end-3 c =
-    let places : ℕ = c.args.fixed.n in
+    let places : ℕ = length c.args.fixed.diag_s.now in
     let right-back : length c.set_plan-planned.new.right ≡ places = c.set_plan-planned.auto.right ∙ blank_length _ _ c.zeros-right.ensures c.requires.1 in
     let right_is : take places (c.set_plan-planned.new.right ++ drop places c.zeros-right.result) ≡ c.set_plan-planned.new.right = part_back _ c.set_plan-planned.new.right _ right-back in
     sym (ap length right_is ∙ right-back)
@@ -80,7 +80,7 @@ slice_bounds-plan_steps-end-4 c = sym (blank_length _ _ c.zeros-term.ensures c.r
 
 pub plan_steps-requires : goal.plan_steps-requires
 plan_steps-requires c =
-    let places : ℕ = c.args.fixed.n in
+    let places : ℕ = length c.args.fixed.diag_s.now in
     let diag-back : length c.set_plan-planned.new.diag ≡ places = c.set_plan-planned.auto.diag ∙ blank_length _ _ c.zeros-diag.ensures c.requires.1 in
     let diag-is : take places (c.set_plan-planned.new.diag ++ drop places c.zeros-diag.result) ≡ c.set_plan-planned.new.diag = part_back _ c.set_plan-planned.new.diag _ diag-back in
     let left_back : length c.set_plan-planned.new.left ≡ places = c.set_plan-planned.auto.left ∙ blank_length _ _ c.zeros-left.ensures c.requires.1 in
@@ -93,11 +93,11 @@ plan_steps-requires c =
     let h = a.fixed.half in
     let begun : (q : Pace) → q ≡ told a.budget a.rest c.set_plan-planned.result
     → BegunIs (full_fixed h places a.fixed.diag_s.now a.fixed.eta) a.budget a.rest (full h places a.o.now) (full_factors h places c.set_plan-planned.new.left c.set_plan-planned.new.right) (full_factors h places c.set_plan-planned.new.right c.set_plan-planned.new.left) (full h places c.set_plan-planned.new.diag) q =
-    λ q e. let f = c.set_plan-planned.ensures in begun_slices _ _ _ _ _ _ _ _ _ _ c.requires.0 c.requires.5 c.requires.3 c.requires.4 lengths.1 lengths.2 lengths.0 _ _ _ _ f.left_after f.right_after f.diag_after f.value q e in
+    λ q e. let f = c.set_plan-planned.ensures in begun_slices _ _ _ _ _ _ _ _ _ _ c.requires.0 c.requires.4 c.requires.3 refl lengths.1 lengths.2 lengths.0 _ _ _ _ f.left_after f.right_after f.diag_after f.value q e in
     let centred : Centred c.args.fixed.half places c.set_plan-planned.new.left c.set_plan-planned.new.right = let p = c.requires in
     let l = lengths in
     let s = c.set_plan-planned.ensures in
-    centred_slices _ _ _ _ _ _ _ _ _ _ p.0 p.5 p.3 p.4 l.1 l.2 l.0 _ _ _ _ s.left_after s.right_after s.diag_after s.value in
+    centred_slices _ _ _ _ _ _ _ _ _ _ p.0 p.4 p.3 refl l.1 l.2 l.0 _ _ _ _ s.left_after s.right_after s.diag_after s.value in
     let p = c.requires in
     rw p.2 (record {
       start = (p.0, p.3, (begun _ c.pace_of-first.ensures).stands.within, rw (left_is, right_is) centred);
@@ -117,7 +117,7 @@ shape_of-o c = c.plan_steps.auto.o
 
 pub returns : goal.returns
 returns c =
-    let places : ℕ = c.args.fixed.n in
+    let places : ℕ = length c.args.fixed.diag_s.now in
     let diag-back : length c.set_plan-planned.new.diag ≡ places = c.set_plan-planned.auto.diag ∙ blank_length _ _ c.zeros-diag.ensures c.requires.1 in
     let diag-is : take places (c.set_plan-planned.new.diag ++ drop places c.zeros-diag.result) ≡ c.set_plan-planned.new.diag = part_back _ c.set_plan-planned.new.diag _ diag-back in
     let left_back : length c.set_plan-planned.new.left ≡ places = c.set_plan-planned.auto.left ∙ blank_length _ _ c.zeros-left.ensures c.requires.1 in
@@ -130,6 +130,6 @@ returns c =
     let h = a.fixed.half in
     let begun : (q : Pace) → q ≡ told a.budget a.rest c.set_plan-planned.result
     → BegunIs (full_fixed h places a.fixed.diag_s.now a.fixed.eta) a.budget a.rest (full h places a.o.now) (full_factors h places c.set_plan-planned.new.left c.set_plan-planned.new.right) (full_factors h places c.set_plan-planned.new.right c.set_plan-planned.new.left) (full h places c.set_plan-planned.new.diag) q =
-    λ q e. let f = c.set_plan-planned.ensures in begun_slices _ _ _ _ _ _ _ _ _ _ c.requires.0 c.requires.5 c.requires.3 c.requires.4 lengths.1 lengths.2 lengths.0 _ _ _ _ f.left_after f.right_after f.diag_after f.value q e in
+    λ q e. let f = c.set_plan-planned.ensures in begun_slices _ _ _ _ _ _ _ _ _ _ c.requires.0 c.requires.4 c.requires.3 refl lengths.1 lengths.2 lengths.0 _ _ _ _ f.left_after f.right_after f.diag_after f.value q e in
     let p = c.requires in
-    planned _ _ _ _ _ _ _ _ _ _ _ _ _ _ p.6 (begun _ c.pace_of-first.ensures) (rw (p.2, diag-is, left_is, right_is) at c.plan_steps.ensures)
+    planned _ _ _ _ _ _ _ _ _ _ _ _ _ _ p.5 (begun _ c.pace_of-first.ensures) (rw (p.2, diag-is, left_is, right_is) at c.plan_steps.ensures)

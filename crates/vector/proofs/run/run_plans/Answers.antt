@@ -10,13 +10,13 @@ use Rattle.vector.proofs.run.run_plans.Goals as goal
 
 pub loop-pace-init : goal.loop-pace-init
 loop-pace-init c =
-    (refl, refl, between_first _ _ _ _ _ c.asking-pace.ensures (ap (full c.args.fixed.half c.args.fixed.n) c.requires.2 ∙ full_fill c.args.fixed.half c.args.fixed.n (omega (arith, c.requires.0)) 1ᶠ))
+    (refl, refl, between_first _ _ _ _ _ c.asking-pace.ensures (ap (full c.args.fixed.half (length c.args.fixed.diag_s.now)) c.requires.2 ∙ full_fill c.args.fixed.half (length c.args.fixed.diag_s.now) (omega (arith, c.requires.0)) 1ᶠ))
 
 pub run_plan-pace-requires : goal.run_plan-pace-requires
 run_plan-pace-requires c =
     let i = c.loop-pace.invariant in
     let p = c.requires in
-    (p.0, p.1, i.0 ∙ ap length p.2 ∙ length-replicate _ 1ᶠ, i.1 ∙ p.3, p.4, i.2.within, (i.2.asks c.loop-pace-test.true).0)
+    (p.0, p.1, i.0 ∙ ap length p.2 ∙ length-replicate _ 1ᶠ, i.1 ∙ p.3, i.2.within, (i.2.asks c.loop-pace-test.true).0)
 
 pub loop-pace-smaller : goal.loop-pace-smaller
 loop-pace-smaller c =

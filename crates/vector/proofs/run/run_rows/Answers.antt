@@ -42,7 +42,7 @@ run_plans-requires c =
     let few : c.args.n ≤ room = omega (arith, c.requires.start.1, c.requires.start.2) in
     let length-of : let n = c.args.n in length (take n c.zeros-diag_s.result) ≡ n = blank_length _ _ c.zeros-diag_s.ensures few in
     let diagonal : let a = c.args in c.fill_shifted_diagonal.new.diag ≡ tab a.n (diagonal_at a.input.bound a.input.alpha a.input.beta a.input.eta) = diagonal_over_lem _ _ _ _ _ _ _ length-of c.requires.start.1 c.fill_shifted_diagonal.ensures.diag_after in
-    (c.requires.start.0, few, c.requires.start.4, ap length c.requires.start.5 ∙ length-replicate _ 0ᶠ, stored_length _ _ _ _ diagonal)
+    rw (stored_length _ _ _ _ diagonal) (c.requires.start.0, few, c.requires.start.4, ap length c.requires.start.5 ∙ length-replicate _ 0ᶠ)
 
 pub returns-then-fill_shifted_diagonal : goal.returns-then-fill_shifted_diagonal
 returns-then-fill_shifted_diagonal c =
@@ -50,7 +50,7 @@ returns-then-fill_shifted_diagonal c =
     let length-of : let n = c.args.n in length (take n c.zeros-diag_s.result) ≡ n = blank_length _ _ c.zeros-diag_s.ensures few in
     let diagonal : let a = c.args in c.fill_shifted_diagonal.new.diag ≡ tab a.n (diagonal_at a.input.bound a.input.alpha a.input.beta a.input.eta) = diagonal_over_lem _ _ _ _ _ _ _ length-of c.requires.start.1 c.fill_shifted_diagonal.ensures.diag_after in
     let fine : let a = c.args in c.fill_shifted_diagonal.result ≡ every a.n (λ i. finite (at (tab a.n (diagonal_at a.input.bound a.input.alpha a.input.beta a.input.eta)) i)) = diagonal_fine _ _ _ _ _ _ _ length-of c.requires.start.1 c.fill_shifted_diagonal.ensures.diag_after _ c.fill_shifted_diagonal.ensures.value in
-    run_full c.args.half _ _ (omega (arith, c.requires.start.0)) c.requires.rows_stand c.requires.start.3 _ _ _ _ _ (stored_part _ _ _ _ diagonal) c.requires.start.5 (sym fine ∙ c.if-fill_shifted_diagonal.true) c.run_plans.ensures
+    run_full c.args.half _ _ (omega (arith, c.requires.start.0)) c.requires.rows_stand c.requires.start.3 _ _ _ _ _ (stored_part _ _ _ _ diagonal) c.requires.start.5 (sym fine ∙ c.if-fill_shifted_diagonal.true) (rw (stored_length _ _ _ _ diagonal) at c.run_plans.ensures)
 
 pub returns : goal.returns
 unfolding EndIs
