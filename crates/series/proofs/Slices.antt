@@ -5,31 +5,22 @@ use native.Mathlib.Numerals.{add-one}
 use native.Mathlib.Omega.{arith}
 use mathlib.Core.Bool.{Bool, true, false, ◌&&◌}
 use mathlib.Core.List.{List}
-use borrow.Author.Tests.{lt-ltb, le-ltb, leb-true, le-leb}
+use borrow.Author.Tests.{lt-ltb, le-ltb, le-leb}
 use lib.IntN.{pos}
-use lib.Dec.{T, ltb, leb}
+use lib.Dec.{T, ltb}
 use lib.ListN.{length}
 use lib.Ieee.{Float, binary64, fits}
 use lib.Ieee.Fits.{sub-fits}
 use Rattle.elementary.specs.Float.{◌⊕◌, ◌⊖◌, ◌⊗◌, ◌⊘◌, whole, 0ᶠ, 1ᶠ}
 use Rattle.operator.specs.Vectors.{tab, at, before}
 use Rattle.series.specs.Series.{Operator, plus, converged}
-use Rattle.operator.specs.Slices.{both_sized, past}
+use Rattle.operator.specs.Slices.{past}
 use Rattle.series.specs.Slices.{beside_of, beside_at, slice_row, slice_term, SliceSum, sum_of, with_term, more_terms, step_fits, Sizes}
 use Rattle.operator.proofs.Lists.{at_tab, tab_ext}
 use Rattle.series.proofs.Terms.{once}
-use Rattle.operator.proofs.Slices.{both_true, sized_both, both_sized_lem}
+use Rattle.operator.proofs.Slices.{sized_both}
 
 -- ---- lengths
-pub step_sizes : (v diag left right term : List Float) → step_fits v diag left right term ≡ true → (2 ≤ length v) × Sizes (length v) diag left right term
-step_sizes v diag left right term e =
-    let n = length v in
-    let s = both_true (leb 2 n && both_sized n (length diag) (length left)) (both_sized n (length right) (length term)) e in
-    let t = both_true (leb 2 n) (both_sized n (length diag) (length left)) s.0 in
-    let d = both_sized_lem n (length diag) (length left) t.1 in
-    let r = both_sized_lem n (length right) (length term) s.1 in
-    (leb-true 2 n t.0, record { diag_n = d.0; left_n = d.1; right_n = r.0; term_n = r.1 })
-
 pub sizes_step : (v diag left right term : List Float) → 2 ≤ length v → Sizes (length v) diag left right term → step_fits v diag left right term ≡ true
 sizes_step v diag left right term two z =
     rw (le-leb 2 (length v) two, sized_both (length v) (length diag) (length left) z.diag_n z.left_n, sized_both (length v) (length right) (length term) z.right_n z.term_n)

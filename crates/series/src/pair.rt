@@ -118,9 +118,9 @@ fn sum_series(op: TwoRows, v: Pair) -> Partial
 
 // The work of `taylor::taylor_step` over two rows, up to the centre.
 pub(crate) fn taylor_pair(v: &mut [f64], rows: Rows<'_>, term: &mut [f64]) -> bool
-    requires { (length v.old ≡ 2) × (length rows.diag.now ≡ 2) × (length rows.left.now ≡ 2) × (length rows.right.now ≡ 2) × (length term.old ≡ 2) }
-    ensures { sum_of term.new v.new result
-        ≡ series_over true false (operator_over 2 rows.entry.diag.now rows.entry.left.now rows.entry.right.now) rows.entry.eta_dt v.old }
+    requires { (length v.old ≡ 2) × (length rows.diag.now ≡ 2) × (length term.old ≡ 2) }
+    ensures { let r = rows.entry in sum_of term.new v.new result
+        ≡ series_over true false (operator_over 2 r.diag.now r.left.now r.right.now) r.eta_dt v.old }
 {
     let op = TwoRows {
         eta_dt: rows.eta_dt,

@@ -7,8 +7,8 @@ ghost use Rattle.series.specs.Slices.{beside_of};
 
 use operator::past_last;
 
-// The operator B over the rows of a step: its diagonal and its factors, which `plain` says to leave out
-// between the end rows.
+// The operator B over the rows of a step: its diagonal and its factors, an entry for each row. `plain`
+// says to leave the factors out between the end rows.
 #[derive(Clone, Copy)]
 pub(crate) struct Rows<'a> {
     pub(crate) diag: &'a [f64],
@@ -17,13 +17,15 @@ pub(crate) struct Rows<'a> {
     pub(crate) right: &'a [f64],
     pub(crate) half: bool,
     pub(crate) plain: bool,
+    ghost left_n: { length left.now ≡ length diag.now },
+    ghost right_n: { length right.now ≡ length diag.now },
 }
 
 impl Rows<'_> {
     // Row i of B x, from the entries of x beside row i.
     pub(crate) fn row_at(self, x: &[f64], i: usize, lower: f64, upper: f64) -> f64
-        requires { (i < length x.now) × (i < length self.diag.now) × (i < length self.left.now) × (i < length self.right.now) }
-        ensures { result ≡ self.entry.eta_dt ⊗ (at self.entry.left.now i ⊗ lower ⊕ at self.entry.right.now i ⊗ upper) ⊖ at self.entry.diag.now i ⊗ at x.now i }
+        requires { (i < length x.now) × (i < length self.diag.now) }
+        ensures { let s = self.entry in result ≡ s.eta_dt ⊗ (at s.left.now i ⊗ lower ⊕ at s.right.now i ⊗ upper) ⊖ at s.diag.now i ⊗ at x.now i }
     {
         self.eta_dt * (self.left[i] * lower + self.right[i] * upper) - self.diag[i] * x[i]
     }
@@ -31,8 +33,9 @@ impl Rows<'_> {
     // The last row of B x, from the entry of x before it. Past the centre stands what stands before it, and
     // its factor with it.
     pub(crate) fn last_row(self, x: &[f64], i: usize, lower: f64) -> f64
-        requires { (i < length x.now) × (i < length self.diag.now) × (i < length self.left.now) × (i < length self.right.now) }
-        ensures { result ≡ self.entry.eta_dt ⊗ (at self.entry.left.now i ⊗ lower ⊕ past self.entry.half (at self.entry.left.now i) (at self.entry.right.now i) ⊗ past self.entry.half lower 0ᶠ) ⊖ at self.entry.diag.now i ⊗ at x.now i }
+        requires { (i < length x.now) × (i < length self.diag.now) }
+        ensures { let s = self.entry in
+            result ≡ s.eta_dt ⊗ (at s.left.now i ⊗ lower ⊕ past s.half (at s.left.now i) (at s.right.now i) ⊗ past s.half lower 0ᶠ) ⊖ at s.diag.now i ⊗ at x.now i }
     {
         let lf = self.left[i];
         let rf = past_last(self.half, lf, self.right[i]);
@@ -43,8 +46,8 @@ impl Rows<'_> {
     // What the rows beside row i give it, through its factors, or plainly, without them: where these are 1.0
     // no product changes a bit.
     pub(crate) fn beside(self, i: usize, lower: f64, upper: f64) -> f64
-        requires { (i < length self.left.now) × (i < length self.right.now) }
-        ensures { result ≡ beside_of self.entry.plain (at self.entry.left.now i) (at self.entry.right.now i) lower upper }
+        requires { i < length self.diag.now }
+        ensures { let s = self.entry in result ≡ beside_of s.plain (at s.left.now i) (at s.right.now i) lower upper }
     {
         if self.plain {
             return lower + upper;

@@ -2,7 +2,7 @@
 // `half` is true, for each row up to the centre: the others mirror them.
 ghost use Rattle.std.specs.Prelude.{◌≡◌, ◌≤◌, false, length};
 ghost use Rattle.series.specs.Series.{small, converged, operator_over};
-ghost use Rattle.series.specs.Slices.{five_sized, slice_term, sum_of, with_term, series_over, step_over, Sizes};
+ghost use Rattle.series.specs.Slices.{five_sized, slice_term, sum_of, with_term, series_over, step_over};
 
 use crate::rows::Rows;
 
@@ -45,9 +45,9 @@ fn has_converged(t: &[f64], v: &[f64]) -> bool
 // before row i, as it was.
 fn first_term(v: &mut [f64], rows: Rows<'_>, out: &mut [f64]) -> bool
     requires two_rows { 2 ≤ length v.old }
-    requires sizes { Sizes (length v.old) rows.diag.now rows.left.now rows.right.now out.old }
-    ensures { sum_of out.new v.new result ≡ with_term (length v.old) v.old
-        (slice_term rows.entry.half false (operator_over (length v.old) rows.entry.diag.now rows.entry.left.now rows.entry.right.now) rows.entry.eta_dt 1 v.old) }
+    requires sizes { (length v.old ≡ length rows.diag.now) × (length out.old ≡ length rows.diag.now) }
+    ensures { let r = rows.entry in let n = length v.old in sum_of out.new v.new result
+        ≡ with_term n v.old (slice_term r.half false (operator_over n r.diag.now r.left.now r.right.now) r.eta_dt 1 v.old) }
 {
     let last = out.len() - 1;
     let mut lower = 0.0;
@@ -69,9 +69,9 @@ fn first_term(v: &mut [f64], rows: Rows<'_>, out: &mut [f64]) -> bool
 // entry of x before row i, as it was.
 fn next_term(x: &mut [f64], rows: Rows<'_>, order: u32, v: &mut [f64]) -> bool
     requires two_rows { 2 ≤ length x.old }
-    requires sizes { Sizes (length x.old) rows.diag.now rows.left.now rows.right.now v.old }
-    ensures { sum_of x.new v.new result ≡ with_term (length x.old) v.old
-        (slice_term rows.entry.half rows.entry.plain (operator_over (length x.old) rows.entry.diag.now rows.entry.left.now rows.entry.right.now) rows.entry.eta_dt order x.old) }
+    requires sizes { (length x.old ≡ length rows.diag.now) × (length v.old ≡ length rows.diag.now) }
+    ensures { let r = rows.entry in let n = length x.old in sum_of x.new v.new result
+        ≡ with_term n v.old (slice_term r.half r.plain (operator_over n r.diag.now r.left.now r.right.now) r.eta_dt order x.old) }
 {
     let inv = 1.0 / (order as f64);
     let last = x.len() - 1;
@@ -97,9 +97,9 @@ fn next_term(x: &mut [f64], rows: Rows<'_>, order: u32, v: &mut [f64]) -> bool
 // one takes the place of the one before it in `term`.
 fn taylor_rows(v: &mut [f64], rows: Rows<'_>, term: &mut [f64]) -> bool
     requires two_rows { 2 ≤ length v.old }
-    requires sizes { Sizes (length v.old) rows.diag.now rows.left.now rows.right.now term.old }
-    ensures { sum_of term.new v.new result
-        ≡ series_over rows.entry.half rows.entry.plain (operator_over (length v.old) rows.entry.diag.now rows.entry.left.now rows.entry.right.now) rows.entry.eta_dt v.old }
+    requires sizes { (length v.old ≡ length rows.diag.now) × (length term.old ≡ length rows.diag.now) }
+    ensures { let r = rows.entry in sum_of term.new v.new result
+        ≡ series_over r.half r.plain (operator_over (length v.old) r.diag.now r.left.now r.right.now) r.eta_dt v.old }
 {
     if first_term(v, rows, term) {
         return true;

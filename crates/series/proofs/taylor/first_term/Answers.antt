@@ -33,15 +33,6 @@ loop-i-preserved c =
       stored _ _ _ k _ (omega arith) i.2 (rw (here, t)),
     )
 
-pub has_converged-requires : goal.has_converged-requires
-has_converged-requires c = simp length-set (omega arith)
-
-pub shape_of-v : goal.shape_of-v
-shape_of-v c = simp length-set (omega arith)
-
-pub shape_of-out : goal.shape_of-out
-shape_of-out c = simp length-set (omega arith)
-
 pub returns : goal.returns
 returns c =
     let a = c.args in

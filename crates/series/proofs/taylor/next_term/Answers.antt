@@ -20,7 +20,7 @@ loop-i-init c =
     let p = c.requires in
     let x = c.args.x.now in
     let some : 0 < length x = le_trans (lit≤ tt) p.two_rows in
-    (before_later x 1 (le_refl 1), later_one _ x some, later_one _ c.args.v.now (rw p.sizes.term_n some))
+    (before_later x 1 (le_refl 1), later_one _ x some, later_one _ c.args.v.now (omega arith))
 
 pub loop-i-preserved : goal.loop-i-preserved
 loop-i-preserved c =
@@ -38,24 +38,6 @@ loop-i-preserved c =
       stored _ x _ k _ (omega arith) i.1 (ap (λ (y : Float). y ⊗ (1ᶠ ⊘ whole (pos a.order))) t ∙ later_is _ x k (omega arith)),
       stored _ a.v.now _ k _ (omega arith) i.2 (ap₂ (λ (y z : Float). y ⊕ z ⊗ (1ᶠ ⊘ whole (pos a.order))) sum t ∙ later_is _ a.v.now k (omega arith)),
     )
-
-pub bounds-x-0-2 : goal.bounds-x-0-2
-bounds-x-0-2 c = simp length-set (omega arith)
-
-pub bounds-v-0 : goal.bounds-v-0
-bounds-v-0 c = simp length-set (omega arith)
-
-pub bounds-v-0-2 : goal.bounds-v-0-2
-bounds-v-0-2 c = simp length-set (omega arith)
-
-pub has_converged-requires : goal.has_converged-requires
-has_converged-requires c = simp length-set (omega arith)
-
-pub shape_of-x : goal.shape_of-x
-shape_of-x c = simp length-set (omega arith)
-
-pub shape_of-v : goal.shape_of-v
-shape_of-v c = simp length-set (omega arith)
 
 pub returns : goal.returns
 returns c =
@@ -78,7 +60,7 @@ returns c =
     let last : c.last_row.result ≡ row a.rows.half a.rows.plain x a.rows.diag.now a.rows.eta_dt a.rows.left.now a.rows.right.now m =
     row_last a.rows.half a.rows.plain _ a.rows.eta_dt x m _ _ (omega arith) (rw end at i.0) (rw here at c.last_row.ensures) in
     let terms = stored_last (later f x) x _ k m n _ (omega arith) (omega arith) refl i.1 (ap (λ (y : Float). y ⊗ inv) last ∙ later_is f x m (omega arith)) in
-    let sums = stored_last (later (λ j. at v j ⊕ f j) v) v _ k m n _ (omega arith) (omega arith) p.sizes.term_n i.2 (ap₂ (λ (y z : Float). y ⊕ z ⊗ inv) sum last ∙ later_is (λ j. at v j ⊕ f j) v m (omega arith)) in
+    let sums = stored_last (later (λ j. at v j ⊕ f j) v) v _ k m n _ (omega arith) (omega arith) (omega arith) i.2 (ap₂ (λ (y z : Float). y ⊕ z ⊗ inv) sum last ∙ later_is (λ j. at v j ⊕ f j) v m (omega arith)) in
     term_made a.rows.half a.rows.plain _ a.rows.eta_dt a.order x v _ _ _
     (later_all f x _ n _ some terms (ap (λ (y : Float). y ⊗ inv) first))
     (later_all (λ j. at v j ⊕ f j) v _ n _ some sums (ap₂ (λ (y z : Float). y ⊕ z ⊗ inv) (later_first _ v _ n some sums) first))
