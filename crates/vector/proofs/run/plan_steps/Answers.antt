@@ -69,15 +69,6 @@ loop-pace-preserved c =
       λ d r s. stands_on _ _ _ _ _ _ _ _ _ _ _ _ _ x.0 x.1 stood.0 (after_step_full h m (omega (arith, p.requires.start.0)) l.pace _ _ _ _ _ n stood.1 t.result (rw n at a.ensures)) (i.5 d r s),
     )
 
-pub shape_of-w : goal.shape_of-w
-shape_of-w c = c.loop-pace.invariant.0
-
-pub shape_of-o : goal.shape_of-o
-shape_of-o c = c.loop-pace.invariant.1
-
-pub shape_of-term : goal.shape_of-term
-shape_of-term c = c.loop-pace.invariant.2
-
 pub returns : goal.returns
 returns c =
     let i = c.loop-pace.invariant in

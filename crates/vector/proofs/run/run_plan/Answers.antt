@@ -109,12 +109,6 @@ plan_steps-requires c =
       };
     })
 
-pub shape_of-w : goal.shape_of-w
-shape_of-w c = c.plan_steps.auto.w
-
-pub shape_of-o : goal.shape_of-o
-shape_of-o c = c.plan_steps.auto.o
-
 pub returns : goal.returns
 returns c =
     let places : ℕ = length c.args.fixed.diag_s.now in

@@ -1,9 +1,9 @@
 -- The run of the first n rows is the run of all that they stand for. Assumes nothing.
-use mathlib.Core.Path.{◌≡◌, refl, sym, ap, ◌∙◌}
+use mathlib.Core.Path.{◌≡◌, refl, sym, ◌∙◌}
 use Prim.Native.Nat.{◌≤◌}
 use native.Mathlib.Omega.{arith}
-use lib.ListN.{length, take, length-replicate}
-use Rattle.elementary.specs.Float.{0ᶠ, finite}
+use lib.ListN.{length, take}
+use Rattle.elementary.specs.Float.{finite}
 use Rattle.operator.specs.Vectors.{tab, at, every}
 use Rattle.operator.specs.Operator.{diagonal_at}
 use Rattle.operator.proofs.Slices.{diagonal_over_lem, diagonal_fine}
@@ -36,13 +36,6 @@ slice_bounds-fixed-end c =
     let length-of : let n = c.args.n in length (take n c.zeros-diag_s.result) ≡ n = blank_length _ _ c.zeros-diag_s.ensures few in
     let diagonal : let a = c.args in c.fill_shifted_diagonal.new.diag ≡ tab a.n (diagonal_at a.input.bound a.input.alpha a.input.beta a.input.eta) = diagonal_over_lem _ _ _ _ _ _ _ length-of c.requires.start.1 c.fill_shifted_diagonal.ensures.diag_after in
     sym (stored_length _ _ _ _ diagonal)
-
-pub run_plans-requires : goal.run_plans-requires
-run_plans-requires c =
-    let few : c.args.n ≤ room = omega (arith, c.requires.start.1, c.requires.start.2) in
-    let length-of : let n = c.args.n in length (take n c.zeros-diag_s.result) ≡ n = blank_length _ _ c.zeros-diag_s.ensures few in
-    let diagonal : let a = c.args in c.fill_shifted_diagonal.new.diag ≡ tab a.n (diagonal_at a.input.bound a.input.alpha a.input.beta a.input.eta) = diagonal_over_lem _ _ _ _ _ _ _ length-of c.requires.start.1 c.fill_shifted_diagonal.ensures.diag_after in
-    rw (stored_length _ _ _ _ diagonal) (c.requires.start.0, few, c.requires.start.4, ap length c.requires.start.5 ∙ length-replicate _ 0ᶠ)
 
 pub returns-then-fill_shifted_diagonal : goal.returns-then-fill_shifted_diagonal
 returns-then-fill_shifted_diagonal c =
