@@ -14,7 +14,7 @@ pub fn fill_shifted_diagonal(alpha: f64, beta: f64, eta: f64, bound: u32, diag: 
         return false;
     }
     let mut all = true;
-    let mut q = 0.0 - (bound as f64);
+    let mut q = 0.0 - f64::from(bound);
     for i in 0..diag.len() {
         let d = ((alpha * q) * q - beta * q) + 2.0 * eta;
         diag[i] = d;

@@ -93,7 +93,7 @@ fn first_pair(op: TwoRows, v: Pair) -> Partial
 fn next_pair(op: TwoRows, s: Partial, order: u32) -> Partial
     ensures { partial_of result ≡ with_term 2 (pair_of s.sum) (slice_term true false (operator_of op) op.eta_dt order (pair_of s.term)) }
 {
-    let inv = 1.0 / (order as f64);
+    let inv = 1.0 / f64::from(order);
     let x = applied(op, s.term);
     let term = Pair {
         end: x.end * inv,

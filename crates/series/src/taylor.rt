@@ -73,7 +73,7 @@ fn next_term(x: &mut [f64], rows: Rows<'_>, order: u32, v: &mut [f64]) -> bool
     ensures { let r = rows.entry in let n = length x.old in sum_of x.new v.new result
         ≡ with_term n v.old (slice_term r.half r.plain (operator_over n r.diag.now r.left.now r.right.now) r.eta_dt order x.old) }
 {
-    let inv = 1.0 / (order as f64);
+    let inv = 1.0 / f64::from(order);
     let last = x.len() - 1;
     let first = rows.row_at(x, 0, 0.0, x[1]) * inv;
     let mut lower = x[0];

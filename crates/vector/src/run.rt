@@ -210,7 +210,8 @@ fn after_step(w: &mut [f64], o: &mut [f64], pace: Pace, settled: bool) -> Pace
     refused()
 }
 
-// The steps of a plan, until there is another to make or the run is over.
+// The steps of a plan, until there is another to make or the run is over. The slices come one by one, as
+// `taylor_step` takes them.
 fn plan_steps(
     w: &mut [f64],
     o: &mut [f64],

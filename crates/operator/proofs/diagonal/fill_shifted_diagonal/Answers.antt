@@ -46,7 +46,7 @@ unfolding diagonal_over
 returns-then-bound-diag c = rw (lt-leb _ _ c.if-bound-diag.true) (record { diag_after = refl; value = refl })
 
 pub loop-i-init : goal.loop-i-init
-loop-i-init c = (omega arith, first _ (omega arith), filled_zero _ _, every_zero _)
+loop-i-init c = (omega arith, rw c.from-q.ensures (first _ (omega arith)), filled_zero _ _, every_zero _)
 
 pub loop-i-preserved : goal.loop-i-preserved
 unfolding diagonal_at

@@ -1,6 +1,6 @@
 -- The rows so far are those of the term as it was, and the sums so far have them. Assumes nothing.
 use mathlib.Core.Path.{◌≡◌, refl, ap, ap₂, ◌∙◌}
-use Prim.Native.Nat.{◌+◌, ◌-◌, ◌<◌}
+use Prim.Native.Nat.{ℕ, ◌+◌, ◌-◌, ◌<◌}
 use native.Mathlib.Nat.{le_refl, le_trans}
 use native.Mathlib.Omega.{arith}
 use mathlib.Core.List.{List}
@@ -9,7 +9,7 @@ use lib.Dec.{lit≤}
 use lib.ListN.{length, length-set}
 use lib.Ieee.{Float}
 use Rattle.elementary.specs.Float.{◌⊕◌, ◌⊖◌, ◌⊗◌, ◌⊘◌, whole, 1ᶠ}
-use Rattle.operator.specs.Vectors.{at}
+use Rattle.operator.specs.Vectors.{tab, at}
 use Rattle.operator.proofs.Loops.{stored, stored_last, at_filled, later, later_one, later_is, later_first, later_all, before_first, before_later}
 use Rattle.series.proofs.Slices.{row_through, row_inner, row_last, converged_at, term_made}
 use Rattle.series.proofs.taylor.next_term.Invariants.{row, entry}
@@ -35,8 +35,8 @@ loop-i-preserved c =
     row_inner a.rows.half a.rows.plain _ a.rows.eta_dt x k _ _ _ _ (omega arith) (omega arith) i.0 above c.beside-beside.ensures (ap (λ (z : Float). a.rows.eta_dt ⊗ c.beside-beside.result ⊖ at a.rows.diag.now k ⊗ z) here) in
     let up : k ≡ k + 1 - 1 = omega arith in (
       here ∙ ap (at x) up ∙ before_later x (k + 1) (omega arith),
-      stored _ x _ k _ (omega arith) i.1 (ap (λ (y : Float). y ⊗ (1ᶠ ⊘ whole (pos a.order))) t ∙ later_is _ x k (omega arith)),
-      stored _ a.v.now _ k _ (omega arith) i.2 (ap₂ (λ (y z : Float). y ⊕ z ⊗ (1ᶠ ⊘ whole (pos a.order))) sum t ∙ later_is _ a.v.now k (omega arith)),
+      stored _ x _ k _ (omega arith) i.1 (ap (λ (y : Float). y ⊗ (1ᶠ ⊘ c.from-inv.result)) t ∙ later_is _ x k (omega arith)),
+      stored _ a.v.now _ k _ (omega arith) i.2 (ap₂ (λ (y z : Float). y ⊕ z ⊗ (1ᶠ ⊘ c.from-inv.result)) sum t ∙ later_is _ a.v.now k (omega arith)),
     )
 
 pub returns : goal.returns
@@ -50,8 +50,10 @@ returns c =
     let m = n - 1 in
     let end : k ≡ m = omega arith in
     let i = c.loop-i.invariant in
-    let inv = 1ᶠ ⊘ whole (pos a.order) in
-    let f = entry a.rows.half a.rows.plain x a.rows.diag.now a.rows.eta_dt a.rows.left.now a.rows.right.now inv in
+    let inv = 1ᶠ ⊘ c.from-inv.result in
+    let by : Float → ℕ → Float = entry a.rows.half a.rows.plain x a.rows.diag.now a.rows.eta_dt a.rows.left.now a.rows.right.now in
+    let f = by inv in
+    let is : inv ≡ 1ᶠ ⊘ whole (pos a.order) = ap (λ (y : Float). 1ᶠ ⊘ y) c.from-inv.ensures in
     let some : 0 < n = le_trans (lit≤ tt) p.two_rows in
     let here : at c.loop-i.x m ≡ at x m = ap (λ (l : List Float). at l m) i.1 ∙ at_filled _ x k m (omega arith) in
     let sum : at c.loop-i.v m ≡ at v m = ap (λ (l : List Float). at l m) i.2 ∙ at_filled _ _ k m (omega arith) in
@@ -62,6 +64,6 @@ returns c =
     let terms = stored_last (later f x) x _ k m n _ (omega arith) (omega arith) refl i.1 (ap (λ (y : Float). y ⊗ inv) last ∙ later_is f x m (omega arith)) in
     let sums = stored_last (later (λ j. at v j ⊕ f j) v) v _ k m n _ (omega arith) (omega arith) (omega arith) i.2 (ap₂ (λ (y z : Float). y ⊕ z ⊗ inv) sum last ∙ later_is (λ j. at v j ⊕ f j) v m (omega arith)) in
     term_made a.rows.half a.rows.plain _ a.rows.eta_dt a.order x v _ _ _
-    (later_all f x _ n _ some terms (ap (λ (y : Float). y ⊗ inv) first))
-    (later_all (λ j. at v j ⊕ f j) v _ n _ some sums (ap₂ (λ (y z : Float). y ⊕ z ⊗ inv) (later_first _ v _ n some sums) first))
+    (later_all f x _ n _ some terms (ap (λ (y : Float). y ⊗ inv) first) ∙ ap (λ (z : Float). tab n (by z)) is)
+    (later_all (λ j. at v j ⊕ f j) v _ n _ some sums (ap₂ (λ (y z : Float). y ⊕ z ⊗ inv) (later_first _ v _ n some sums) first) ∙ ap (λ (z : Float). tab n (λ j. at v j ⊕ by z j)) is)
     (c.has_converged.ensures ∙ converged_at _ _ _ _ (simp length-set (omega arith)))
