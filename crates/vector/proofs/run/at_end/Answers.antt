@@ -1,5 +1,5 @@
 -- The first n weights of a blank array are stored over. Assumes nothing.
-use mathlib.Core.Path.{◌≡◌, sym, ap, ◌∙◌}
+use mathlib.Core.Path.{◌≡◌, ap, ◌∙◌}
 use mathlib.Core.List.{List}
 use Prim.Native.Nat.{ℕ}
 use lib.Ieee.{Float}
@@ -7,19 +7,13 @@ use lib.ListN.{length-replicate}
 use Rattle.elementary.specs.Float.{0ᶠ, 1ᶠ}
 use Rattle.operator.specs.Vectors.{fill}
 use Rattle.vector.specs.Values.{padded, vector_of}
-use Rattle.plan.proofs.Room.{blank_room, blank_length}
+use Rattle.plan.proofs.Room.{blank_length}
 use Rattle.vector.proofs.Room.{blank_padded, back}
 use Rattle.vector.proofs.run.at_end.Goals as goal
 
 vector_is : (n : ℕ) (a b : List Float) → a ≡ padded n (fill n 1ᶠ) → b ≡ padded n (fill n 0ᶠ) → record { w = a; log_offset = b; n = n } ≡ vector_of n (fill n 1ᶠ) (fill n 0ᶠ)
 unfolding vector_of
 vector_is n a b ea eb = rw (ea, eb)
-
-pub slice_bounds-w-end : goal.slice_bounds-w-end
-slice_bounds-w-end c = blank_room _ _ c.zeros-w.ensures c.requires
-
-pub slice_bounds-fill-end : goal.slice_bounds-fill-end
-slice_bounds-fill-end c = sym (blank_length _ _ c.zeros-w.ensures c.requires)
 
 pub returns : goal.returns
 returns c =

@@ -1,9 +1,9 @@
 -- A plan and its steps lead from one plan to the next. Assumes nothing.
-use mathlib.Core.Path.{◌≡◌, refl, sym, ap, ◌∙◌}
-use Prim.Native.Nat.{ℕ, ◌≤◌}
+use mathlib.Core.Path.{◌≡◌, refl, ap, ◌∙◌}
+use Prim.Native.Nat.{ℕ}
 use mathlib.Core.List.{◌++◌}
 use lib.ListN.{length, take, drop}
-use Rattle.plan.proofs.Room.{blank_room, blank_length, part_back, part_room}
+use Rattle.plan.proofs.Room.{blank_length, part_back}
 use Rattle.series.specs.Half.{full_factors, full, Centred}
 use Rattle.vector.specs.Half.{full_fixed}
 use Rattle.vector.specs.Inner.{told, BegunIs}
@@ -11,72 +11,6 @@ use Rattle.vector.specs.declared.run.Pace.{Pace}
 use Rattle.vector.proofs.FullRun.{centred_slices, begun_slices}
 use Rattle.vector.proofs.RunLaws.{planned}
 use Rattle.vector.proofs.run.run_plan.Goals as goal
-
-pub slice_bounds-diag-end : goal.slice_bounds-diag-end
-slice_bounds-diag-end c = blank_room _ _ c.zeros-diag.ensures c.requires.1
-
-pub slice_bounds-set_plan-end : goal.slice_bounds-set_plan-end
-slice_bounds-set_plan-end c = sym (blank_length _ _ c.zeros-diag.ensures c.requires.1)
-
-pub slice_bounds-left-end : goal.slice_bounds-left-end
-slice_bounds-left-end c = blank_room _ _ c.zeros-left.ensures c.requires.1
-
-pub slice_bounds-set_plan-end-2 : goal.slice_bounds-set_plan-end-2
-slice_bounds-set_plan-end-2 c = sym (blank_length _ _ c.zeros-left.ensures c.requires.1)
-
-pub slice_bounds-right-end : goal.slice_bounds-right-end
-slice_bounds-right-end c = blank_room _ _ c.zeros-right.ensures c.requires.1
-
-pub slice_bounds-set_plan-end-3 : goal.slice_bounds-set_plan-end-3
-slice_bounds-set_plan-end-3 c = sym (blank_length _ _ c.zeros-right.ensures c.requires.1)
-
-pub slice_bounds-diag-end-2 : goal.slice_bounds-diag-end-2
-slice_bounds-diag-end-2 c =
-    let places : ℕ = length c.args.fixed.diag_s.now in
-    let diag-back : length c.set_plan-planned.new.diag ≡ places = c.set_plan-planned.auto.diag ∙ blank_length _ _ c.zeros-diag.ensures c.requires.1 in
-    let diag-room : places ≤ length (c.set_plan-planned.new.diag ++ drop places c.zeros-diag.result) = part_room _ c.set_plan-planned.new.diag _ diag-back in
-    diag-room
-
-pub slice_bounds-plan_steps-end : goal.slice_bounds-plan_steps-end
-slice_bounds-plan_steps-end c =
-    let places : ℕ = length c.args.fixed.diag_s.now in
-    let diag-back : length c.set_plan-planned.new.diag ≡ places = c.set_plan-planned.auto.diag ∙ blank_length _ _ c.zeros-diag.ensures c.requires.1 in
-    let diag-is : take places (c.set_plan-planned.new.diag ++ drop places c.zeros-diag.result) ≡ c.set_plan-planned.new.diag = part_back _ c.set_plan-planned.new.diag _ diag-back in
-    sym (ap length diag-is ∙ diag-back)
-
-pub slice_bounds-left-end-2 : goal.slice_bounds-left-end-2
-slice_bounds-left-end-2 c =
-    let places : ℕ = length c.args.fixed.diag_s.now in
-    let left_back : length c.set_plan-planned.new.left ≡ places = c.set_plan-planned.auto.left ∙ blank_length _ _ c.zeros-left.ensures c.requires.1 in
-    let left-room : places ≤ length (c.set_plan-planned.new.left ++ drop places c.zeros-left.result) = part_room _ c.set_plan-planned.new.left _ left_back in
-    left-room
-
-pub slice_bounds-plan_steps-end-2 : goal.slice_bounds-plan_steps-end-2
-slice_bounds-plan_steps-end-2 c =
-    let places : ℕ = length c.args.fixed.diag_s.now in
-    let left_back : length c.set_plan-planned.new.left ≡ places = c.set_plan-planned.auto.left ∙ blank_length _ _ c.zeros-left.ensures c.requires.1 in
-    let left_is : take places (c.set_plan-planned.new.left ++ drop places c.zeros-left.result) ≡ c.set_plan-planned.new.left = part_back _ c.set_plan-planned.new.left _ left_back in
-    sym (ap length left_is ∙ left_back)
-
-pub slice_bounds-right-end-2 : goal.slice_bounds-right-end-2
-slice_bounds-right-end-2 c =
-    let places : ℕ = length c.args.fixed.diag_s.now in
-    let right-back : length c.set_plan-planned.new.right ≡ places = c.set_plan-planned.auto.right ∙ blank_length _ _ c.zeros-right.ensures c.requires.1 in
-    let right-room : places ≤ length (c.set_plan-planned.new.right ++ drop places c.zeros-right.result) = part_room _ c.set_plan-planned.new.right _ right-back in
-    right-room
-
-pub slice_bounds-plan_steps-end-3 : goal.slice_bounds-plan_steps-end-3
-slice_bounds-plan_steps-end-3 c =
-    let places : ℕ = length c.args.fixed.diag_s.now in
-    let right-back : length c.set_plan-planned.new.right ≡ places = c.set_plan-planned.auto.right ∙ blank_length _ _ c.zeros-right.ensures c.requires.1 in
-    let right_is : take places (c.set_plan-planned.new.right ++ drop places c.zeros-right.result) ≡ c.set_plan-planned.new.right = part_back _ c.set_plan-planned.new.right _ right-back in
-    sym (ap length right_is ∙ right-back)
-
-pub slice_bounds-term-end : goal.slice_bounds-term-end
-slice_bounds-term-end c = blank_room _ _ c.zeros-term.ensures c.requires.1
-
-pub slice_bounds-plan_steps-end-4 : goal.slice_bounds-plan_steps-end-4
-slice_bounds-plan_steps-end-4 c = sym (blank_length _ _ c.zeros-term.ensures c.requires.1)
 
 pub plan_steps-requires : goal.plan_steps-requires
 plan_steps-requires c =

@@ -12,10 +12,6 @@ pub loop-pace-init : goal.loop-pace-init
 loop-pace-init c =
     (refl, refl, between_first _ _ _ _ _ c.asking-pace.ensures (ap (full c.args.fixed.half (length c.args.fixed.diag_s.now)) c.requires.2 ∙ full_fill c.args.fixed.half (length c.args.fixed.diag_s.now) (omega (arith, c.requires.0)) 1ᶠ))
 
-pub loop-pace-smaller : goal.loop-pace-smaller
-loop-pace-smaller c =
-    (between_next _ _ _ _ _ _ c.loop-pace.pace _ c.loop-pace.invariant.2 c.loop-pace-test.true c.run_plan-pace.ensures).1
-
 pub loop-pace-preserved : goal.loop-pace-preserved
 loop-pace-preserved c =
     let i = c.loop-pace.invariant in
