@@ -14,14 +14,12 @@ pub fn fill_shifted_diagonal(alpha: f64, beta: f64, eta: f64, bound: u32, diag: 
         return false;
     }
     let mut all = true;
-    let mut q = 0.0 - (bound as f64);
-    let mut i: usize = 0;
-    while i < diag.len() {
+    let mut q = 0.0 - f64::from(bound);
+    for i in 0..diag.len() {
         let d = ((alpha * q) * q - beta * q) + 2.0 * eta;
         diag[i] = d;
         all = all & elementary::is_finite(d);
         q = q + 1.0;
-        i += 1;
     }
     all
 }
@@ -33,9 +31,7 @@ pub fn scale_diagonal(diag_s: &[f64], dt: f64, diag: &mut [f64])
     if diag.len() != diag_s.len() {
         return;
     }
-    let mut i: usize = 0;
-    while i < diag_s.len() {
+    for i in 0..diag_s.len() {
         diag[i] = diag_s[i] * dt;
-        i += 1;
     }
 }

@@ -53,14 +53,12 @@ pub fn set_factors(o: &[f64], left: &mut [f64], right: &mut [f64], half: bool) -
         return false;
     }
     let mut all = true;
-    let mut i: usize = 0;
-    while i < o.len() {
+    for i in 0..o.len() {
         let lf = left_factor(o, i);
         let rf = right_factor(o, i, past_last(half, lf, 0.0));
         left[i] = lf;
         right[i] = rf;
         all = all & (elementary::is_finite(lf) & elementary::is_finite(rf));
-        i += 1;
     }
     all
 }
@@ -74,10 +72,8 @@ pub fn all_ones(left: &[f64], right: &[f64]) -> bool
         return false;
     }
     let mut all = true;
-    let mut i: usize = 1;
-    while i + 1 < left.len() {
+    for i in 1..left.len().saturating_sub(1) {
         all = all & ((left[i] == 1.0) & (right[i] == 1.0));
-        i += 1;
     }
     all
 }

@@ -5,6 +5,7 @@ ghost use Rattle.elementary.specs.Float.{◌⊖◌};
 ghost use Rattle.elementary.specs.Elementary.{EXP, or_nan};
 ghost use Rattle.operator.specs.Vectors.{abs};
 
+// The library's `abs` would make -0.0 a 0.0, which `Vectors.abs` does not.
 pub fn magnitude(x: f64) -> f64
     ensures { result ≡ abs x }
 {

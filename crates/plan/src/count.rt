@@ -16,7 +16,7 @@ use crate::{FirstPlan, MAX_EXPM_STEPS, RunInput};
 fn row_sum(alpha: f64, eta: f64, lots: u32, factors: f64) -> f64
     ensures { result ≡ row_sum alpha eta lots factors }
 {
-    let q = lots as f64;
+    let q = f64::from(lots);
     ((alpha * q) * q + 2.0 * eta) + eta * factors
 }
 

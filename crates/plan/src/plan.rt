@@ -13,27 +13,16 @@ pub enum Planned {
     Refused,
 }
 
-// The factors by reference.
-#[derive(Clone, Copy)]
-pub(crate) struct Factors<'a> {
-    pub(crate) left: &'a [f64],
-    pub(crate) right: &'a [f64],
-}
-
 // The largest row sum, of the diagonal's magnitude and what its neighbours take.
 fn norm_of(diag_s: &[f64], eta: f64, left: &[f64], right: &[f64]) -> f64
     requires { (length left.now ≡ length diag_s.now) × (length right.now ≡ length diag_s.now) }
     ensures { result ≡ norm (fixed_over (length diag_s.now) diag_s.now eta) left.now right.now }
 {
     let mut norm = 0.0;
-    let mut i: usize = 0;
-    while i < diag_s.len() {
+    for i in 0..diag_s.len() {
         let d = diag_s[i];
         let sum = operator::magnitude(d) + eta * (left[i] + right[i]);
-        if norm < sum {
-            norm = sum;
-        }
-        i += 1;
+        norm = crate::reals::larger_of(norm, sum);
     }
     norm
 }
@@ -42,8 +31,7 @@ fn norm_of(diag_s: &[f64], eta: f64, left: &[f64], right: &[f64]) -> f64
 fn steps_needed(size: f64) -> f64
     ensures { result ≡ needed size }
 {
-    let up = crate::reals::ceil_or_nan(size / STEP_NORM);
-    if up < 1.0 { 1.0 } else { up }
+    crate::reals::larger_of(crate::reals::ceil_or_nan(size / STEP_NORM), 1.0)
 }
 
 // The plan for a norm times a time that is finite and positive.
@@ -58,13 +46,14 @@ pub(crate) fn plan_for(size: f64, tau: f64, budget: u32) -> Planned
     Planned::OverCap(need)
 }
 
-// The work of `plan`, over the factors' slices: refused where one is not as long as the diagonal.
-pub(crate) fn plan_over<'a>(
+// The plan for tau, with so many steps of the budget left: refused where a slice of factors is not as long
+// as the diagonal.
+pub(crate) fn plan_over(
     tau: f64,
     diag_s: &[f64],
     eta: f64,
-    left: &'a [f64],
-    right: &'a [f64],
+    left: &[f64],
+    right: &[f64],
     budget: u32,
 ) -> Planned
     ensures { result ≡ plan_with tau diag_s.now eta left.now right.now budget }
@@ -80,32 +69,4 @@ pub(crate) fn plan_over<'a>(
         return plan_for(size, tau, budget);
     }
     Planned::Refused
-}
-
-// The plan for tau, with so many steps of the budget left.
-pub(crate) fn plan<'a>(
-    tau: f64,
-    diag_s: &[f64],
-    eta: f64,
-    factors: Factors<'a>,
-    budget: u32,
-) -> Planned
-    ensures { result ≡ plan_with tau diag_s.now eta factors.entry.left.now factors.entry.right.now budget }
-{
-    plan_over(tau, diag_s, eta, factors.left, factors.right, budget)
-}
-
-// The same for a caller that holds the factors as two slices: refused where one is not as long as the
-// diagonal.
-pub(crate) fn plan_with<'a>(
-    tau: f64,
-    diag_s: &[f64],
-    eta: f64,
-    left: &'a [f64],
-    right: &'a [f64],
-    budget: u32,
-) -> Planned
-    ensures { result ≡ plan_with tau diag_s.now eta left.now right.now budget }
-{
-    plan(tau, diag_s, eta, Factors { left, right }, budget)
 }

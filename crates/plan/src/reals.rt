@@ -4,6 +4,7 @@ ghost use Rattle.std.specs.Prelude.{◌≡◌};
 ghost use Rattle.elementary.specs.Elementary.{CEIL, or_nan};
 ghost use Rattle.operator.specs.Vectors.{larger};
 
+// The library's `max` would give y where x is a NaN, which `Vectors.larger` does not.
 pub fn larger_of(x: f64, y: f64) -> f64
     ensures { result ≡ larger x y }
 {

@@ -3,33 +3,24 @@ use mathlib.Core.Path.{◌≡◌, refl, sym, ap, ap₂, ◌∙◌}
 use Prim.Native.Nat.{ℕ, zero, suc, ◌+◌, ◌-◌, ◌<◌, ◌≤◌}
 use native.Mathlib.Numerals.{add-one}
 use native.Mathlib.Omega.{arith}
-use mathlib.Core.Bool.{Bool, true, false, not, ◌&&◌, false≢true}
+use mathlib.Core.Bool.{Bool, true, false, ◌&&◌}
 use mathlib.Core.List.{List}
-use borrow.Author.Tests.{lt-ltb, le-ltb, leb-true, leb-false, le-leb}
+use borrow.Author.Tests.{lt-ltb, le-ltb, le-leb}
 use lib.IntN.{pos}
-use lib.Dec.{T, ltb, leb}
+use lib.Dec.{T, ltb}
 use lib.ListN.{length}
 use lib.Ieee.{Float, binary64, fits}
 use lib.Ieee.Fits.{sub-fits}
 use Rattle.elementary.specs.Float.{◌⊕◌, ◌⊖◌, ◌⊗◌, ◌⊘◌, whole, 0ᶠ, 1ᶠ}
 use Rattle.operator.specs.Vectors.{tab, at, before}
 use Rattle.series.specs.Series.{Operator, plus, converged}
-use Rattle.operator.specs.Slices.{both_sized, past}
+use Rattle.operator.specs.Slices.{past}
 use Rattle.series.specs.Slices.{beside_of, beside_at, slice_row, slice_term, SliceSum, sum_of, with_term, more_terms, step_fits, Sizes}
 use Rattle.operator.proofs.Lists.{at_tab, tab_ext}
 use Rattle.series.proofs.Terms.{once}
-use Rattle.operator.proofs.Slices.{both_true, sized_both, both_sized_lem}
+use Rattle.operator.proofs.Slices.{sized_both}
 
 -- ---- lengths
-pub step_sizes : (v diag left right term : List Float) → step_fits v diag left right term ≡ true → (2 ≤ length v) × Sizes (length v) diag left right term
-step_sizes v diag left right term e =
-    let n = length v in
-    let s = both_true (leb 2 n && both_sized n (length diag) (length left)) (both_sized n (length right) (length term)) e in
-    let t = both_true (leb 2 n) (both_sized n (length diag) (length left)) s.0 in
-    let d = both_sized_lem n (length diag) (length left) t.1 in
-    let r = both_sized_lem n (length right) (length term) s.1 in
-    (leb-true 2 n t.0, record { diag_n = d.0; left_n = d.1; right_n = r.0; term_n = r.1 })
-
 pub sizes_step : (v diag left right term : List Float) → 2 ≤ length v → Sizes (length v) diag left right term → step_fits v diag left right term ≡ true
 sizes_step v diag left right term two z =
     rw (le-leb 2 (length v) two, sized_both (length v) (length diag) (length left) z.diag_n z.left_n, sized_both (length v) (length right) (length term) z.right_n z.term_n)
@@ -105,26 +96,13 @@ module _ (half plain : Bool) (p : Operator) (eta : Float) where
       let u : 101 - j ≡ suc (101 - (j + 1)) = omega arith in
       rw (m, add-one j) (rw (e, u, add-one j) at i)
 
-  at_end : (k j : ℕ) (s : SliceSum) → more_terms k true half plain p eta j s ≡ s
+  -- once it has converged
+  pub at_end : (k j : ℕ) (b : Bool) (s : SliceSum) → b ≡ true → more_terms k b half plain p eta j s ≡ s
   unfolding more_terms
-  at_end zero j s = refl
-  at_end (suc k) j s = refl
+  at_end zero j b s e = refl
+  at_end (suc k) j b s e = rw e refl
 
   -- after the loop
-  pub ended : (j : ℕ) (c : Bool) (s : SliceSum) → (leb j 100 && not c) ≡ false → more_terms (101 - j) c half plain p eta j s ≡ s
+  pub ended : (j : ℕ) (c : Bool) (s : SliceSum) → 100 < j → more_terms (101 - j) c half plain p eta j s ≡ s
   unfolding more_terms
-  ended j true s e = at_end (101 - j) j s
-  ended j false s e = go (leb j 100) refl e
-    where
-      go : (a : Bool) → leb j 100 ≡ a → (a && true) ≡ false → more_terms (101 - j) false half plain p eta j s ≡ s
-      go true h e = absurd (false≢true (sym e))
-      go false h e = let k = leb-false j 100 h in let z : 101 - j ≡ 0 = omega arith in rw z refl
-
--- the loop's test
-pub goes_on : (j : ℕ) (c : Bool) → (leb j 100 && not c) ≡ true → (j ≤ 100) × (c ≡ false)
-goes_on j c e = go (leb j 100) c refl e
-  where
-    go : (a c : Bool) → leb j 100 ≡ a → (a && not c) ≡ true → (j ≤ 100) × (c ≡ false)
-    go true true h e = absurd (false≢true e)
-    go true false h e = (leb-true j 100 h, refl)
-    go false c h e = absurd (false≢true e)
+  ended j c s h = let z : 101 - j ≡ 0 = omega arith in rw z refl

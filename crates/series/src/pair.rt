@@ -7,6 +7,7 @@ ghost use Rattle.series.specs.Series.{operator_over};
 ghost use Rattle.series.specs.Slices.{slice_row, slice_term, sum_of, with_term, series_over};
 ghost use Rattle.series.specs.Pairs.{pair_of, operator_of, partial_of};
 
+use crate::rows::Rows;
 use crate::taylor::MAX_TAYLOR_ORDER;
 
 // The entries of the end row and of the centre.
@@ -92,7 +93,7 @@ fn first_pair(op: TwoRows, v: Pair) -> Partial
 fn next_pair(op: TwoRows, s: Partial, order: u32) -> Partial
     ensures { partial_of result ≡ with_term 2 (pair_of s.sum) (slice_term true false (operator_of op) op.eta_dt order (pair_of s.term)) }
 {
-    let inv = 1.0 / (order as f64);
+    let inv = 1.0 / f64::from(order);
     let x = applied(op, s.term);
     let term = Pair {
         end: x.end * inv,
@@ -106,31 +107,26 @@ fn sum_series(op: TwoRows, v: Pair) -> Partial
     ensures { partial_of result ≡ series_over true false (operator_of op) op.eta_dt (pair_of v) }
 {
     let mut s = first_pair(op, v);
-    let mut order: u32 = 2;
-    while (order <= MAX_TAYLOR_ORDER) & !s.settled {
+    for order in 2..=MAX_TAYLOR_ORDER {
+        if s.settled {
+            return s;
+        }
         s = next_pair(op, s, order);
-        order += 1;
     }
     s
 }
 
 // The work of `taylor::taylor_step` over two rows, up to the centre.
-pub(crate) fn taylor_pair(
-    v: &mut [f64],
-    diag: &[f64],
-    eta_dt: f64,
-    left: &[f64],
-    right: &[f64],
-    term: &mut [f64],
-) -> bool
-    requires { (length v.old ≡ 2) × (length diag.now ≡ 2) × (length left.now ≡ 2) × (length right.now ≡ 2) × (length term.old ≡ 2) }
-    ensures { sum_of term.new v.new result ≡ series_over true false (operator_over 2 diag.now left.now right.now) eta_dt v.old }
+pub(crate) fn taylor_pair(v: &mut [f64], rows: Rows<'_>, term: &mut [f64]) -> bool
+    requires { (length v.old ≡ 2) × (length rows.diag.now ≡ 2) × (length term.old ≡ 2) }
+    ensures { let r = rows.entry in sum_of term.new v.new result
+        ≡ series_over true false (operator_over 2 r.diag.now r.left.now r.right.now) r.eta_dt v.old }
 {
     let op = TwoRows {
-        eta_dt,
-        diag: pair_of(diag),
-        left: pair_of(left),
-        right: pair_of(right),
+        eta_dt: rows.eta_dt,
+        diag: pair_of(rows.diag),
+        left: pair_of(rows.left),
+        right: pair_of(rows.right),
     };
     let s = sum_series(op, pair_of(v));
     v[0] = s.sum.end;

@@ -2,7 +2,9 @@
 // `half` is true, for each row up to the centre: the others mirror them.
 ghost use Rattle.std.specs.Prelude.{◌≡◌, ◌≤◌, false, length};
 ghost use Rattle.series.specs.Series.{small, converged, operator_over};
-ghost use Rattle.series.specs.Slices.{five_sized, slice_term, sum_of, with_term, series_over, step_over, Sizes};
+ghost use Rattle.series.specs.Slices.{five_sized, slice_term, sum_of, with_term, series_over, step_over};
+
+use crate::rows::Rows;
 
 const TAYLOR_TOL: f64 = 1e-16;
 
@@ -21,10 +23,8 @@ fn all_small(t: &[f64], v: &[f64]) -> bool
     ensures { result ≡ converged (length t.now) v.now t.now }
 {
     let mut all = true;
-    let mut i: usize = 0;
-    while i < t.len() {
+    for i in 0..t.len() {
         all = all & is_small(t[i], v[i]);
-        i += 1;
     }
     all
 }
@@ -43,71 +43,51 @@ fn has_converged(t: &[f64], v: &[f64]) -> bool
 
 // Term 1, from v itself, and the sum with it; whether it has converged. `lower` is the entry of v
 // before row i, as it was.
-fn first_term(
-    v: &mut [f64],
-    diag: &[f64],
-    eta_dt: f64,
-    left: &[f64],
-    right: &[f64],
-    half: bool,
-    out: &mut [f64],
-) -> bool
+fn first_term(v: &mut [f64], rows: Rows<'_>, out: &mut [f64]) -> bool
     requires two_rows { 2 ≤ length v.old }
-    requires sizes { Sizes (length v.old) diag.now left.now right.now out.old }
-    ensures { sum_of out.new v.new result ≡ with_term (length v.old) v.old
-        (slice_term half false (operator_over (length v.old) diag.now left.now right.now) eta_dt 1 v.old) }
+    requires sizes { (length v.old ≡ length rows.diag.now) × (length out.old ≡ length rows.diag.now) }
+    ensures { let r = rows.entry in let n = length v.old in sum_of out.new v.new result
+        ≡ with_term n v.old (slice_term r.half false (operator_over n r.diag.now r.left.now r.right.now) r.eta_dt 1 v.old) }
 {
+    let last = out.len() - 1;
     let mut lower = 0.0;
-    let mut i: usize = 0;
-    while i + 1 < out.len() {
+    for i in 0..last {
         let x = v[i];
-        let t = crate::rows::row_at(v, diag, eta_dt, left, right, i, lower, v[i + 1]);
+        let t = rows.row_at(v, i, lower, v[i + 1]);
         out[i] = t;
         v[i] = x + t;
         lower = x;
-        i += 1;
     }
-    let t = crate::rows::last_row(v, diag, eta_dt, left, right, half, i, lower);
-    out[i] = t;
-    v[i] = v[i] + t;
+    let t = rows.last_row(v, last, lower);
+    out[last] = t;
+    v[last] = v[last] + t;
     has_converged(out, v)
 }
 
 // A later term in place of the one before it, and the sum with it; whether it has converged. The first
 // and the last row stand apart, so that the rows between them read both neighbours; `lower` is the
 // entry of x before row i, as it was.
-fn next_term(
-    x: &mut [f64],
-    diag: &[f64],
-    eta_dt: f64,
-    left: &[f64],
-    right: &[f64],
-    half: bool,
-    plain: bool,
-    order: u32,
-    v: &mut [f64],
-) -> bool
+fn next_term(x: &mut [f64], rows: Rows<'_>, order: u32, v: &mut [f64]) -> bool
     requires two_rows { 2 ≤ length x.old }
-    requires sizes { Sizes (length x.old) diag.now left.now right.now v.old }
-    ensures { sum_of x.new v.new result ≡ with_term (length x.old) v.old
-        (slice_term half plain (operator_over (length x.old) diag.now left.now right.now) eta_dt order x.old) }
+    requires sizes { (length x.old ≡ length rows.diag.now) × (length v.old ≡ length rows.diag.now) }
+    ensures { let r = rows.entry in let n = length x.old in sum_of x.new v.new result
+        ≡ with_term n v.old (slice_term r.half r.plain (operator_over n r.diag.now r.left.now r.right.now) r.eta_dt order x.old) }
 {
-    let inv = 1.0 / (order as f64);
-    let first = crate::rows::row_at(x, diag, eta_dt, left, right, 0, 0.0, x[1]) * inv;
+    let inv = 1.0 / f64::from(order);
+    let last = x.len() - 1;
+    let first = rows.row_at(x, 0, 0.0, x[1]) * inv;
     let mut lower = x[0];
-    let mut i: usize = 1;
-    while i + 1 < x.len() {
+    for i in 1..last {
         let centre = x[i];
-        let beside = crate::rows::beside(left, right, plain, i, lower, x[i + 1]);
-        let t = (eta_dt * beside - diag[i] * centre) * inv;
+        let beside = rows.beside(i, lower, x[i + 1]);
+        let t = (rows.eta_dt * beside - rows.diag[i] * centre) * inv;
         x[i] = t;
         v[i] = v[i] + t;
         lower = centre;
-        i += 1;
     }
-    let last = crate::rows::last_row(x, diag, eta_dt, left, right, half, i, lower) * inv;
-    x[i] = last;
-    v[i] = v[i] + last;
+    let end = rows.last_row(x, last, lower) * inv;
+    x[last] = end;
+    v[last] = v[last] + end;
     x[0] = first;
     v[0] = v[0] + first;
     has_converged(x, v)
@@ -115,28 +95,21 @@ fn next_term(
 
 // The work of `taylor_step` over slices. Nothing is copied: term 1 comes from v itself, and each later
 // one takes the place of the one before it in `term`.
-fn taylor_rows(
-    v: &mut [f64],
-    diag: &[f64],
-    eta_dt: f64,
-    left: &[f64],
-    right: &[f64],
-    half: bool,
-    plain: bool,
-    term: &mut [f64],
-) -> bool
+fn taylor_rows(v: &mut [f64], rows: Rows<'_>, term: &mut [f64]) -> bool
     requires two_rows { 2 ≤ length v.old }
-    requires sizes { Sizes (length v.old) diag.now left.now right.now term.old }
-    ensures { sum_of term.new v.new result
-        ≡ series_over half plain (operator_over (length v.old) diag.now left.now right.now) eta_dt v.old }
+    requires sizes { (length v.old ≡ length rows.diag.now) × (length term.old ≡ length rows.diag.now) }
+    ensures { let r = rows.entry in sum_of term.new v.new result
+        ≡ series_over r.half r.plain (operator_over (length v.old) r.diag.now r.left.now r.right.now) r.eta_dt v.old }
 {
-    let mut settled = first_term(v, diag, eta_dt, left, right, half, term);
-    let mut order: u32 = 2;
-    while (order <= MAX_TAYLOR_ORDER) & !settled {
-        settled = next_term(term, diag, eta_dt, left, right, half, plain, order, v);
-        order += 1;
+    if first_term(v, rows, term) {
+        return true;
     }
-    settled
+    for order in 2..=MAX_TAYLOR_ORDER {
+        if next_term(term, rows, order, v) {
+            return true;
+        }
+    }
+    false
 }
 
 // Whether there are at least two rows, and all slices are of one length.
@@ -166,10 +139,16 @@ pub fn taylor_step(
     if !step_fits(v.len(), diag.len(), left.len(), right.len(), term.len()) {
         return false;
     }
-    if half {
-        if v.len() == 2 {
-            return crate::pair::taylor_pair(v, diag, eta_dt, left, right, term);
-        }
+    let rows = Rows {
+        diag,
+        eta_dt,
+        left,
+        right,
+        half,
+        plain,
+    };
+    if half && v.len() == 2 {
+        return crate::pair::taylor_pair(v, rows, term);
     }
-    taylor_rows(v, diag, eta_dt, left, right, half, plain, term)
+    taylor_rows(v, rows, term)
 }

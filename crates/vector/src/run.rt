@@ -141,20 +141,18 @@ fn largest(w: &[f64]) -> Top
     let mut odd = 0.0;
     let mut first = true;
     let mut second = true;
-    let mut i: usize = 0;
-    while i + 1 < w.len() {
-        let x = w[i];
-        let y = w[i + 1];
+    for k in 0..w.len() / 2 {
+        let x = w[2 * k];
+        let y = w[2 * k + 1];
         even = plan::larger_of(even, x);
         odd = plan::larger_of(odd, y);
         first = first & (0.0 < x);
         second = second & (0.0 < y);
-        i += 2;
     }
     let both = plan::larger_of(even, odd);
     let all = first & second;
-    if i < w.len() {
-        let x = w[i];
+    if w.len() % 2 == 1 {
+        let x = w[w.len() - 1];
         return top_of(plan::larger_of(both, x), all & (0.0 < x));
     }
     top_of(both, all)
@@ -166,12 +164,10 @@ fn divide(w: &mut [f64], max: f64, steps: u32) -> bool
     ensures value { result ≡ not (rebalances (fold smaller (inf false) w.new) steps) }
 {
     let mut calm = true;
-    let mut i: usize = 0;
-    while i < w.len() {
+    for i in 0..w.len() {
         let x = w[i] / max;
         w[i] = x;
         calm = calm & !crate::must_rebalance(x, steps);
-        i += 1;
     }
     calm
 }
@@ -184,13 +180,11 @@ fn rebalance(w: &mut [f64], o: &mut [f64]) -> bool
     ensures value { result ≡ every (length w.old) (λ i. positive (at w.old i)) }
 {
     let mut all = true;
-    let mut i: usize = 0;
-    while i < w.len() {
+    for i in 0..w.len() {
         let x = w[i];
         all = all & elementary::is_positive_finite(x);
         o[i] = o[i] + crate::reals::ln_or_nan(x);
         w[i] = 1.0;
-        i += 1;
     }
     all
 }
@@ -217,7 +211,8 @@ fn after_step(w: &mut [f64], o: &mut [f64], pace: Pace, settled: bool) -> Pace
     refused()
 }
 
-// The steps of a plan, until there is another to make or the run is over.
+// The steps of a plan, until there is another to make or the run is over. The slices come one by one, as
+// `taylor_step` takes them.
 fn plan_steps(
     w: &mut [f64],
     o: &mut [f64],
@@ -245,36 +240,36 @@ fn plan_steps(
     pace
 }
 
+// What stays through a run: the diagonal a second, by its rows, and eta.
+#[derive(Clone, Copy)]
+struct Fixed<'a> {
+    diag_s: &'a [f64],
+    eta: f64,
+    half: bool,
+}
+
 // A plan for the rest of the time, from weights of 1.0, and its steps, with room for what they work
 // on.
-fn run_plan(
-    w: &mut [f64],
-    o: &mut [f64],
-    diag_s: &[f64],
-    eta: f64,
-    rest: f64,
-    budget: u32,
-    n: usize,
-    half: bool,
-) -> Pace
-    requires { (2 ≤ n) × (n ≤ 401) × (length w.old ≡ n) × (length o.old ≡ n) × (length diag_s.now ≡ n) × (budget ≤ cap) × (full half n w.old ≡ fill (full_size half n) 1ᶠ) }
-    ensures { Between (full_fixed half n diag_s.now eta)
-        (run_on budget (full_fixed half n diag_s.now eta) (begin (full_fixed half n diag_s.now eta) budget (fill (full_size half n) 1ᶠ) (full half n o.old) rest))
-        (full half n w.new) (full half n o.new) result × (weight result ≤ budget) }
+fn run_plan(w: &mut [f64], o: &mut [f64], fixed: Fixed<'_>, rest: f64, budget: u32) -> Pace
+    requires { let n = length fixed.diag_s.now in (2 ≤ n) × (n ≤ 401) × (length w.old ≡ n) × (length o.old ≡ n) × (budget ≤ cap) × (full fixed.half n w.old ≡ fill (full_size fixed.half n) 1ᶠ) }
+    ensures { let f = fixed.entry in let n = length f.diag_s.now in let p = full_fixed f.half n f.diag_s.now f.eta in
+        Between p (run_on budget p (begin p budget (fill (full_size f.half n) 1ᶠ) (full f.half n o.old) rest))
+        (full f.half n w.new) (full f.half n o.new) result × (weight result ≤ budget) }
 {
+    let n = fixed.diag_s.len();
     let mut diag = plan::zeros();
     let mut left = plan::zeros();
     let mut right = plan::zeros();
     let planned = plan::set_plan(
         o,
-        diag_s,
+        fixed.diag_s,
         &mut diag[..n],
         &mut left[..n],
         &mut right[..n],
-        eta,
+        fixed.eta,
         rest,
         budget,
-        half,
+        fixed.half,
     );
     let first = pace_of(planned, budget, rest);
     let mut term = plan::zeros();
@@ -285,29 +280,22 @@ fn run_plan(
         &left[..n],
         &right[..n],
         &mut term[..n],
-        eta,
+        fixed.eta,
         first,
-        half,
+        fixed.half,
     )
 }
 
 // The run over a time above zero, from weights of 1.0: plan after plan.
-fn run_plans(
-    w: &mut [f64],
-    o: &mut [f64],
-    diag_s: &[f64],
-    eta: f64,
-    tau: f64,
-    n: usize,
-    half: bool,
-) -> Outcome
-    requires { (2 ≤ n) × (n ≤ 401) × (w.old ≡ fill n 1ᶠ) × (length o.old ≡ n) × (length diag_s.now ≡ n) }
-    ensures { EndIs (run_on cap (full_fixed half n diag_s.now eta) (begin (full_fixed half n diag_s.now eta) cap (fill (full_size half n) 1ᶠ) (full half n o.old) tau))
-        result (full half n w.new) (full half n o.new) }
+fn run_plans(w: &mut [f64], o: &mut [f64], fixed: Fixed<'_>, tau: f64) -> Outcome
+    requires { let n = length fixed.diag_s.now in (2 ≤ n) × (n ≤ 401) × (w.old ≡ fill n 1ᶠ) × (length o.old ≡ n) }
+    ensures { let f = fixed.entry in let n = length f.diag_s.now in let p = full_fixed f.half n f.diag_s.now f.eta in
+        EndIs (run_on cap p (begin p cap (fill (full_size f.half n) 1ᶠ) (full f.half n o.old) tau))
+        result (full f.half n w.new) (full f.half n o.new) }
 {
     let mut pace = asking(MAX_EXPM_STEPS, tau);
     while pace.ask {
-        pace = run_plan(w, o, diag_s, eta, pace.remaining, pace.budget, n, half);
+        pace = run_plan(w, o, fixed, pace.remaining, pace.budget);
     }
     end_of(pace)
 }
@@ -333,24 +321,13 @@ pub fn refused_vector(refusal: Refusal) -> VectorAnswer
     }
 }
 
-// Every weight 1.0.
-fn fill_ones(w: &mut [f64])
-    ensures { w.new ≡ fill (length w.old) 1ᶠ }
-{
-    let mut i: usize = 0;
-    while i < w.len() {
-        w[i] = 1.0;
-        i += 1;
-    }
-}
-
 // A vector of n entries at the end of the time: weights of 1.0, offsets of 0.0.
 fn at_end(n: usize) -> ValueVector
     requires { n ≤ 401 }
     ensures { result ≡ vector_of n (fill n 1ᶠ) (fill n 0ᶠ) }
 {
     let mut w = plan::zeros();
-    fill_ones(&mut w[..n]);
+    w[..n].fill(1.0);
     ValueVector {
         w,
         log_offset: plan::zeros(),
@@ -364,10 +341,8 @@ fn fill_mirror(x: &mut [f64], n: usize)
     ensures { x.new ≡ filled_out (length x.old) n x.old x.old }
 {
     let last = x.len() - 1;
-    let mut i = n;
-    while i < x.len() {
+    for i in n..x.len() {
         x[i] = x[last - i];
-        i += 1;
     }
 }
 
@@ -386,7 +361,12 @@ fn run_rows(w: &mut [f64], o: &mut [f64], input: RunInput, n: usize, half: bool)
         input.bound,
         &mut diag_s[..n],
     ) {
-        return run_plans(w, o, &diag_s[..n], input.eta, input.tau, n, half);
+        let fixed = Fixed {
+            diag_s: &diag_s[..n],
+            eta: input.eta,
+            half,
+        };
+        return run_plans(w, o, fixed, input.tau);
     }
     Outcome::Refused(NUMERICAL)
 }

@@ -9,7 +9,7 @@ use mathlib.Core.List.{List}
 use borrow.Author.Tests.{le-leb, lt-leb}
 use lib.IntN.{pos, negsuc, nat_abs}
 use lib.Dec.{T, lit≤, leb, nleb→lt}
-use lib.ListN.{length, length-set}
+use lib.ListN.{length}
 use lib.Ieee.{Float, binary64, minus, of_bits, of_int, round}
 use Rattle.elementary.specs.Float.{◌⊕◌, ◌⊖◌, whole, 0ᶠ, 1ᶠ, finite}
 use Rattle.elementary.proofs.Exact.{one_whole, sub_whole, add_ints, minus_suc}
@@ -46,7 +46,7 @@ unfolding diagonal_over
 returns-then-bound-diag c = rw (lt-leb _ _ c.if-bound-diag.true) (record { diag_after = refl; value = refl })
 
 pub loop-i-init : goal.loop-i-init
-loop-i-init c = (omega arith, omega arith, refl, first _ (omega arith), filled_zero _ _, every_zero _)
+loop-i-init c = (omega arith, rw c.from-q.ensures (first _ (omega arith)), filled_zero _ _, every_zero _)
 
 pub loop-i-preserved : goal.loop-i-preserved
 unfolding diagonal_at
@@ -54,11 +54,9 @@ loop-i-preserved c =
     let b = c.args.bound in
     let i = c.loop-i.invariant in (
       i.0,
-      omega arith,
-      simp length-set i.2,
-      rw i.3 (next c.loop-i.i b (omega arith) (omega arith)),
-      stored _ _ _ _ _ (omega arith) i.4 (rw i.3),
-      rw (i.5, c.is_finite-all.ensures, i.3) (every_suc c.loop-i.i _),
+      rw i.1 (next c.loop-i.i b (omega arith) (omega arith)),
+      stored _ _ _ _ _ (omega arith) i.2 (rw i.1),
+      rw (i.3, c.is_finite-all.ensures, i.1) (every_suc c.loop-i.i _),
     )
 
 -- the same test of what is stored
@@ -72,5 +70,5 @@ returns c =
     let i = c.loop-i.invariant in
     let a = c.args in
     let n = length a.diag.now in
-    let d : c.loop-i.diag ≡ tab n (diagonal_at a.bound a.alpha a.beta a.eta) = filled_all _ _ _ k _ (omega arith) (omega arith) i.4 in
-    rw (le-leb n (rows a.bound) i.0) (record { diag_after = d; value = i.5 ∙ every_at _ _ _ (omega arith) ∙ tested _ _ _ d })
+    let d : c.loop-i.diag ≡ tab n (diagonal_at a.bound a.alpha a.beta a.eta) = filled_all _ _ _ k _ (omega arith) (omega arith) i.2 in
+    rw (le-leb n (rows a.bound) i.0) (record { diag_after = d; value = i.3 ∙ every_at _ _ _ (omega arith) ∙ tested _ _ _ d })

@@ -2,7 +2,6 @@
 use mathlib.Core.Path.{refl}
 use native.Mathlib.Omega.{arith}
 use borrow.Author.Tests.{eq-eqb, ne_eqb}
-use lib.ListN.{length-set}
 use Rattle.operator.specs.Slices.{scaled_over}
 use Rattle.operator.proofs.Loops.{filled_zero, stored, filled_all}
 use Rattle.operator.proofs.diagonal.scale_diagonal.Goals as goal
@@ -12,12 +11,11 @@ unfolding scaled_over
 returns-then-diag-diag_s c = rw (ne_eqb _ _ c.if-diag-diag_s.true) refl
 
 pub loop-i-init : goal.loop-i-init
-loop-i-init c = (c.if-diag-diag_s.false, omega arith, c.if-diag-diag_s.false, filled_zero _ _)
+loop-i-init c = (c.if-diag-diag_s.false, filled_zero _ _)
 
 pub loop-i-preserved : goal.loop-i-preserved
-loop-i-preserved c =
-    (c.loop-i.invariant.0, omega arith, simp length-set c.loop-i.invariant.2, stored _ _ _ _ _ (omega arith) c.loop-i.invariant.3 refl)
+loop-i-preserved c = let i = c.loop-i.invariant in (i.0, stored _ _ _ _ _ (omega arith) i.1 refl)
 
 pub returns : goal.returns
 unfolding scaled_over
-returns c = let i = c.loop-i.invariant in rw (eq-eqb _ _ i.0) (filled_all _ _ _ c.loop-i.i _ (omega arith) (omega arith) i.3)
+returns c = let i = c.loop-i.invariant in rw (eq-eqb _ _ i.0) (filled_all _ _ _ c.loop-i.i _ (omega arith) (omega arith) i.1)

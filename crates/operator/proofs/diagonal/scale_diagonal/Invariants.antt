@@ -1,5 +1,4 @@
 use mathlib.Core.Path.{◌≡◌}
-use Prim.Native.Nat.{◌-◌, ◌≤◌}
 use lib.ListN.{length}
 use Rattle.elementary.specs.Float.{◌⊗◌}
 use Rattle.operator.specs.Vectors.{at}
@@ -7,7 +6,4 @@ use Rattle.operator.proofs.Loops.{filled}
 use Rattle.operator.proofs.diagonal.scale_diagonal.Given as goal
 
 abbrev pub invariant-loop-i : goal.invariant-loop-i
-invariant-loop-i l = (length l.initial.diag ≡ length l.diag_s) × (l.i ≤ length l.diag_s) × (length l.diag ≡ length l.diag_s) × (l.diag ≡ filled (λ k. at l.diag_s k ⊗ l.dt) l.initial.diag l.i)
-
-abbrev pub decreases-loop-i : goal.decreases-loop-i
-decreases-loop-i l = length l.diag_s - l.i
+invariant-loop-i l = (length l.initial.diag ≡ length l.diag_s) × (l.diag ≡ filled (λ k. at l.diag_s k ⊗ l.dt) l.initial.diag l.i)

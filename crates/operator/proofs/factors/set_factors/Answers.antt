@@ -4,7 +4,7 @@ use mathlib.Core.List.{List}
 use mathlib.Core.Bool.{◌&&◌}
 use Prim.Native.Nat.{ℕ}
 use native.Mathlib.Omega.{arith}
-use lib.ListN.{length, length-set}
+use lib.ListN.{length}
 use lib.Ieee.{Float}
 use Rattle.elementary.specs.Float.{finite}
 use Rattle.operator.specs.Vectors.{tab, at, every}
@@ -26,7 +26,7 @@ returns-then-not-both_sized c = rw (sym c.both_sized.ensures ∙ c.if-not-both_s
 pub loop-i-init : goal.loop-i-init
 loop-i-init c =
     let s = both_sized_lem _ _ _ (sym c.both_sized.ensures ∙ c.if-not-both_sized.false) in
-    (s.0, s.1, omega arith, s.0, s.1, filled_zero _ _, filled_zero _ _, every_zero _)
+    (s.0, s.1, filled_zero _ _, filled_zero _ _, every_zero _)
 
 pub loop-i-preserved : goal.loop-i-preserved
 unfolding right_by
@@ -36,12 +36,9 @@ loop-i-preserved c =
     let r = rw (c.past_last.ensures, l) at c.right_factor-rf.ensures in (
       i.0,
       i.1,
-      omega arith,
-      simp length-set i.3,
-      simp length-set i.4,
-      stored _ _ _ _ _ (omega arith) i.5 l,
-      stored _ _ _ _ _ (omega arith) i.6 r,
-      rw (i.7, c.is_finite.ensures, c.is_finite-in-loop-i.ensures, l, r) (every_suc c.loop-i.i _),
+      stored _ _ _ _ _ (omega arith) i.2 l,
+      stored _ _ _ _ _ (omega arith) i.3 r,
+      rw (i.4, c.is_finite.ensures, c.is_finite-in-loop-i.ensures, l, r) (every_suc c.loop-i.i _),
     )
 
 pub returns : goal.returns
@@ -51,6 +48,6 @@ returns c =
     let i = c.loop-i.invariant in
     let a = c.args in
     let o = a.o.now in
-    let l : c.loop-i.left ≡ tab (length o) (left_at o) = filled_all _ _ _ k _ (omega arith) (omega arith) i.5 in
-    let r : c.loop-i.right ≡ tab (length o) (right_by a.half (length o) o) = filled_all _ _ _ k _ (omega arith) (omega arith) i.6 in
-    rw (sized_both (length o) _ _ i.0 i.1) (record { left_after = l; right_after = r; value = i.7 ∙ every_at _ _ _ (omega arith) ∙ both _ _ _ _ _ l r })
+    let l : c.loop-i.left ≡ tab (length o) (left_at o) = filled_all _ _ _ k _ (omega arith) (omega arith) i.2 in
+    let r : c.loop-i.right ≡ tab (length o) (right_by a.half (length o) o) = filled_all _ _ _ k _ (omega arith) (omega arith) i.3 in
+    rw (sized_both (length o) _ _ i.0 i.1) (record { left_after = l; right_after = r; value = i.4 ∙ every_at _ _ _ (omega arith) ∙ both _ _ _ _ _ l r })

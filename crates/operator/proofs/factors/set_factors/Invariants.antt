@@ -1,6 +1,5 @@
 use mathlib.Core.Path.{◌≡◌}
 use mathlib.Core.Bool.{◌&&◌}
-use Prim.Native.Nat.{◌-◌, ◌≤◌}
 use lib.ListN.{length}
 use Rattle.elementary.specs.Float.{finite}
 use Rattle.operator.specs.Vectors.{every}
@@ -11,8 +10,5 @@ use Rattle.operator.proofs.factors.set_factors.Given as goal
 
 abbrev pub invariant-loop-i : goal.invariant-loop-i
 invariant-loop-i l =
-    (length l.initial.left ≡ length l.o) × (length l.initial.right ≡ length l.o) × (l.i ≤ length l.o) × (length l.left ≡ length l.o) × (length l.right ≡ length l.o) × (l.left ≡ filled (left_at l.o) l.initial.left l.i) × (l.right ≡ filled (right_by l.half (length l.o) l.o) l.initial.right l.i)
+    (length l.initial.left ≡ length l.o) × (length l.initial.right ≡ length l.o) × (l.left ≡ filled (left_at l.o) l.initial.left l.i) × (l.right ≡ filled (right_by l.half (length l.o) l.o) l.initial.right l.i)
     × (l.all ≡ every l.i (λ k. finite (left_at l.o k) && finite (right_by l.half (length l.o) l.o k)))
-
-abbrev pub decreases-loop-i : goal.decreases-loop-i
-decreases-loop-i l = length l.o - l.i

@@ -1,8 +1,5 @@
 -- The two sums of `TwoRows`. Assumes nothing.
 use Rattle.plan.proofs.count.norm_at_first.Goals as goal
 
-pub overflow_sub-bound : goal.overflow_sub-bound
-overflow_sub-bound c = c.requires
-
 pub returns : goal.returns
 returns c = rw (c.larger_of.ensures, c.row_sum-next.ensures, c.row_sum-end.ensures)

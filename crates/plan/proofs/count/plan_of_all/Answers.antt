@@ -4,30 +4,9 @@ use Rattle.elementary.specs.Float.{finite}
 use Rattle.operator.specs.Vectors.{tab, at, every}
 use Rattle.operator.specs.Operator.{rows, diagonal_at}
 use Rattle.operator.proofs.Slices.{diagonal_over_lem, diagonal_fine}
-use Rattle.plan.proofs.Room.{blank_length, stored_part, stored_length, stored_room}
+use Rattle.plan.proofs.Room.{blank_length, stored_part}
 use Rattle.plan.proofs.Ahead.{all_rows, no_rows}
 use Rattle.plan.proofs.count.plan_of_all.Goals as goal
-
-pub slice_bounds-fill_shifted_diagonal-end : goal.slice_bounds-fill_shifted_diagonal-end
-slice_bounds-fill_shifted_diagonal-end c = sym (blank_length _ _ c.zeros-diag.ensures (omega (arith, c.requires.1)))
-
-pub slice_bounds-diag-end-then-fill_shifted_diagonal : goal.slice_bounds-diag-end-then-fill_shifted_diagonal
-slice_bounds-diag-end-then-fill_shifted_diagonal c =
-    let length-of : let n = rows c.args.input.bound in length (take n c.zeros-diag.result) ≡ n = blank_length _ _ c.zeros-diag.ensures (omega (arith, c.requires.1)) in
-    let diagonal : let a = c.args.input in c.fill_shifted_diagonal.new.diag ≡ tab (rows a.bound) (diagonal_at a.bound a.alpha a.beta a.eta) = diagonal_over_lem _ _ _ _ _ _ _ length-of (le_refl _) c.fill_shifted_diagonal.ensures.diag_after in
-    stored_room _ _ _ _ diagonal
-
-pub slice_bounds-plan_of_rows-end : goal.slice_bounds-plan_of_rows-end
-slice_bounds-plan_of_rows-end c =
-    let length-of : let n = rows c.args.input.bound in length (take n c.zeros-diag.result) ≡ n = blank_length _ _ c.zeros-diag.ensures (omega (arith, c.requires.1)) in
-    let diagonal : let a = c.args.input in c.fill_shifted_diagonal.new.diag ≡ tab (rows a.bound) (diagonal_at a.bound a.alpha a.beta a.eta) = diagonal_over_lem _ _ _ _ _ _ _ length-of (le_refl _) c.fill_shifted_diagonal.ensures.diag_after in
-    sym (stored_length _ _ _ _ diagonal)
-
-pub plan_of_rows-requires : goal.plan_of_rows-requires
-plan_of_rows-requires c =
-    let length-of : let n = rows c.args.input.bound in length (take n c.zeros-diag.result) ≡ n = blank_length _ _ c.zeros-diag.ensures (omega (arith, c.requires.1)) in
-    let diagonal : let a = c.args.input in c.fill_shifted_diagonal.new.diag ≡ tab (rows a.bound) (diagonal_at a.bound a.alpha a.beta a.eta) = diagonal_over_lem _ _ _ _ _ _ _ length-of (le_refl _) c.fill_shifted_diagonal.ensures.diag_after in
-    (omega (arith, c.requires.1), stored_length _ _ _ _ diagonal)
 
 pub returns-then-fill_shifted_diagonal : goal.returns-then-fill_shifted_diagonal
 returns-then-fill_shifted_diagonal c =

@@ -5,7 +5,7 @@ use lib.Ieee.{Float}
 use Rattle.elementary.specs.Float.{0ᶠ}
 use Rattle.operator.specs.Vectors.{tab, fill}
 use Rattle.operator.specs.Operator.{left_at, right_at}
-use Rattle.plan.proofs.Room.{blank_part, blank_room, blank_length, stored_part, stored_length, stored_room}
+use Rattle.plan.proofs.Room.{blank_part, blank_length, stored_part, stored_length}
 use Rattle.operator.specs.Slices.{both_fine}
 use Rattle.operator.proofs.Slices.{left_over_lem, right_over_lem, factors_over}
 use Rattle.series.proofs.Full.{right_whole}
@@ -13,60 +13,6 @@ use Rattle.plan.proofs.Plans.{planned_over}
 use Rattle.plan.proofs.Rows.{factors_fine}
 use Rattle.plan.proofs.Ahead.{ahead_of_lem}
 use Rattle.plan.proofs.count.plan_of_rows.Goals as goal
-
-pub slice_bounds-o-end : goal.slice_bounds-o-end
-slice_bounds-o-end c = blank_room _ _ c.zeros-o.ensures c.requires.0
-
-pub slice_bounds-set_factors-end : goal.slice_bounds-set_factors-end
-slice_bounds-set_factors-end c = sym (blank_length _ _ c.zeros-o.ensures c.requires.0)
-
-pub slice_bounds-left-end : goal.slice_bounds-left-end
-slice_bounds-left-end c = blank_room _ _ c.zeros-left.ensures c.requires.0
-
-pub slice_bounds-set_factors-end-2 : goal.slice_bounds-set_factors-end-2
-slice_bounds-set_factors-end-2 c = sym (blank_length _ _ c.zeros-left.ensures c.requires.0)
-
-pub slice_bounds-right-end : goal.slice_bounds-right-end
-slice_bounds-right-end c = blank_room _ _ c.zeros-right.ensures c.requires.0
-
-pub slice_bounds-set_factors-end-3 : goal.slice_bounds-set_factors-end-3
-slice_bounds-set_factors-end-3 c = sym (blank_length _ _ c.zeros-right.ensures c.requires.0)
-
-pub slice_bounds-left-end-then-set_factors : goal.slice_bounds-left-end-then-set_factors
-slice_bounds-left-end-then-set_factors c =
-    let offsets : List Float = take c.args.n c.zeros-o.result in
-    let offsets-n : length offsets ≡ c.args.n = blank_length _ _ c.zeros-o.ensures c.requires.0 in
-    let lengths : let n = c.args.n in (length (take n c.zeros-left.result) ≡ length offsets) × (length (take n c.zeros-right.result) ≡ length offsets) = let h = c.requires.0 in
-    (blank_length _ _ c.zeros-left.ensures h ∙ sym offsets-n, blank_length _ _ c.zeros-right.ensures h ∙ sym offsets-n) in
-    let left_is : let n = c.args.n in c.set_factors.new.left ≡ tab n (left_at (fill n 0ᶠ)) = rw (blank_part _ _ c.zeros-o.ensures c.requires.0, length-replicate c.args.n 0ᶠ) at (left_over_lem _ _ _ lengths.0 lengths.1 _ c.set_factors.ensures.left_after) in
-    stored_room _ _ _ _ left_is
-
-pub slice_bounds-plan_over-end : goal.slice_bounds-plan_over-end
-slice_bounds-plan_over-end c =
-    let offsets : List Float = take c.args.n c.zeros-o.result in
-    let offsets-n : length offsets ≡ c.args.n = blank_length _ _ c.zeros-o.ensures c.requires.0 in
-    let lengths : let n = c.args.n in (length (take n c.zeros-left.result) ≡ length offsets) × (length (take n c.zeros-right.result) ≡ length offsets) = let h = c.requires.0 in
-    (blank_length _ _ c.zeros-left.ensures h ∙ sym offsets-n, blank_length _ _ c.zeros-right.ensures h ∙ sym offsets-n) in
-    let left_is : let n = c.args.n in c.set_factors.new.left ≡ tab n (left_at (fill n 0ᶠ)) = rw (blank_part _ _ c.zeros-o.ensures c.requires.0, length-replicate c.args.n 0ᶠ) at (left_over_lem _ _ _ lengths.0 lengths.1 _ c.set_factors.ensures.left_after) in
-    sym (stored_length _ _ _ _ left_is)
-
-pub slice_bounds-right-end-then-set_factors : goal.slice_bounds-right-end-then-set_factors
-slice_bounds-right-end-then-set_factors c =
-    let offsets : List Float = take c.args.n c.zeros-o.result in
-    let offsets-n : length offsets ≡ c.args.n = blank_length _ _ c.zeros-o.ensures c.requires.0 in
-    let lengths : let n = c.args.n in (length (take n c.zeros-left.result) ≡ length offsets) × (length (take n c.zeros-right.result) ≡ length offsets) = let h = c.requires.0 in
-    (blank_length _ _ c.zeros-left.ensures h ∙ sym offsets-n, blank_length _ _ c.zeros-right.ensures h ∙ sym offsets-n) in
-    let right_is : let n = c.args.n in c.set_factors.new.right ≡ tab n (right_at n (fill n 0ᶠ)) = (rw (blank_part _ _ c.zeros-o.ensures c.requires.0, length-replicate c.args.n 0ᶠ) at (right_over_lem _ _ _ lengths.0 lengths.1 _ _ c.set_factors.ensures.right_after)) ∙ right_whole _ _ in
-    stored_room _ _ _ _ right_is
-
-pub slice_bounds-plan_over-end-then-set_factors : goal.slice_bounds-plan_over-end-then-set_factors
-slice_bounds-plan_over-end-then-set_factors c =
-    let offsets : List Float = take c.args.n c.zeros-o.result in
-    let offsets-n : length offsets ≡ c.args.n = blank_length _ _ c.zeros-o.ensures c.requires.0 in
-    let lengths : let n = c.args.n in (length (take n c.zeros-left.result) ≡ length offsets) × (length (take n c.zeros-right.result) ≡ length offsets) = let h = c.requires.0 in
-    (blank_length _ _ c.zeros-left.ensures h ∙ sym offsets-n, blank_length _ _ c.zeros-right.ensures h ∙ sym offsets-n) in
-    let right_is : let n = c.args.n in c.set_factors.new.right ≡ tab n (right_at n (fill n 0ᶠ)) = (rw (blank_part _ _ c.zeros-o.ensures c.requires.0, length-replicate c.args.n 0ᶠ) at (right_over_lem _ _ _ lengths.0 lengths.1 _ _ c.set_factors.ensures.right_after)) ∙ right_whole _ _ in
-    sym (stored_length _ _ _ _ right_is)
 
 pub returns-then-set_factors : goal.returns-then-set_factors
 returns-then-set_factors c =

@@ -1,11 +1,7 @@
 -- Without a drift two rows have the largest sum, and where it passes the diagonal is finite. Assumes nothing.
 use Rattle.std.proofs.Common.{sym, ◌∙◌}
-use Rattle.plan.proofs.Bounds.{bound_range}
 use Rattle.plan.proofs.Drift.{two_ahead, two_fail}
 use Rattle.plan.proofs.count.plan_of_two.Goals as goal
-
-pub norm_at_first-requires : goal.norm_at_first-requires
-norm_at_first-requires c = (bound_range _ c.requires.0).0
 
 pub returns-then-is_positive_finite : goal.returns-then-is_positive_finite
 returns-then-is_positive_finite c =

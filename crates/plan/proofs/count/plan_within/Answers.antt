@@ -1,17 +1,10 @@
 -- No time, no drift, or all rows. Assumes nothing.
 use Rattle.plan.specs.Count.{plan_ahead, plan_when}
-use Rattle.plan.proofs.Bounds.{bound_range}
 use Rattle.plan.proofs.count.plan_within.Goals as goal
-
-pub plan_of_two-requires : goal.plan_of_two-requires
-plan_of_two-requires c = let p = c.requires in (p.0, p.1, c.if-input-2.true, p.2)
 
 pub returns-then-input-2 : goal.returns-then-input-2
 unfolding plan_ahead plan_when
 returns-then-input-2 c = rw (c.if-input.true, c.plan_of_two.ensures)
-
-pub plan_of_all-requires : goal.plan_of_all-requires
-plan_of_all-requires c = bound_range _ c.requires.0
 
 pub returns-then-input : goal.returns-then-input
 unfolding plan_ahead plan_when

@@ -5,4 +5,4 @@ use Rattle.plan.proofs.count.row_sum.Goals as goal
 
 pub returns : goal.returns
 unfolding row_sum
-returns c = refl
+returns c = rw c.from-q.ensures refl

@@ -3,26 +3,20 @@ use lib.Ieee.{Float}
 use Rattle.elementary.specs.Float.{◌⊕◌, ◌⊗◌, 0ᶠ}
 use Rattle.operator.specs.Vectors.{tab, at, fold, larger, abs}
 use Rattle.plan.specs.Plan.{magnitudes, norm}
-use Rattle.operator.proofs.Loops.{fold_zero, fold_suc, fold_at, larger_taken, larger_left}
+use Rattle.operator.proofs.Loops.{fold_zero, fold_suc, fold_at}
 use Rattle.operator.proofs.Lists.{at_tab, tab_ext}
 use Rattle.plan.proofs.plan.norm_of.Invariants.{row_sum}
 use Rattle.plan.proofs.plan.norm_of.Goals as goal
-use Rattle.plan.proofs.plan.norm_of.Goals.{then-norm-sum, else-norm-sum}
 
 pub loop-i-init : goal.loop-i-init
-loop-i-init c = (omega arith, fold_zero _ _ _)
+loop-i-init c = fold_zero _ _ _
 
 pub loop-i-preserved : goal.loop-i-preserved
 loop-i-preserved c =
     let i = c.loop-i.i in
     let x = c.args in
     let f = row_sum x.diag_s.now x.eta x.left.now x.right.now in
-    let max : c.if-norm-sum.norm ≡ larger c.loop-i.norm (c.magnitude.result ⊕ x.eta ⊗ (at x.left.now i ⊕ at x.right.now i)) =
-    elim c.if-norm-sum.branch [
-      | then-norm-sum t ↦ t.norm-is ∙ larger_taken _ _ t.if-norm-sum.true
-      | else-norm-sum t ↦ t.norm-is ∙ larger_left _ _ t.if-norm-sum.false
-    ] in
-    (omega arith, max ∙ rw (c.loop-i.invariant.1, c.magnitude.ensures) (sym (fold_suc larger 0ᶠ i f)))
+    c.larger_of-norm.ensures ∙ rw (c.loop-i.invariant, c.magnitude.ensures) (sym (fold_suc larger 0ᶠ i f))
 
 -- the magnitudes as the definition stores them
 stored-sizes : (n : ℕ) (d : List Float) (eta : Float) (left right : List Float)
@@ -34,4 +28,4 @@ pub returns : goal.returns
 unfolding norm
 returns c =
     let x = c.args in
-    c.loop-i.invariant.1 ∙ fold_at larger 0ᶠ _ (length x.diag_s.now) _ (omega arith) ∙ stored-sizes (length x.diag_s.now) x.diag_s.now x.eta x.left.now x.right.now
+    c.loop-i.invariant ∙ fold_at larger 0ᶠ _ (length x.diag_s.now) _ (omega arith) ∙ stored-sizes (length x.diag_s.now) x.diag_s.now x.eta x.left.now x.right.now

@@ -12,9 +12,6 @@ pub returns-then-right-diag_s : goal.returns-then-right-diag_s
 unfolding plan_with
 returns-then-right-diag_s c = rw (eq-eqb _ _ c.if-left-diag_s.false, ne_eqb _ _ c.if-right-diag_s.true) refl
 
-pub norm_of-requires : goal.norm_of-requires
-norm_of-requires c = (c.if-left-diag_s.false, c.if-right-diag_s.false)
-
 pub returns-then-is_positive_finite : goal.returns-then-is_positive_finite
 unfolding plan_of plan_for
 returns-then-is_positive_finite c =

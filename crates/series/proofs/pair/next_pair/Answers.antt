@@ -6,4 +6,4 @@ use Rattle.series.proofs.pair.next_pair.Goals as goal
 
 pub returns : goal.returns
 unfolding slice_term
-returns c = c.with_term.ensures ∙ ap (with_term 2 _) (times_both _ _ _ _ c.applied-x.ensures)
+returns c = (rw c.from-inv.ensures at c.with_term.ensures) ∙ ap (with_term 2 _) (times_both _ _ _ _ c.applied-x.ensures)

@@ -1,5 +1,5 @@
 use mathlib.Core.Path.{◌≡◌}
-use Prim.Native.Nat.{ℕ, ◌-◌, ◌<◌}
+use Prim.Native.Nat.{ℕ}
 use mathlib.Core.Bool.{Bool, false}
 use mathlib.Core.List.{List}
 use lib.ListN.{length}
@@ -15,8 +15,5 @@ abbrev pub row : Bool → List Float → List Float → Float → List Float →
 row half v diag eta left right = slice_row half false (operator_over (length v) diag left right) eta v
 
 abbrev pub invariant-loop-i : goal.invariant-loop-i
-invariant-loop-i l = (l.i < length l.initial.v) × (length l.out ≡ length l.initial.v) × (length l.v ≡ length l.initial.v) × (l.lower ≡ before l.initial.v l.i)
-    × (l.out ≡ filled (row l.half l.initial.v l.diag l.eta_dt l.left l.right) l.initial.out l.i) × (l.v ≡ filled (λ k. at l.initial.v k ⊕ row l.half l.initial.v l.diag l.eta_dt l.left l.right k) l.initial.v l.i)
-
-abbrev pub decreases-loop-i : goal.decreases-loop-i
-decreases-loop-i l = length l.initial.v - l.i
+invariant-loop-i l = (l.lower ≡ before l.initial.v l.i)
+    × (l.out ≡ filled (row l.rows.half l.initial.v l.rows.diag.now l.rows.eta_dt l.rows.left.now l.rows.right.now) l.initial.out l.i) × (l.v ≡ filled (λ k. at l.initial.v k ⊕ row l.rows.half l.initial.v l.rows.diag.now l.rows.eta_dt l.rows.left.now l.rows.right.now k) l.initial.v l.i)

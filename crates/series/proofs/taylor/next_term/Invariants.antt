@@ -1,5 +1,5 @@
 use mathlib.Core.Path.{◌≡◌}
-use Prim.Native.Nat.{ℕ, ◌-◌, ◌≤◌, ◌<◌}
+use Prim.Native.Nat.{ℕ}
 use mathlib.Core.Bool.{Bool}
 use mathlib.Core.List.{List}
 use lib.ListN.{length}
@@ -20,8 +20,5 @@ entry half plain x diag eta left right inv k = row half plain x diag eta left ri
 
 abbrev pub invariant-loop-i : goal.invariant-loop-i
 invariant-loop-i l =
-    (1 ≤ l.i) × (l.i < length l.initial.x) × (length l.x ≡ length l.initial.x) × (length l.v ≡ length l.initial.x) × (l.lower ≡ before l.initial.x l.i)
-    × (l.x ≡ filled (later (entry l.half l.plain l.initial.x l.diag l.eta_dt l.left l.right l.inv) l.initial.x) l.initial.x l.i) × (l.v ≡ filled (later (λ k. at l.initial.v k ⊕ entry l.half l.plain l.initial.x l.diag l.eta_dt l.left l.right l.inv k) l.initial.v) l.initial.v l.i)
-
-abbrev pub decreases-loop-i : goal.decreases-loop-i
-decreases-loop-i l = length l.initial.x - l.i
+    (l.lower ≡ before l.initial.x l.i)
+    × (l.x ≡ filled (later (entry l.rows.half l.rows.plain l.initial.x l.rows.diag.now l.rows.eta_dt l.rows.left.now l.rows.right.now l.inv) l.initial.x) l.initial.x l.i) × (l.v ≡ filled (later (λ k. at l.initial.v k ⊕ entry l.rows.half l.rows.plain l.initial.x l.rows.diag.now l.rows.eta_dt l.rows.left.now l.rows.right.now l.inv k) l.initial.v) l.initial.v l.i)

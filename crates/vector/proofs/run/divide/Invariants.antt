@@ -1,9 +1,8 @@
 -- The loop's invariant: the first i weights are divided, and `calm` says that none of them calls for rebalancing. Assumes nothing.
 use mathlib.Core.Path.{◌≡◌}
-use Prim.Native.Nat.{ℕ, ◌-◌, ◌≤◌}
+use Prim.Native.Nat.{ℕ}
 use mathlib.Core.Bool.{not}
 use mathlib.Core.List.{List}
-use lib.ListN.{length}
 use lib.Ieee.{Float}
 use Rattle.elementary.specs.Float.{◌⊘◌}
 use Rattle.operator.specs.Vectors.{at, every}
@@ -16,7 +15,4 @@ quotient w max i = at w i ⊘ max
 
 abbrev pub invariant-loop-i : goal.invariant-loop-i
 invariant-loop-i l =
-    (l.i ≤ length l.initial.w) × (length l.w ≡ length l.initial.w) × (l.w ≡ filled (quotient l.initial.w l.max) l.initial.w l.i) × (l.calm ≡ every l.i (λ k. not (rebalances (quotient l.initial.w l.max k) l.steps)))
-
-abbrev pub decreases-loop-i : goal.decreases-loop-i
-decreases-loop-i l = length l.initial.w - l.i
+    (l.w ≡ filled (quotient l.initial.w l.max) l.initial.w l.i) × (l.calm ≡ every l.i (λ k. not (rebalances (quotient l.initial.w l.max k) l.steps)))

@@ -1,11 +1,11 @@
 -- The entries so far are those of `filled_out`; what is read stands before row n, and has not changed. Assumes nothing.
-use mathlib.Core.Path.{◌≡◌, refl, sym, ap, ◌∙◌}
+use mathlib.Core.Path.{◌≡◌, sym, ap, ◌∙◌}
 use Prim.Native.Nat.{ℕ, ◌-◌, ◌≤◌, ◌<◌}
 use native.Mathlib.Omega.{arith}
 use mathlib.Core.Bool.{Bool, cond}
 use mathlib.Core.List.{List}
 use borrow.Author.Tests.{lt-ltb, le-ltb}
-use lib.ListN.{length, length-set}
+use lib.ListN.{length}
 use lib.Ieee.{Float}
 use Rattle.operator.specs.Vectors.{at}
 use Rattle.series.specs.Half.{filled_out}
@@ -20,7 +20,7 @@ taken : (x : List Float) (n i : ℕ) → n ≤ i → at x (length x - 1 - i) ≡
 taken x n i h = sym (ap (λ (t : Bool). cond t (at x i) (at x (length x - 1 - i))) (le-ltb i n h))
 
 pub loop-i-init : goal.loop-i-init
-loop-i-init c = let x = c.args.x.now in (omega arith, omega arith, refl, filled_kept (entry x c.args.n) x c.args.n (omega arith) (kept x c.args.n))
+loop-i-init c = let x = c.args.x.now in filled_kept (entry x c.args.n) x c.args.n (omega arith) (kept x c.args.n)
 
 pub loop-i-preserved : goal.loop-i-preserved
 loop-i-preserved c =
@@ -29,9 +29,9 @@ loop-i-preserved c =
     let i = c.loop-i.i in
     let v = c.loop-i.invariant in
     let far = length x - 1 - i in
-    let same : at c.loop-i.x far ≡ at x far = ap (λ (m : List Float). at m far) v.3 ∙ at_filled_before (entry x a.n) x i far (omega arith) ∙ sym (kept x a.n far (omega arith)) in
-    (omega arith, omega arith, simp length-set v.2, stored (entry x a.n) x _ i _ (omega arith) v.3 (same ∙ taken x a.n i v.0))
+    let same : at c.loop-i.x far ≡ at x far = ap (λ (m : List Float). at m far) v ∙ at_filled_before (entry x a.n) x i far (omega arith) ∙ sym (kept x a.n far (omega arith)) in
+    stored (entry x a.n) x _ i _ (omega arith) v (same ∙ taken x a.n i (omega arith))
 
 pub returns : goal.returns
 unfolding filled_out
-returns c = let a = c.args in filled_all (entry a.x.now a.n) a.x.now _ c.loop-i.i _ (omega arith) (omega arith) c.loop-i.invariant.3
+returns c = let a = c.args in filled_all (entry a.x.now a.n) a.x.now _ c.loop-i.i _ (omega arith) (omega arith) c.loop-i.invariant

@@ -1,5 +1,5 @@
 use mathlib.Core.Path.{◌≡◌}
-use Prim.Native.Nat.{ℕ, ◌-◌, ◌≤◌}
+use Prim.Native.Nat.{ℕ, ◌-◌}
 use mathlib.Core.Bool.{cond}
 use mathlib.Core.List.{List}
 use lib.Dec.{ltb}
@@ -14,7 +14,4 @@ abbrev pub entry : List Float → ℕ → ℕ → Float
 entry x n i = cond (ltb i n) (at x i) (at x (length x - 1 - i))
 
 abbrev pub invariant-loop-i : goal.invariant-loop-i
-invariant-loop-i l = (l.n ≤ l.i) × (l.i ≤ length l.initial.x) × (length l.x ≡ length l.initial.x) × (l.x ≡ filled (entry l.initial.x l.n) l.initial.x l.i)
-
-abbrev pub decreases-loop-i : goal.decreases-loop-i
-decreases-loop-i l = length l.initial.x - l.i
+invariant-loop-i l = l.x ≡ filled (entry l.initial.x l.n) l.initial.x l.i

@@ -1,5 +1,5 @@
 use mathlib.Core.Path.{◌≡◌, refl, sym, ap, ap₂, ◌∙◌}
-use Prim.Native.Nat.{ℕ, ◌+◌}
+use Prim.Native.Nat.{ℕ, ◌+◌, ◌*◌, ◌-◌}
 use native.Mathlib.Omega.{arith}
 use mathlib.Core.Bool.{Bool, true, false, ◌&&◌}
 use mathlib.Core.List.{List}
@@ -27,49 +27,49 @@ all_positive : (w : List Float) → Fit w → (m : Float) (t p : Bool) → m ≡
 all_positive w f m t p em et ep =
     ep ∙ ap₂ (λ (a : Bool) (x : Float). a && finite x) et (em ∙ ap (fold larger 0ᶠ) (tab_own (length w) w refl)) ∙ positive_all (at w) f (length w)
 
-pub loop-i-init : goal.loop-i-init
+pub loop-k-init : goal.loop-k-init
 unfolding fold
-loop-i-init c = (omega arith, zero_gathered, zero_gathered, zero_zero, every_zero _)
+loop-k-init c = (zero_gathered, zero_gathered, zero_zero, every_zero _)
 
-pub loop-i-preserved : goal.loop-i-preserved
-loop-i-preserved c =
+pub loop-k-preserved : goal.loop-k-preserved
+loop-k-preserved c =
     let w = c.args.w.now in
-    let k = c.loop-i.i in
-    let i = c.loop-i.invariant in
-    let x = c.loop-i.even in
-    let y = c.loop-i.odd in
+    let k = 2 * c.loop-k.k in
+    let i = c.loop-k.invariant in
+    let x = c.loop-k.even in
+    let y = c.loop-k.odd in
     let ex = c.larger_of-even.ensures in
     let ey = c.larger_of-odd.ensures in
-    let two : k + 1 + 1 ≡ k + 2 = omega arith in
-    let all : larger (larger (larger x y) (at w k)) (at w (k + 1)) ≡ fold larger 0ᶠ (take (k + 2) w) =
-    rw i.3 (sym (fold_take larger 0ᶠ w (k + 1) (omega arith) ∙ ap (λ (z : Float). larger z (at w (k + 1))) (fold_take larger 0ᶠ w k (omega arith))) ∙ ap (λ (m : ℕ). fold larger 0ᶠ (take m w)) two) in
-    let flags : ((c.loop-i.first && lt 0ᶠ (at w k)) && (c.loop-i.second && lt 0ᶠ (at w (k + 1)))) ≡ every (k + 2) (λ j. lt 0ᶠ (at w j)) =
-    two-more c.loop-i.first c.loop-i.second (lt 0ᶠ (at w k)) (lt 0ᶠ (at w (k + 1)))
-    ∙ ap (λ (b : Bool). (b && lt 0ᶠ (at w k)) && lt 0ᶠ (at w (k + 1))) i.4
+    let two : k + 1 + 1 ≡ 2 * (c.loop-k.k + 1) = omega arith in
+    let all : larger (larger (larger x y) (at w k)) (at w (k + 1)) ≡ fold larger 0ᶠ (take (2 * (c.loop-k.k + 1)) w) =
+    rw i.2 (sym (fold_take larger 0ᶠ w (k + 1) (omega arith) ∙ ap (λ (z : Float). larger z (at w (k + 1))) (fold_take larger 0ᶠ w k (omega arith))) ∙ ap (λ (m : ℕ). fold larger 0ᶠ (take m w)) two) in
+    let flags : ((c.loop-k.first && lt 0ᶠ (at w k)) && (c.loop-k.second && lt 0ᶠ (at w (k + 1)))) ≡ every (2 * (c.loop-k.k + 1)) (λ j. lt 0ᶠ (at w j)) =
+    two-more c.loop-k.first c.loop-k.second (lt 0ᶠ (at w k)) (lt 0ᶠ (at w (k + 1)))
+    ∙ ap (λ (b : Bool). (b && lt 0ᶠ (at w k)) && lt 0ᶠ (at w (k + 1))) i.3
     ∙ ap (λ (b : Bool). b && lt 0ᶠ (at w (k + 1))) (every_suc k (λ j. lt 0ᶠ (at w j)))
-    ∙ every_suc (k + 1) (λ j. lt 0ᶠ (at w j)) ∙ every_at (k + 1 + 1) (k + 2) (λ j. lt 0ᶠ (at w j)) two in (
-      omega arith,
-      rw ex (larger_keeps binary64 x (at w k) i.1 (c.requires k)),
-      rw ey (larger_keeps binary64 y (at w (k + 1)) i.2 (c.requires (k + 1))),
-      rw (ex, ey) (larger_apart binary64 x y (at w k) (at w (k + 1)) i.1 i.2 (c.requires k) (c.requires (k + 1)) ∙ all),
+    ∙ every_suc (k + 1) (λ j. lt 0ᶠ (at w j)) ∙ every_at (k + 1 + 1) (2 * (c.loop-k.k + 1)) (λ j. lt 0ᶠ (at w j)) two in (
+      rw ex (larger_keeps binary64 x (at w k) i.0 (c.requires k)),
+      rw ey (larger_keeps binary64 y (at w (k + 1)) i.1 (c.requires (k + 1))),
+      rw (ex, ey) (larger_apart binary64 x y (at w k) (at w (k + 1)) i.0 i.1 (c.requires k) (c.requires (k + 1)) ∙ all),
       flags,
     )
 
-pub returns-then-i-w : goal.returns-then-i-w
-returns-then-i-w c =
+pub returns-then-w-eq1 : goal.returns-then-w-eq1
+returns-then-w-eq1 c =
     let w = c.args.w.now in
-    let k = c.loop-i.i in
-    let both : c.larger_of-both.result ≡ fold larger 0ᶠ (take k w) = c.larger_of-both.ensures ∙ c.loop-i.invariant.3 in
+    let k = 2 * c.loop-k.k in
+    let last : length w - 1 ≡ k = omega arith in
+    let both : c.larger_of-both.result ≡ fold larger 0ᶠ (take k w) = c.larger_of-both.ensures ∙ c.loop-k.invariant.2 in
     let max : c.larger_of.result ≡ fold larger 0ᶠ w =
-    c.larger_of.ensures ∙ rw both (sym (fold_take larger 0ᶠ w k (omega arith)) ∙ ap (fold larger 0ᶠ) (take_all (k + 1) w (omega arith))) in
-    let flags : ((c.loop-i.first && c.loop-i.second) && lt 0ᶠ (at w k)) ≡ every (length w) (λ j. lt 0ᶠ (at w j)) =
-    ap (λ (b : Bool). b && lt 0ᶠ (at w k)) c.loop-i.invariant.4 ∙ every_suc k (λ j. lt 0ᶠ (at w j)) ∙ every_at (k + 1) (length w) (λ j. lt 0ᶠ (at w j)) (omega arith) in
+    c.larger_of.ensures ∙ rw (both, last) (sym (fold_take larger 0ᶠ w k (omega arith)) ∙ ap (fold larger 0ᶠ) (take_all (k + 1) w (omega arith))) in
+    let flags : ((c.loop-k.first && c.loop-k.second) && lt 0ᶠ (at w (length w - 1))) ≡ every (length w) (λ j. lt 0ᶠ (at w j)) =
+    rw last (ap (λ (b : Bool). b && lt 0ᶠ (at w k)) c.loop-k.invariant.3 ∙ every_suc k (λ j. lt 0ᶠ (at w j)) ∙ every_at (k + 1) (length w) (λ j. lt 0ᶠ (at w j)) (omega arith)) in
     record { weight_value = c.top_of.ensures.0 ∙ max; positive_value = all_positive w c.requires _ _ _ max flags c.top_of.ensures.1 }
 
 pub returns : goal.returns
 returns c =
     let w = c.args.w.now in
-    let k = c.loop-i.i in
-    let max : c.larger_of-both.result ≡ fold larger 0ᶠ w = c.larger_of-both.ensures ∙ c.loop-i.invariant.3 ∙ ap (fold larger 0ᶠ) (take_all k w (omega arith)) in
-    let flags : (c.loop-i.first && c.loop-i.second) ≡ every (length w) (λ j. lt 0ᶠ (at w j)) = c.loop-i.invariant.4 ∙ every_at k (length w) (λ j. lt 0ᶠ (at w j)) (omega arith) in
+    let k = 2 * c.loop-k.k in
+    let max : c.larger_of-both.result ≡ fold larger 0ᶠ w = c.larger_of-both.ensures ∙ c.loop-k.invariant.2 ∙ ap (fold larger 0ᶠ) (take_all k w (omega arith)) in
+    let flags : (c.loop-k.first && c.loop-k.second) ≡ every (length w) (λ j. lt 0ᶠ (at w j)) = c.loop-k.invariant.3 ∙ every_at k (length w) (λ j. lt 0ᶠ (at w j)) (omega arith) in
     record { weight_value = c.top_of-2.ensures.0 ∙ max; positive_value = all_positive w c.requires _ _ _ max flags c.top_of-2.ensures.1 }

@@ -16,22 +16,6 @@ use Rattle.vector.proofs.run.plan_steps.Goals as goal
 pub loop-pace-init : goal.loop-pace-init
 loop-pace-init c = (refl, refl, refl, c.requires.start.2, le_refl _, λ d r s. s)
 
-pub after_step-pace-requires : goal.after_step-pace-requires
-after_step-pace-requires c =
-    let stood : let a = c.args in let n = length a.w.now in SumIs (full_size a.half n) c.taylor_step-settled.result (full a.half n c.taylor_step-settled.new.v) (taylor_step (full_operator a.half n a.diag.now a.left.now a.right.now) (a.eta ⊗ c.loop-pace.pace.dt) (full a.half n c.loop-pace.w)) × Fit c.taylor_step-settled.new.v = let i = c.loop-pace.invariant in
-    let a = c.args in
-    let p = c.requires.start in
-    let z = c.requires.sizes in
-    let plain = c.all_ones-plain in
-    let sizes : Sizes (length a.w.now) a.diag.now a.left.now a.right.now c.loop-pace.term = record { diag_n = z.diag_n; left_n = z.left_n; right_n = z.right_n; term_n = i.2 ∙ z.term_n } in
-    let step = step_stands a.half plain.result c.loop-pace.w a.diag.now a.left.now a.right.now c.loop-pace.term (a.eta ⊗ c.loop-pace.pace.dt) (rw i.0 p.0) (rw i.0 sizes) (rw i.0 p.3)
-    (λ e. ones_between_lem _ _ _ (z.left_n ∙ sym i.0) (sym plain.ensures ∙ e)) in
-    rw i.0 at (subst (λ (r : SliceSum). StandsFor a.half c.loop-pace.w a.diag.now (a.eta ⊗ c.loop-pace.pace.dt) a.left.now a.right.now r × Fit r.sum) (sym c.taylor_step-settled.ensures) step) in
-    let i = c.loop-pace.invariant in
-    let t = c.taylor_step-settled in
-    let x = both_some c.loop-pace.pace.steps c.loop-pace.pace.budget c.loop-pace-test.true in
-    (stood.1, i.1 ∙ c.requires.start.1 ∙ sym (t.auto.v ∙ i.0), x.0, x.1, i.3)
-
 pub loop-pace-smaller : goal.loop-pace-smaller
 loop-pace-smaller c =
     let a = c.loop-pace.pace in
@@ -68,15 +52,6 @@ loop-pace-preserved c =
       le_trans less.1 (le_trans (weighs l.pace) i.4),
       λ d r s. stands_on _ _ _ _ _ _ _ _ _ _ _ _ _ x.0 x.1 stood.0 (after_step_full h m (omega (arith, p.requires.start.0)) l.pace _ _ _ _ _ n stood.1 t.result (rw n at a.ensures)) (i.5 d r s),
     )
-
-pub shape_of-w : goal.shape_of-w
-shape_of-w c = c.loop-pace.invariant.0
-
-pub shape_of-o : goal.shape_of-o
-shape_of-o c = c.loop-pace.invariant.1
-
-pub shape_of-term : goal.shape_of-term
-shape_of-term c = c.loop-pace.invariant.2
 
 pub returns : goal.returns
 returns c =

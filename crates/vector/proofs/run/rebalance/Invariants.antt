@@ -1,8 +1,7 @@
 -- The loop's invariant: the first i weights have gone into their offsets, and `all` says whether they were finite and positive. Assumes nothing.
 use mathlib.Core.Path.{◌≡◌}
-use Prim.Native.Nat.{ℕ, ◌-◌, ◌≤◌}
+use Prim.Native.Nat.{ℕ}
 use mathlib.Core.List.{List}
-use lib.ListN.{length}
 use lib.Ieee.{Float}
 use Rattle.elementary.specs.Float.{◌⊕◌, 1ᶠ, positive}
 use Rattle.elementary.specs.Elementary.{LN, or_nan}
@@ -16,8 +15,5 @@ moved w o i = at o i ⊕ or_nan (LN (at w i))
 
 abbrev pub invariant-loop-i : goal.invariant-loop-i
 invariant-loop-i l =
-    (l.i ≤ length l.initial.w) × (length l.w ≡ length l.initial.w) × (length l.o ≡ length l.initial.w) × (l.w ≡ filled (λ k. 1ᶠ) l.initial.w l.i) × (l.o ≡ filled (moved l.initial.w l.initial.o) l.initial.o l.i)
+    (l.w ≡ filled (λ k. 1ᶠ) l.initial.w l.i) × (l.o ≡ filled (moved l.initial.w l.initial.o) l.initial.o l.i)
     × (l.all ≡ every l.i (λ k. positive (at l.initial.w k)))
-
-abbrev pub decreases-loop-i : goal.decreases-loop-i
-decreases-loop-i l = length l.initial.w - l.i

@@ -1,9 +1,9 @@
 -- A plan and its steps lead from one plan to the next. Assumes nothing.
-use mathlib.Core.Path.{◌≡◌, sym, ap, ◌∙◌}
-use Prim.Native.Nat.{ℕ, ◌≤◌}
+use mathlib.Core.Path.{◌≡◌, refl, ap, ◌∙◌}
+use Prim.Native.Nat.{ℕ}
 use mathlib.Core.List.{◌++◌}
 use lib.ListN.{length, take, drop}
-use Rattle.plan.proofs.Room.{blank_room, blank_length, part_back, part_room}
+use Rattle.plan.proofs.Room.{blank_length, part_back}
 use Rattle.series.specs.Half.{full_factors, full, Centred}
 use Rattle.vector.specs.Half.{full_fixed}
 use Rattle.vector.specs.Inner.{told, BegunIs}
@@ -12,75 +12,9 @@ use Rattle.vector.proofs.FullRun.{centred_slices, begun_slices}
 use Rattle.vector.proofs.RunLaws.{planned}
 use Rattle.vector.proofs.run.run_plan.Goals as goal
 
-pub slice_bounds-diag-end : goal.slice_bounds-diag-end
-slice_bounds-diag-end c = blank_room _ _ c.zeros-diag.ensures c.requires.1
-
-pub slice_bounds-set_plan-end : goal.slice_bounds-set_plan-end
-slice_bounds-set_plan-end c = sym (blank_length _ _ c.zeros-diag.ensures c.requires.1)
-
-pub slice_bounds-left-end : goal.slice_bounds-left-end
-slice_bounds-left-end c = blank_room _ _ c.zeros-left.ensures c.requires.1
-
-pub slice_bounds-set_plan-end-2 : goal.slice_bounds-set_plan-end-2
-slice_bounds-set_plan-end-2 c = sym (blank_length _ _ c.zeros-left.ensures c.requires.1)
-
-pub slice_bounds-right-end : goal.slice_bounds-right-end
-slice_bounds-right-end c = blank_room _ _ c.zeros-right.ensures c.requires.1
-
-pub slice_bounds-set_plan-end-3 : goal.slice_bounds-set_plan-end-3
-slice_bounds-set_plan-end-3 c = sym (blank_length _ _ c.zeros-right.ensures c.requires.1)
-
-pub slice_bounds-diag-end-2 : goal.slice_bounds-diag-end-2
-slice_bounds-diag-end-2 c =
-    let places : ℕ = c.args.n in
-    let diag-back : length c.set_plan-planned.new.diag ≡ places = c.set_plan-planned.auto.diag ∙ blank_length _ _ c.zeros-diag.ensures c.requires.1 in
-    let diag-room : places ≤ length (c.set_plan-planned.new.diag ++ drop places c.zeros-diag.result) = part_room _ c.set_plan-planned.new.diag _ diag-back in
-    diag-room
-
-pub slice_bounds-plan_steps-end : goal.slice_bounds-plan_steps-end
-slice_bounds-plan_steps-end c =
-    let places : ℕ = c.args.n in
-    let diag-back : length c.set_plan-planned.new.diag ≡ places = c.set_plan-planned.auto.diag ∙ blank_length _ _ c.zeros-diag.ensures c.requires.1 in
-    let diag-is : take places (c.set_plan-planned.new.diag ++ drop places c.zeros-diag.result) ≡ c.set_plan-planned.new.diag = part_back _ c.set_plan-planned.new.diag _ diag-back in
-    sym (ap length diag-is ∙ diag-back)
-
-pub slice_bounds-left-end-2 : goal.slice_bounds-left-end-2
-slice_bounds-left-end-2 c =
-    let places : ℕ = c.args.n in
-    let left_back : length c.set_plan-planned.new.left ≡ places = c.set_plan-planned.auto.left ∙ blank_length _ _ c.zeros-left.ensures c.requires.1 in
-    let left-room : places ≤ length (c.set_plan-planned.new.left ++ drop places c.zeros-left.result) = part_room _ c.set_plan-planned.new.left _ left_back in
-    left-room
-
-pub slice_bounds-plan_steps-end-2 : goal.slice_bounds-plan_steps-end-2
-slice_bounds-plan_steps-end-2 c =
-    let places : ℕ = c.args.n in
-    let left_back : length c.set_plan-planned.new.left ≡ places = c.set_plan-planned.auto.left ∙ blank_length _ _ c.zeros-left.ensures c.requires.1 in
-    let left_is : take places (c.set_plan-planned.new.left ++ drop places c.zeros-left.result) ≡ c.set_plan-planned.new.left = part_back _ c.set_plan-planned.new.left _ left_back in
-    sym (ap length left_is ∙ left_back)
-
-pub slice_bounds-right-end-2 : goal.slice_bounds-right-end-2
-slice_bounds-right-end-2 c =
-    let places : ℕ = c.args.n in
-    let right-back : length c.set_plan-planned.new.right ≡ places = c.set_plan-planned.auto.right ∙ blank_length _ _ c.zeros-right.ensures c.requires.1 in
-    let right-room : places ≤ length (c.set_plan-planned.new.right ++ drop places c.zeros-right.result) = part_room _ c.set_plan-planned.new.right _ right-back in
-    right-room
-
-pub slice_bounds-plan_steps-end-3 : goal.slice_bounds-plan_steps-end-3
-slice_bounds-plan_steps-end-3 c =
-    let places : ℕ = c.args.n in
-    let right-back : length c.set_plan-planned.new.right ≡ places = c.set_plan-planned.auto.right ∙ blank_length _ _ c.zeros-right.ensures c.requires.1 in
-    let right_is : take places (c.set_plan-planned.new.right ++ drop places c.zeros-right.result) ≡ c.set_plan-planned.new.right = part_back _ c.set_plan-planned.new.right _ right-back in
-    sym (ap length right_is ∙ right-back)
-
-pub slice_bounds-term-end : goal.slice_bounds-term-end
-slice_bounds-term-end c = blank_room _ _ c.zeros-term.ensures c.requires.1
-
-pub slice_bounds-plan_steps-end-4 : goal.slice_bounds-plan_steps-end-4
-slice_bounds-plan_steps-end-4 c = sym (blank_length _ _ c.zeros-term.ensures c.requires.1)
-
 pub plan_steps-requires : goal.plan_steps-requires
 plan_steps-requires c =
-    let places : ℕ = c.args.n in
+    let places : ℕ = length c.args.fixed.diag_s.now in
     let diag-back : length c.set_plan-planned.new.diag ≡ places = c.set_plan-planned.auto.diag ∙ blank_length _ _ c.zeros-diag.ensures c.requires.1 in
     let diag-is : take places (c.set_plan-planned.new.diag ++ drop places c.zeros-diag.result) ≡ c.set_plan-planned.new.diag = part_back _ c.set_plan-planned.new.diag _ diag-back in
     let left_back : length c.set_plan-planned.new.left ≡ places = c.set_plan-planned.auto.left ∙ blank_length _ _ c.zeros-left.ensures c.requires.1 in
@@ -90,14 +24,14 @@ plan_steps-requires c =
     let lengths : (length (take places c.zeros-diag.result) ≡ places) × (length (take places c.zeros-left.result) ≡ places) × (length (take places c.zeros-right.result) ≡ places) = let h = c.requires.1 in
     (blank_length _ _ c.zeros-diag.ensures h, blank_length _ _ c.zeros-left.ensures h, blank_length _ _ c.zeros-right.ensures h) in
     let a = c.args in
-    let h = a.half in
+    let h = a.fixed.half in
     let begun : (q : Pace) → q ≡ told a.budget a.rest c.set_plan-planned.result
-    → BegunIs (full_fixed h places a.diag_s.now a.eta) a.budget a.rest (full h places a.o.now) (full_factors h places c.set_plan-planned.new.left c.set_plan-planned.new.right) (full_factors h places c.set_plan-planned.new.right c.set_plan-planned.new.left) (full h places c.set_plan-planned.new.diag) q =
-    λ q e. let f = c.set_plan-planned.ensures in begun_slices _ _ _ _ _ _ _ _ _ _ c.requires.0 c.requires.5 c.requires.3 c.requires.4 lengths.1 lengths.2 lengths.0 _ _ _ _ f.left_after f.right_after f.diag_after f.value q e in
-    let centred : Centred c.args.half places c.set_plan-planned.new.left c.set_plan-planned.new.right = let p = c.requires in
+    → BegunIs (full_fixed h places a.fixed.diag_s.now a.fixed.eta) a.budget a.rest (full h places a.o.now) (full_factors h places c.set_plan-planned.new.left c.set_plan-planned.new.right) (full_factors h places c.set_plan-planned.new.right c.set_plan-planned.new.left) (full h places c.set_plan-planned.new.diag) q =
+    λ q e. let f = c.set_plan-planned.ensures in begun_slices _ _ _ _ _ _ _ _ _ _ c.requires.0 c.requires.4 c.requires.3 refl lengths.1 lengths.2 lengths.0 _ _ _ _ f.left_after f.right_after f.diag_after f.value q e in
+    let centred : Centred c.args.fixed.half places c.set_plan-planned.new.left c.set_plan-planned.new.right = let p = c.requires in
     let l = lengths in
     let s = c.set_plan-planned.ensures in
-    centred_slices _ _ _ _ _ _ _ _ _ _ p.0 p.5 p.3 p.4 l.1 l.2 l.0 _ _ _ _ s.left_after s.right_after s.diag_after s.value in
+    centred_slices _ _ _ _ _ _ _ _ _ _ p.0 p.4 p.3 refl l.1 l.2 l.0 _ _ _ _ s.left_after s.right_after s.diag_after s.value in
     let p = c.requires in
     rw p.2 (record {
       start = (p.0, p.3, (begun _ c.pace_of-first.ensures).stands.within, rw (left_is, right_is) centred);
@@ -109,15 +43,9 @@ plan_steps-requires c =
       };
     })
 
-pub shape_of-w : goal.shape_of-w
-shape_of-w c = c.plan_steps.auto.w
-
-pub shape_of-o : goal.shape_of-o
-shape_of-o c = c.plan_steps.auto.o
-
 pub returns : goal.returns
 returns c =
-    let places : ℕ = c.args.n in
+    let places : ℕ = length c.args.fixed.diag_s.now in
     let diag-back : length c.set_plan-planned.new.diag ≡ places = c.set_plan-planned.auto.diag ∙ blank_length _ _ c.zeros-diag.ensures c.requires.1 in
     let diag-is : take places (c.set_plan-planned.new.diag ++ drop places c.zeros-diag.result) ≡ c.set_plan-planned.new.diag = part_back _ c.set_plan-planned.new.diag _ diag-back in
     let left_back : length c.set_plan-planned.new.left ≡ places = c.set_plan-planned.auto.left ∙ blank_length _ _ c.zeros-left.ensures c.requires.1 in
@@ -127,9 +55,9 @@ returns c =
     let lengths : (length (take places c.zeros-diag.result) ≡ places) × (length (take places c.zeros-left.result) ≡ places) × (length (take places c.zeros-right.result) ≡ places) = let h = c.requires.1 in
     (blank_length _ _ c.zeros-diag.ensures h, blank_length _ _ c.zeros-left.ensures h, blank_length _ _ c.zeros-right.ensures h) in
     let a = c.args in
-    let h = a.half in
+    let h = a.fixed.half in
     let begun : (q : Pace) → q ≡ told a.budget a.rest c.set_plan-planned.result
-    → BegunIs (full_fixed h places a.diag_s.now a.eta) a.budget a.rest (full h places a.o.now) (full_factors h places c.set_plan-planned.new.left c.set_plan-planned.new.right) (full_factors h places c.set_plan-planned.new.right c.set_plan-planned.new.left) (full h places c.set_plan-planned.new.diag) q =
-    λ q e. let f = c.set_plan-planned.ensures in begun_slices _ _ _ _ _ _ _ _ _ _ c.requires.0 c.requires.5 c.requires.3 c.requires.4 lengths.1 lengths.2 lengths.0 _ _ _ _ f.left_after f.right_after f.diag_after f.value q e in
+    → BegunIs (full_fixed h places a.fixed.diag_s.now a.fixed.eta) a.budget a.rest (full h places a.o.now) (full_factors h places c.set_plan-planned.new.left c.set_plan-planned.new.right) (full_factors h places c.set_plan-planned.new.right c.set_plan-planned.new.left) (full h places c.set_plan-planned.new.diag) q =
+    λ q e. let f = c.set_plan-planned.ensures in begun_slices _ _ _ _ _ _ _ _ _ _ c.requires.0 c.requires.4 c.requires.3 refl lengths.1 lengths.2 lengths.0 _ _ _ _ f.left_after f.right_after f.diag_after f.value q e in
     let p = c.requires in
-    planned _ _ _ _ _ _ _ _ _ _ _ _ _ _ p.6 (begun _ c.pace_of-first.ensures) (rw (p.2, diag-is, left_is, right_is) at c.plan_steps.ensures)
+    planned _ _ _ _ _ _ _ _ _ _ _ _ _ _ p.5 (begun _ c.pace_of-first.ensures) (rw (p.2, diag-is, left_is, right_is) at c.plan_steps.ensures)

@@ -1,6 +1,6 @@
 -- From where the plans have come the run ends as from its start. Assumes nothing.
 use mathlib.Core.Path.{refl, ap, ◌∙◌}
-use lib.ListN.{length, length-replicate}
+use lib.ListN.{length}
 use native.Mathlib.Omega.{arith}
 use Rattle.elementary.specs.Float.{1ᶠ}
 use Rattle.series.specs.Half.{full}
@@ -10,29 +10,13 @@ use Rattle.vector.proofs.run.run_plans.Goals as goal
 
 pub loop-pace-init : goal.loop-pace-init
 loop-pace-init c =
-    (refl, refl, between_first _ _ _ _ _ c.asking-pace.ensures (ap (full c.args.half c.args.n) c.requires.2 ∙ full_fill c.args.half c.args.n (omega (arith, c.requires.0)) 1ᶠ))
-
-pub run_plan-pace-requires : goal.run_plan-pace-requires
-run_plan-pace-requires c =
-    let i = c.loop-pace.invariant in
-    let p = c.requires in
-    (p.0, p.1, i.0 ∙ ap length p.2 ∙ length-replicate _ 1ᶠ, i.1 ∙ p.3, p.4, i.2.within, (i.2.asks c.loop-pace-test.true).0)
-
-pub loop-pace-smaller : goal.loop-pace-smaller
-loop-pace-smaller c =
-    (between_next _ _ _ _ _ _ c.loop-pace.pace _ c.loop-pace.invariant.2 c.loop-pace-test.true c.run_plan-pace.ensures).1
+    (refl, refl, between_first _ _ _ _ _ c.asking-pace.ensures (ap (full c.args.fixed.half (length c.args.fixed.diag_s.now)) c.requires.2 ∙ full_fill c.args.fixed.half (length c.args.fixed.diag_s.now) (omega (arith, c.requires.0)) 1ᶠ))
 
 pub loop-pace-preserved : goal.loop-pace-preserved
 loop-pace-preserved c =
     let i = c.loop-pace.invariant in
     let t = c.run_plan-pace in
     (t.auto.w ∙ i.0, t.auto.o ∙ i.1, (between_next _ _ _ _ _ _ c.loop-pace.pace _ i.2 c.loop-pace-test.true t.ensures).0)
-
-pub shape_of-w : goal.shape_of-w
-shape_of-w c = c.loop-pace.invariant.0
-
-pub shape_of-o : goal.shape_of-o
-shape_of-o c = c.loop-pace.invariant.1
 
 pub returns : goal.returns
 returns c = rw c.end_of.ensures (c.loop-pace.invariant.2.over c.loop-pace-test.false)

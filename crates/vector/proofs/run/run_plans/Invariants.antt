@@ -11,8 +11,9 @@ use Rattle.vector.proofs.run.run_plans.Given as goal
 
 abbrev pub invariant-loop-pace : goal.invariant-loop-pace
 invariant-loop-pace l =
-    let p = full_fixed l.half l.n l.diag_s l.eta in
-    (length l.w ≡ length l.initial.w) × (length l.o ≡ length l.initial.o) × Between p (run_on cap p (begin p cap (fill (full_size l.half l.n) 1ᶠ) (full l.half l.n l.initial.o) l.tau)) (full l.half l.n l.w) (full l.half l.n l.o) l.pace
+    let n = length l.fixed.diag_s.now in
+    let p = full_fixed l.fixed.half n l.fixed.diag_s.now l.fixed.eta in
+    (length l.w ≡ length l.initial.w) × (length l.o ≡ length l.initial.o) × Between p (run_on cap p (begin p cap (fill (full_size l.fixed.half n) 1ᶠ) (full l.fixed.half n l.initial.o) l.tau)) (full l.fixed.half n l.w) (full l.fixed.half n l.o) l.pace
 
 abbrev pub decreases-loop-pace : goal.decreases-loop-pace
 decreases-loop-pace l = weight l.pace

@@ -1,48 +1,17 @@
 -- The run of the first n rows is the run of all that they stand for. Assumes nothing.
-use mathlib.Core.Path.{◌≡◌, refl, sym, ap, ◌∙◌}
+use mathlib.Core.Path.{◌≡◌, refl, sym, ◌∙◌}
 use Prim.Native.Nat.{◌≤◌}
 use native.Mathlib.Omega.{arith}
-use lib.ListN.{length, take, length-replicate}
-use Rattle.elementary.specs.Float.{0ᶠ, finite}
+use lib.ListN.{length, take}
+use Rattle.elementary.specs.Float.{finite}
 use Rattle.operator.specs.Vectors.{tab, at, every}
 use Rattle.operator.specs.Operator.{diagonal_at}
 use Rattle.operator.proofs.Slices.{diagonal_over_lem, diagonal_fine}
 use Rattle.plan.specs.Plan.{room}
 use Rattle.vector.specs.Inner.{EndIs}
-use Rattle.plan.proofs.Room.{blank_room, blank_length, stored_part, stored_length, stored_room}
+use Rattle.plan.proofs.Room.{blank_length, stored_part, stored_length}
 use Rattle.vector.proofs.FullRun.{run_full, run_full_refused}
 use Rattle.vector.proofs.run.run_rows.Goals as goal
-
-pub slice_bounds-diag_s-end : goal.slice_bounds-diag_s-end
-slice_bounds-diag_s-end c =
-    let few : c.args.n ≤ room = omega (arith, c.requires.start.1, c.requires.start.2) in
-    blank_room _ _ c.zeros-diag_s.ensures few
-
-pub slice_bounds-fill_shifted_diagonal-end : goal.slice_bounds-fill_shifted_diagonal-end
-slice_bounds-fill_shifted_diagonal-end c =
-    let few : c.args.n ≤ room = omega (arith, c.requires.start.1, c.requires.start.2) in
-    sym (blank_length _ _ c.zeros-diag_s.ensures few)
-
-pub slice_bounds-diag_s-end-then-fill_shifted_diagonal : goal.slice_bounds-diag_s-end-then-fill_shifted_diagonal
-slice_bounds-diag_s-end-then-fill_shifted_diagonal c =
-    let few : c.args.n ≤ room = omega (arith, c.requires.start.1, c.requires.start.2) in
-    let length-of : let n = c.args.n in length (take n c.zeros-diag_s.result) ≡ n = blank_length _ _ c.zeros-diag_s.ensures few in
-    let diagonal : let a = c.args in c.fill_shifted_diagonal.new.diag ≡ tab a.n (diagonal_at a.input.bound a.input.alpha a.input.beta a.input.eta) = diagonal_over_lem _ _ _ _ _ _ _ length-of c.requires.start.1 c.fill_shifted_diagonal.ensures.diag_after in
-    stored_room _ _ _ _ diagonal
-
-pub slice_bounds-run_plans-end : goal.slice_bounds-run_plans-end
-slice_bounds-run_plans-end c =
-    let few : c.args.n ≤ room = omega (arith, c.requires.start.1, c.requires.start.2) in
-    let length-of : let n = c.args.n in length (take n c.zeros-diag_s.result) ≡ n = blank_length _ _ c.zeros-diag_s.ensures few in
-    let diagonal : let a = c.args in c.fill_shifted_diagonal.new.diag ≡ tab a.n (diagonal_at a.input.bound a.input.alpha a.input.beta a.input.eta) = diagonal_over_lem _ _ _ _ _ _ _ length-of c.requires.start.1 c.fill_shifted_diagonal.ensures.diag_after in
-    sym (stored_length _ _ _ _ diagonal)
-
-pub run_plans-requires : goal.run_plans-requires
-run_plans-requires c =
-    let few : c.args.n ≤ room = omega (arith, c.requires.start.1, c.requires.start.2) in
-    let length-of : let n = c.args.n in length (take n c.zeros-diag_s.result) ≡ n = blank_length _ _ c.zeros-diag_s.ensures few in
-    let diagonal : let a = c.args in c.fill_shifted_diagonal.new.diag ≡ tab a.n (diagonal_at a.input.bound a.input.alpha a.input.beta a.input.eta) = diagonal_over_lem _ _ _ _ _ _ _ length-of c.requires.start.1 c.fill_shifted_diagonal.ensures.diag_after in
-    (c.requires.start.0, few, c.requires.start.4, ap length c.requires.start.5 ∙ length-replicate _ 0ᶠ, stored_length _ _ _ _ diagonal)
 
 pub returns-then-fill_shifted_diagonal : goal.returns-then-fill_shifted_diagonal
 returns-then-fill_shifted_diagonal c =
@@ -50,7 +19,7 @@ returns-then-fill_shifted_diagonal c =
     let length-of : let n = c.args.n in length (take n c.zeros-diag_s.result) ≡ n = blank_length _ _ c.zeros-diag_s.ensures few in
     let diagonal : let a = c.args in c.fill_shifted_diagonal.new.diag ≡ tab a.n (diagonal_at a.input.bound a.input.alpha a.input.beta a.input.eta) = diagonal_over_lem _ _ _ _ _ _ _ length-of c.requires.start.1 c.fill_shifted_diagonal.ensures.diag_after in
     let fine : let a = c.args in c.fill_shifted_diagonal.result ≡ every a.n (λ i. finite (at (tab a.n (diagonal_at a.input.bound a.input.alpha a.input.beta a.input.eta)) i)) = diagonal_fine _ _ _ _ _ _ _ length-of c.requires.start.1 c.fill_shifted_diagonal.ensures.diag_after _ c.fill_shifted_diagonal.ensures.value in
-    run_full c.args.half _ _ (omega (arith, c.requires.start.0)) c.requires.rows_stand c.requires.start.3 _ _ _ _ _ (stored_part _ _ _ _ diagonal) c.requires.start.5 (sym fine ∙ c.if-fill_shifted_diagonal.true) c.run_plans.ensures
+    run_full c.args.half _ _ (omega (arith, c.requires.start.0)) c.requires.rows_stand c.requires.start.3 _ _ _ _ _ (stored_part _ _ _ _ diagonal) c.requires.start.5 (sym fine ∙ c.if-fill_shifted_diagonal.true) (rw (stored_length _ _ _ _ diagonal) at c.run_plans.ensures)
 
 pub returns : goal.returns
 unfolding EndIs

@@ -23,34 +23,16 @@ at_once : (x : RunInput) (v : ValueVector) → lt 0ᶠ x.tau ≡ false → v ≡
 unfolding run run_from fixed vector_by
 at_once x v h e = rw (h, e)
 
-pub overflow_mul-n : goal.overflow_mul-n
-overflow_mul-n c = omega (arith, (bound_range c.args.input.bound c.requires.0).1)
-
-pub overflow_add-n : goal.overflow_add-n
-overflow_add-n c = omega (arith, (bound_range c.args.input.bound c.requires.0).1)
-
-pub overflow_add-half : goal.overflow_add-half
-overflow_add-half c = omega (arith, (bound_range c.args.input.bound c.requires.0).1)
-
-pub at_end-requires : goal.at_end-requires
-at_end-requires c = omega (arith, (bound_range c.args.input.bound c.requires.0).1)
-
 pub run_back-requires : goal.run_back-requires
 run_back-requires c =
     let p = c.requires in
     let r = bound_range c.args.input.bound p.0 in
     record { start = (omega (arith, r.0), omega (arith, r.0), r.1, c.if-input.true, c.at_end.ensures); rows_stand = half_stands _ _ _ _ p.0 p.1 p.2 c.if-input-2.true }
 
-pub at_end-requires-then-input : goal.at_end-requires-then-input
-at_end-requires-then-input c = omega (arith, (bound_range c.args.input.bound c.requires.0).1)
-
 pub run_back-requires-then-input : goal.run_back-requires-then-input
 run_back-requires-then-input c =
     let r = bound_range c.args.input.bound c.requires.0 in
     record { start = (omega (arith, r.0), le_refl _, r.1, c.if-input.true, c.at_end-then-input.ensures); rows_stand = all_stand _ _ _ _ }
-
-pub at_end-requires-2 : goal.at_end-requires-2
-at_end-requires-2 c = omega (arith, (bound_range c.args.input.bound c.requires.0).1)
 
 pub returns : goal.returns
 returns c = at_once _ _ c.if-input.false c.at_end-2.ensures
