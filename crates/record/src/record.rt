@@ -19,7 +19,7 @@ pub(crate) const MOST_GROUPS: usize = 8;
 const MOST: u64 = GLFTConfig::MAX_AMOUNT as u64;
 
 // The largest bound that is read.
-const MOST_BOUND: u64 = 4294967295;
+const MOST_BOUND: u64 = u32::MAX as u64;
 
 // The eleven numbers of a record, in the sheet's order.
 #[derive(Clone, Copy)]
@@ -60,12 +60,6 @@ pub enum NumbersAnswer {
     Refused(u8),
 }
 
-fn wide(b: u8) -> u64
-    ensures { result ≡ b }
-{
-    b as u64
-}
-
 // The number at a place.
 fn read_number(s: &[u8], at: usize) -> Number
     requires { at ≤ length s.now }
@@ -73,8 +67,7 @@ fn read_number(s: &[u8], at: usize) -> Number
 {
     let mut value: u64 = 0;
     let mut unit: u64 = 1;
-    let mut groups: usize = 0;
-    while groups < MOST_GROUPS {
+    for groups in 0..MOST_GROUPS {
         let i = at + groups;
         if i >= s.len() {
             return Number::Refused(CUT_SHORT);
@@ -84,11 +77,10 @@ fn read_number(s: &[u8], at: usize) -> Number
             if (groups > 0) & (b == 0) {
                 return Number::Refused(MALFORMED);
             }
-            return Number::Value(value + wide(b) * unit, i + 1);
+            return Number::Value(value + u64::from(b) * unit, i + 1);
         }
-        value += wide(b % 128) * unit;
-        unit = unit * 128;
-        groups += 1;
+        value += u64::from(b % 128) * unit;
+        unit *= 128;
     }
     Number::Refused(MALFORMED)
 }
@@ -97,10 +89,7 @@ fn read_number(s: &[u8], at: usize) -> Number
 fn place_in(s: &[u8], at: usize) -> usize
     ensures { (result ≤ length s.now) × (drop result s.now ≡ drop at s.now) }
 {
-    if at > s.len() {
-        return s.len();
-    }
-    at
+    at.min(s.len())
 }
 
 // The place after n numbers.
@@ -109,8 +98,7 @@ fn place_after(s: &[u8], at: usize, n: usize) -> NumbersAnswer
     ensures { result ≡ numbers_answer (length s.now) (numbers n (drop at s.now)) }
 {
     let mut next = at;
-    let mut i: usize = 0;
-    while i < n {
+    for _ in 0..n {
         match read_number(s, next) {
             Number::Value(_, place) => {
                 next = place;
@@ -119,7 +107,6 @@ fn place_after(s: &[u8], at: usize, n: usize) -> NumbersAnswer
                 return NumbersAnswer::Refused(number);
             }
         }
-        i += 1;
     }
     NumbersAnswer::Taken(next)
 }
@@ -131,18 +118,16 @@ fn take_numbers(s: &[u8], at: usize, out: &mut [u64]) -> NumbersAnswer
     ensures stored { Stored (numbers (length out.old) (drop at s.now)) out.new }
 {
     let mut next = at;
-    let mut i: usize = 0;
-    while i < out.len() {
+    for slot in out.iter_mut() {
         match read_number(s, next) {
             Number::Value(v, place) => {
-                out[i] = v;
+                *slot = v;
                 next = place;
             }
             Number::Refused(number) => {
                 return NumbersAnswer::Refused(number);
             }
         }
-        i += 1;
     }
     NumbersAnswer::Taken(next)
 }
