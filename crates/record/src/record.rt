@@ -92,7 +92,8 @@ fn place_in(s: &[u8], at: usize) -> usize
     at.min(s.len())
 }
 
-// The place after n numbers.
+// The place after n numbers. Apart from `take_numbers`, which stores them: one loop for both would hand each
+// number to a closure, which would count its places by hand and test that one is left.
 fn place_after(s: &[u8], at: usize, n: usize) -> NumbersAnswer
     requires { at ≤ length s.now }
     ensures { result ≡ numbers_answer (length s.now) (numbers n (drop at s.now)) }
@@ -210,14 +211,13 @@ pub fn config_of(r: Record) -> GLFTConfig
 }
 
 // The numbers as they are, or with a holding of 0 in the place of theirs.
-fn numbers_of(v: [u64; FIELDS], flat: bool) -> [u64; FIELDS]
+fn numbers_of(mut v: [u64; FIELDS], flat: bool) -> [u64; FIELDS]
     ensures { result ≡ as_held flat v }
 {
-    let mut values = v;
     if flat {
-        values[HOLDING] = 0;
+        v[HOLDING] = 0;
     }
-    values
+    v
 }
 
 // The record of eleven numbers in the sheet's order, with the place after them: refused by 2.
