@@ -49,20 +49,6 @@ slice_bounds-write_answer-start c =
     (rw e (laying_room _ _ _ _ _ _ _ l.invariant p line-due), e) in
     omega (arith, room-left)
 
-pub shape_of-out-in_default : goal.shape_of-out-in_default
-unfolding ladder_line
-shape_of-out-in_default c =
-    let line-due : c.loop-i.i < rungs c.args.config = rw (← c.rungs_of-i-end.ensures) c.loop-i-test.true in
-    let answer-is : let a = c.args in c.quotes_in-answer.result ≡ quotes_of_lots (to_z w64 (of_z w64 a.mid_price)) a.config c.reckon-r.result (lot_at a.config c.loop-i.i) = let a = c.args in
-    let f : SFits w64 c.lot_at-lot.result = record { sfits = c.lot_at-lot.type_inv } in
-    c.quotes_in-answer.ensures ∙ ap (quotes_of_lots (to_z w64 (of_z w64 a.mid_price)) a.config c.reckon-r.result) (to_z-of_z f ∙ c.lot_at-lot.ensures) in
-    let written : let l = c.loop-i in let a = c.args in let u = ladder_line (to_z w64 (of_z w64 a.mid_price)) a.config c.reckon-r.result l.i in (c.write_answer.result ≡ LineWritten.Written (length u)) × (c.write_answer.new.line ≡ over u (mid_of l.at (length l.out - l.at) l.out)) = let l = c.loop-i in
-    let e = c.write_answer.ensures in
-    let there = line_there (answer_line c.quotes_in-answer.result) _ (part_room _ _ _ _ _ l.invariant.wrote (laying_room _ _ _ _ _ _ _ l.invariant c.requires.room line-due)) in
-    rw (← answer-is) (e.value ∙ there.0, e.line_after ∙ there.1) in
-    let none-refused : ⊥ = never_refused (sym c.in_default.is ∙ written.0) in
-    absurd none-refused
-
 pub returns-in_default : goal.returns-in_default
 unfolding ladder_line
 returns-in_default c =
@@ -123,9 +109,6 @@ loop-i-preserved c =
     let e = written in
     laying_more _ _ _ _ _ _ _ l.invariant c.requires.room _ _ line-due answer_kept e.1 (same_written (sym c.in-Written.is ∙ e.0)) in
     line-added.1
-
-pub shape_of-out : goal.shape_of-out
-shape_of-out c = laying_length _ _ _ _ _ _ _ c.loop-i.invariant c.requires.room
 
 pub returns : goal.returns
 unfolding ladder

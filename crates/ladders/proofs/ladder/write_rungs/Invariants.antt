@@ -1,5 +1,3 @@
-use mir.Syntax.{w64}
-use mir.Val.{to_z}
 use Rattle.ladders.proofs.Rungs.{Laying}
 use Rattle.ladders.proofs.ladder.write_rungs.Given as goal
 
