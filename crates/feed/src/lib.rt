@@ -27,8 +27,5 @@ pub fn read_sheet(rt: &HostRuntime, input: &mut [u8]) -> Result<usize>
 pub fn first(text: &[u8], n: usize) -> &[u8]
     ensures { result.now ≡ take n text.now }
 {
-    if n < text.len() {
-        return &text[..n];
-    }
-    text
+    &text[..n.min(text.len())]
 }

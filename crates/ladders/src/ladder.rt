@@ -27,10 +27,11 @@ fn lot_at(config: GLFTConfig, i: usize) -> i64
     requires { (config.max_inventory_lots ≤ 200) × (i ≤ 400) }
     ensures { result ≡ lot_at config i }
 {
-    i as i64 - config.max_inventory_lots as i64
+    i as i64 - i64::from(config.max_inventory_lots)
 }
 
-// The lines of a desk whose numbers pass, one after the other.
+// The lines of a desk whose numbers pass, one after the other. What they are reckoned from stays four
+// parameters, as in `write_ladder`, which may not change: a struct would be packed for this one call.
 fn write_rungs(
     out: &mut [u8],
     mid_price: i64,
@@ -46,10 +47,8 @@ fn write_rungs(
     let r = lots::reckon(config, volatility, current_time);
     let a = r.vector;
     let outcome = a.outcome;
-    let n = rungs_of(config);
     let mut at: usize = 0;
-    let mut i: usize = 0;
-    while i < n {
+    for i in 0..rungs_of(config) {
         let lot = lot_at(config, i);
         let answer = lots::quotes_in(
             mid_price,
@@ -66,7 +65,6 @@ fn write_rungs(
             return at;
         };
         at += k;
-        i += 1;
     }
     at
 }

@@ -6,7 +6,6 @@ ghost use Rattle.lines.specs.Inner.{most_side};
 ghost use Rattle.buffers.specs.Over.{over};
 
 use crate::refusals::SMALL_BUFFER;
-use amounts::size_of;
 use elementary::Refusal;
 use quote::{BILLION, ExactQuotes, GlftQuotes, Price};
 
@@ -20,7 +19,7 @@ fn count_places(n: u64) -> usize
     let mut k: usize = 1;
     let mut rest = n;
     while rest >= 10 {
-        rest = rest / 10;
+        rest /= 10;
         k += 1;
     }
     k
@@ -32,9 +31,9 @@ fn digit(d: u64) -> u8
     ensures { result ≡ glyph d }
 {
     if d < 10 {
-        return 48 + d as u8;
+        return b'0' + d as u8;
     }
-    55 + d as u8
+    b'A' - 10 + d as u8
 }
 
 // The last k digits of n in a base.
@@ -43,12 +42,10 @@ fn write_digits(out: &mut [u8], base: u64, n: u64, k: usize)
     requires room { k ≤ length out.old }
     ensures { out.new ≡ over (digits base k n) out.old }
 {
-    let mut i = k;
     let mut rest = n;
-    while i > 0 {
-        i -= 1;
+    for i in (0..k).rev() {
         out[i] = digit(rest % base);
-        rest = rest / base;
+        rest /= base;
     }
 }
 
@@ -84,9 +81,9 @@ fn write_signed(out: &mut [u8], z: i64) -> usize
 {
     if z < 0 {
         out[0] = b'-';
-        return write_price(&mut out[1..], size_of(z)) + 1;
+        return write_price(&mut out[1..], z.unsigned_abs()) + 1;
     }
-    write_price(out, size_of(z))
+    write_price(out, z.unsigned_abs())
 }
 
 // A side: its price, or `-`.

@@ -73,13 +73,15 @@ pub fn print_texts(rt: &HostRuntime, s: &[u8], kind: Kind) -> Result<usize, Prin
     Ok(count_of(done))
 }
 
+// Apart: its fact refuses a buffer of the longest sheet.
 fn blank() -> [u8; ROOM]
     ensures { most_bytes + 1 ≡ length result }
 {
     [0; ROOM]
 }
 
-// Reads a sheet into a buffer that tells one that is too long.
+// Reads a sheet into a buffer that tells one that is too long. Shared with resave it would be public, and
+// its `requires` too.
 fn read(rt: &HostRuntime, input: &mut [u8]) -> IoResult<usize>
     requires { most_bytes < length input.old }
     ensures { Fed (length input.old) result }

@@ -7,10 +7,9 @@ use mathlib.Core.List.{List}
 use borrow.Author.Tests.{leb-true, leb-false, le-leb, lt-leb, eqb-true, eqb-false}
 use lib.IntN.{ℤ, pos, negsuc, nat_abs}
 use lib.ListN.{get_or}
-use lib.Signed.{le_z, non_neg}
 use lib.Dec.{T, leb, eqb, leb→le}
 use mir.Syntax.{w64}
-use mir.Val.{Fits, to_z, of_z}
+use mir.Val.{to_z, of_z}
 use Rattle.amounts.specs.Amounts.{amount_limit, time_limit, amount_ok, time_ok}
 use Rattle.model.specs.Configuration.{config_limits}
 use Rattle.model.specs.Model.{model_limits}
@@ -21,11 +20,6 @@ use Rattle.record.specs.Record.{holding_by, holding, record_of, config_of, most_
 pub same_bits : (z : ℤ) → nat_abs z ≤ amount_limit → to_z w64 (of_z w64 z) ≡ z
 same_bits (pos n) h = kept (pos n) (omega arith)
 same_bits (negsuc n) h = kept (negsuc n) (omega arith)
-
--- one that is not below zero can be cast
-pub casts : (z : ℤ) → T (le_z (pos 0) z) → nat_abs z ≤ amount_limit → T (non_neg (to_z w64 (of_z w64 z))) × Fits w64 (nat_abs (to_z w64 (of_z w64 z)))
-casts (pos n) p h = rw (same_bits (pos n) h) (tt, omega arith)
-casts (negsuc n) p h = absurd p
 
 -- ---- stored numbers
 -- two bounds that hold together

@@ -20,7 +20,7 @@ pub(crate) const MOST_GROUPS: usize = 8;
 const MOST: u64 = GLFTConfig::MAX_AMOUNT as u64;
 
 // The largest bound that is read.
-const MOST_BOUND: u64 = 4294967295;
+const MOST_BOUND: u64 = u32::MAX as u64;
 
 // The eleven numbers of a record, in the sheet's order.
 #[derive(Clone, Copy)]
@@ -47,12 +47,6 @@ pub enum RecordAnswer {
     Refused(Refusal),
 }
 
-fn wide(b: u8) -> u64
-    ensures { result ≡ b }
-{
-    b as u64
-}
-
 // The number at a place, and the place after it.
 fn read_number(s: &[u8], at: usize) -> Result<(u64, usize), Refusal>
     requires { at ≤ length s.now }
@@ -60,8 +54,7 @@ fn read_number(s: &[u8], at: usize) -> Result<(u64, usize), Refusal>
 {
     let mut value: u64 = 0;
     let mut unit: u64 = 1;
-    let mut groups: usize = 0;
-    while groups < MOST_GROUPS {
+    for groups in 0..MOST_GROUPS {
         let i = at + groups;
         if i >= s.len() {
             return Err(CUT_SHORT);
@@ -71,11 +64,10 @@ fn read_number(s: &[u8], at: usize) -> Result<(u64, usize), Refusal>
             if (groups > 0) & (b == 0) {
                 return Err(MALFORMED);
             }
-            return Ok((value + wide(b) * unit, i + 1));
+            return Ok((value + u64::from(b) * unit, i + 1));
         }
-        value += wide(b % 128) * unit;
-        unit = unit * 128;
-        groups += 1;
+        value += u64::from(b % 128) * unit;
+        unit *= 128;
     }
     Err(MALFORMED)
 }
@@ -84,23 +76,19 @@ fn read_number(s: &[u8], at: usize) -> Result<(u64, usize), Refusal>
 fn place_in(s: &[u8], at: usize) -> usize
     ensures { (result ≤ length s.now) × (drop result s.now ≡ drop at s.now) }
 {
-    if at > s.len() {
-        return s.len();
-    }
-    at
+    at.min(s.len())
 }
 
-// The place after n numbers.
+// The place after n numbers. Apart from `take_numbers`, which stores them: one loop for both would hand each
+// number to a closure, which would count its places by hand and test that one is left.
 fn place_after(s: &[u8], at: usize, n: usize) -> Result<usize, Refusal>
     requires { at ≤ length s.now }
     ensures { result ≡ numbers_answer (length s.now) (numbers n (drop at s.now)) }
 {
     let mut next = at;
-    let mut i: usize = 0;
-    while i < n {
+    for _ in 0..n {
         let (_, place) = read_number(s, next)?;
         next = place;
-        i += 1;
     }
     Ok(next)
 }
@@ -112,12 +100,10 @@ fn take_numbers(s: &[u8], at: usize, out: &mut [u64]) -> Result<usize, Refusal>
     ensures stored { Stored (numbers (length out.old) (drop at s.now)) out.new }
 {
     let mut next = at;
-    let mut i: usize = 0;
-    while i < out.len() {
+    for slot in out.iter_mut() {
         let (value, place) = read_number(s, next)?;
-        out[i] = value;
+        *slot = value;
         next = place;
-        i += 1;
     }
     Ok(next)
 }
@@ -198,14 +184,13 @@ pub fn config_of(r: Record) -> GLFTConfig
 }
 
 // The numbers as they are, or with a holding of 0 in the place of theirs.
-fn numbers_of(v: [u64; FIELDS], flat: bool) -> [u64; FIELDS]
+fn numbers_of(mut v: [u64; FIELDS], flat: bool) -> [u64; FIELDS]
     ensures { result ≡ as_held flat v }
 {
-    let mut values = v;
     if flat {
-        values[HOLDING] = 0;
+        v[HOLDING] = 0;
     }
-    values
+    v
 }
 
 // The record of eleven numbers in the sheet's order, with the place after them: refused by 2.

@@ -24,7 +24,7 @@ fn write_number(out: &mut [u8], n: u64) -> usize
     let mut rest = n;
     while rest >= 128 {
         out[at] = (rest % 128) as u8 + 128;
-        rest = rest / 128;
+        rest /= 128;
         at += 1;
     }
     out[at] = rest as u8;
@@ -39,11 +39,8 @@ fn write_numbers(out: &mut [u8], v: [u64; FIELDS]) -> usize
     ensures value { result ≡ length (all_in_groups v) }
 {
     let mut at: usize = 0;
-    let mut i: usize = 0;
-    while i < FIELDS {
-        let n = v[i];
+    for n in v {
         at += write_number(&mut out[at..], n);
-        i += 1;
     }
     at
 }
@@ -53,10 +50,11 @@ fn stored_of(h: i64) -> u64
     requires { T (amount_ok h) }
     ensures { result ≡ stored h }
 {
+    let twice = 2 * h.unsigned_abs();
     if h < 0 {
-        return 2 * ((-1 - h) as u64) + 1;
+        return twice - 1;
     }
-    2 * (h as u64)
+    twice
 }
 
 // A record's numbers, in the sheet's order.
@@ -65,17 +63,17 @@ fn numbers_of(r: Record) -> [u64; FIELDS]
     ensures { result ≡ numbers_of r }
 {
     [
-        r.mid_price as u64,
+        r.mid_price.unsigned_abs(),
         stored_of(r.inventory),
-        r.volatility as u64,
-        r.risk_aversion as u64,
-        r.order_intensity_k as u64,
-        r.intensity_scale_a as u64,
-        r.max_inventory_lots as u64,
-        r.lot_size as u64,
+        r.volatility.unsigned_abs(),
+        r.risk_aversion.unsigned_abs(),
+        r.order_intensity_k.unsigned_abs(),
+        r.intensity_scale_a.unsigned_abs(),
+        u64::from(r.max_inventory_lots),
+        r.lot_size.unsigned_abs(),
         r.terminal_time,
         r.current_time,
-        r.min_spread as u64,
+        r.min_spread.unsigned_abs(),
     ]
 }
 

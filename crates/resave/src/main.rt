@@ -69,24 +69,20 @@ fn keep(s: &[u8], out: &mut [u8]) -> usize
 
 // Writes what is kept of a sheet, where standard output takes it.
 fn write_kept(rt: &HostRuntime, s: &[u8]) -> Result<()> {
-    let mut out = blank();
+    let mut out = [0; ROOM];
     let n = keep(s, &mut out);
     rt.write_all(first(&out, n))
 }
 
-fn blank() -> [u8; ROOM]
-    ensures { most_bytes + record_room ≡ length result }
-{
-    [0; ROOM]
-}
-
+// Apart, and not shared with the printing of texts: its fact refuses a buffer of the longest sheet.
 fn blank_input() -> [u8; INPUT]
     ensures { most_bytes + 1 ≡ length result }
 {
     [0; INPUT]
 }
 
-// Reads a sheet into a buffer that tells one that is too long.
+// Reads a sheet into a buffer that tells one that is too long. Shared with the printing of texts it would be
+// public, and its `requires` too.
 fn read(rt: &HostRuntime, input: &mut [u8]) -> Result<usize>
     requires { most_bytes < length input.old }
     ensures { Fed (length input.old) result }

@@ -16,9 +16,8 @@ fn room_of(kind: Kind) -> usize
     ensures { result ≡ room_of kind }
 {
     match kind {
-        Kind::Line => LEAST_ROOM,
+        Kind::Line | Kind::Plan => LEAST_ROOM,
         Kind::Ladder => MOST_LADDER,
-        Kind::Plan => LEAST_ROOM,
     }
 }
 

@@ -26,14 +26,11 @@ pub enum Kind {
 fn is_flat(kind: Kind) -> bool
     ensures { result ≡ is_flat kind }
 {
-    match kind {
-        Kind::Line => false,
-        Kind::Ladder => true,
-        Kind::Plan => false,
-    }
+    matches!(kind, Kind::Ladder)
 }
 
-// A record's text.
+// A record's text. Its writers stay three functions: their libraries' answers are of three types, so one
+// function would take the calculation and the writer as closures, and be no plainer.
 fn write_text(out: &mut [u8], r: Record, kind: Kind) -> Result<usize, Refusal>
     requires { least_room ≤ length out.old }
     ensures value { result ≡ wrote (record_text kind (length out.old) r) }

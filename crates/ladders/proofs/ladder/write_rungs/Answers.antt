@@ -19,21 +19,21 @@ use Rattle.buffers.proofs.Texts.{part_room, wrote_as}
 use Rattle.ladders.proofs.Rungs.{bound_checked, rung_kept, Laying, laying_none, laying_length, laying_room, laying_more}
 use Rattle.ladders.proofs.ladder.write_rungs.Goals as goal
 
-pub rungs_of-n-requires : goal.rungs_of-n-requires
-rungs_of-n-requires c = bound_checked c.args.mid_price c.args.config c.args.volatility c.args.current_time c.requires.checked
+pub rungs_of-i-end-requires : goal.rungs_of-i-end-requires
+rungs_of-i-end-requires c = bound_checked c.args.mid_price c.args.config c.args.volatility c.args.current_time c.requires.checked
 
 pub loop-i-init : goal.loop-i-init
 loop-i-init c = laying_none _ _ _ _
 
 pub lot_at-lot-requires : goal.lot_at-lot-requires
 lot_at-lot-requires c =
-    let line-due : c.loop-i.i < rungs c.args.config = rw (← c.rungs_of-n.ensures) c.loop-i-test.true in
+    let line-due : c.loop-i.i < rungs c.args.config = rw (← c.rungs_of-i-end.ensures) c.loop-i-test.true in
     let bounded : c.args.config.max_inventory_lots ≤ 200 = bound_checked c.args.mid_price c.args.config c.args.volatility c.args.current_time c.requires.checked in
     (bounded, omega (arith, bounded, line-due))
 
 pub slice_bounds-write_answer-count : goal.slice_bounds-write_answer-count
 slice_bounds-write_answer-count c =
-    let line-due : c.loop-i.i < rungs c.args.config = rw (← c.rungs_of-n.ensures) c.loop-i-test.true in
+    let line-due : c.loop-i.i < rungs c.args.config = rw (← c.rungs_of-i-end.ensures) c.loop-i-test.true in
     let room-left : let l = c.loop-i in (l.at + least_room ≤ length l.out) × (length l.out ≡ length c.args.out.now) = let l = c.loop-i in
     let p = c.requires.room in
     let e = laying_length _ _ _ _ _ _ _ l.invariant p in
@@ -42,31 +42,17 @@ slice_bounds-write_answer-count c =
 
 pub slice_bounds-write_answer-start : goal.slice_bounds-write_answer-start
 slice_bounds-write_answer-start c =
-    let line-due : c.loop-i.i < rungs c.args.config = rw (← c.rungs_of-n.ensures) c.loop-i-test.true in
+    let line-due : c.loop-i.i < rungs c.args.config = rw (← c.rungs_of-i-end.ensures) c.loop-i-test.true in
     let room-left : let l = c.loop-i in (l.at + least_room ≤ length l.out) × (length l.out ≡ length c.args.out.now) = let l = c.loop-i in
     let p = c.requires.room in
     let e = laying_length _ _ _ _ _ _ _ l.invariant p in
     (rw e (laying_room _ _ _ _ _ _ _ l.invariant p line-due), e) in
     omega (arith, room-left)
 
-pub shape_of-out-in_default : goal.shape_of-out-in_default
-unfolding ladder_line
-shape_of-out-in_default c =
-    let line-due : c.loop-i.i < rungs c.args.config = rw (← c.rungs_of-n.ensures) c.loop-i-test.true in
-    let answer-is : let a = c.args in c.quotes_in-answer.result ≡ quotes_of_lots (to_z w64 (of_z w64 a.mid_price)) a.config c.reckon-r.result (lot_at a.config c.loop-i.i) = let a = c.args in
-    let f : SFits w64 c.lot_at-lot.result = record { sfits = c.lot_at-lot.type_inv } in
-    c.quotes_in-answer.ensures ∙ ap (quotes_of_lots (to_z w64 (of_z w64 a.mid_price)) a.config c.reckon-r.result) (to_z-of_z f ∙ c.lot_at-lot.ensures) in
-    let written : let l = c.loop-i in let a = c.args in let u = ladder_line (to_z w64 (of_z w64 a.mid_price)) a.config c.reckon-r.result l.i in (c.write_answer.result ≡ Ok (length u)) × (c.write_answer.new.line ≡ over u (mid_of l.at (length l.out - l.at) l.out)) = let l = c.loop-i in
-    let e = c.write_answer.ensures in
-    let there = line_there (answer_line c.quotes_in-answer.result) _ (part_room _ _ _ _ _ l.invariant.wrote (laying_room _ _ _ _ _ _ _ l.invariant c.requires.room line-due)) in
-    rw (← answer-is) (e.value ∙ there.0, e.line_after ∙ there.1) in
-    let none-refused : ⊥ = never_refused (sym c.in_default.is ∙ written.0) in
-    absurd none-refused
-
 pub returns-in_default : goal.returns-in_default
 unfolding ladder_line
 returns-in_default c =
-    let line-due : c.loop-i.i < rungs c.args.config = rw (← c.rungs_of-n.ensures) c.loop-i-test.true in
+    let line-due : c.loop-i.i < rungs c.args.config = rw (← c.rungs_of-i-end.ensures) c.loop-i-test.true in
     let answer-is : let a = c.args in c.quotes_in-answer.result ≡ quotes_of_lots (to_z w64 (of_z w64 a.mid_price)) a.config c.reckon-r.result (lot_at a.config c.loop-i.i) = let a = c.args in
     let f : SFits w64 c.lot_at-lot.result = record { sfits = c.lot_at-lot.type_inv } in
     c.quotes_in-answer.ensures ∙ ap (quotes_of_lots (to_z w64 (of_z w64 a.mid_price)) a.config c.reckon-r.result) (to_z-of_z f ∙ c.lot_at-lot.ensures) in
@@ -80,7 +66,7 @@ returns-in_default c =
 pub overflow_add-at : goal.overflow_add-at
 unfolding ladder_line
 overflow_add-at c =
-    let line-due : c.loop-i.i < rungs c.args.config = rw (← c.rungs_of-n.ensures) c.loop-i-test.true in
+    let line-due : c.loop-i.i < rungs c.args.config = rw (← c.rungs_of-i-end.ensures) c.loop-i-test.true in
     let bounded : c.args.config.max_inventory_lots ≤ 200 = bound_checked c.args.mid_price c.args.config c.args.volatility c.args.current_time c.requires.checked in
     let reckoned : let a = c.args in c.reckon-r.result ≡ reckoning a.config a.volatility a.current_time = c.reckon-r.ensures ∙ ap (λ (z : ℤ). reckoning c.args.config z c.args.current_time) (to_z-of_z c.ranges.volatility) in
     let answer_kept : let a = c.args in ReplyKept (quotes_of_lots (to_z w64 (of_z w64 a.mid_price)) a.config c.reckon-r.result (lot_at a.config c.loop-i.i)) = let a = c.args in
@@ -101,19 +87,10 @@ overflow_add-at c =
     laying_more _ _ _ _ _ _ _ l.invariant c.requires.room _ _ line-due answer_kept e.1 (same_written (sym c.in-Ok.is ∙ e.0)) in
     omega (arith, bounded, line-due, c.loop-i.invariant.room, line-added.0)
 
-pub overflow_add-i : goal.overflow_add-i
-overflow_add-i c =
-    let line-due : c.loop-i.i < rungs c.args.config = rw (← c.rungs_of-n.ensures) c.loop-i-test.true in
-    let bounded : c.args.config.max_inventory_lots ≤ 200 = bound_checked c.args.mid_price c.args.config c.args.volatility c.args.current_time c.requires.checked in
-    omega (arith, bounded, line-due)
-
-pub loop-i-smaller : goal.loop-i-smaller
-loop-i-smaller c = omega (arith, c.loop-i-test.true)
-
 pub loop-i-preserved : goal.loop-i-preserved
 unfolding ladder_line
 loop-i-preserved c =
-    let line-due : c.loop-i.i < rungs c.args.config = rw (← c.rungs_of-n.ensures) c.loop-i-test.true in
+    let line-due : c.loop-i.i < rungs c.args.config = rw (← c.rungs_of-i-end.ensures) c.loop-i-test.true in
     let reckoned : let a = c.args in c.reckon-r.result ≡ reckoning a.config a.volatility a.current_time = c.reckon-r.ensures ∙ ap (λ (z : ℤ). reckoning c.args.config z c.args.current_time) (to_z-of_z c.ranges.volatility) in
     let answer_kept : let a = c.args in ReplyKept (quotes_of_lots (to_z w64 (of_z w64 a.mid_price)) a.config c.reckon-r.result (lot_at a.config c.loop-i.i)) = let a = c.args in
     let i = c.loop-i.i in
@@ -133,16 +110,13 @@ loop-i-preserved c =
     laying_more _ _ _ _ _ _ _ l.invariant c.requires.room _ _ line-due answer_kept e.1 (same_written (sym c.in-Ok.is ∙ e.0)) in
     line-added.1
 
-pub shape_of-out : goal.shape_of-out
-shape_of-out c = laying_length _ _ _ _ _ _ _ c.loop-i.invariant c.requires.room
-
 pub returns : goal.returns
 unfolding ladder
 returns c =
     let reckoned : let a = c.args in c.reckon-r.result ≡ reckoning a.config a.volatility a.current_time = c.reckon-r.ensures ∙ ap (λ (z : ℤ). reckoning c.args.config z c.args.current_time) (to_z-of_z c.ranges.volatility) in
     let l = c.loop-i in
     let a = c.args in
-    let n : l.i ≡ rungs a.config = omega (arith, c.rungs_of-n.ensures, c.loop-i-test, l.invariant.few) in
+    let n : l.i ≡ rungs a.config = omega (arith, c.rungs_of-i-end.ensures, c.loop-i-test, l.invariant.few) in
     let all : ladder_lines (to_z w64 (of_z w64 a.mid_price)) a.config c.reckon-r.result l.i ≡ ladder a.mid_price a.config a.volatility a.current_time =
     ap (λ (z : ℤ). ladder_lines z a.config c.reckon-r.result l.i) (to_z-of_z c.ranges.mid_price)
     ∙ ap (λ (r : Reckoning). ladder_lines a.mid_price a.config r l.i) reckoned

@@ -1,11 +1,5 @@
-use Prim.Native.Nat.{◌-◌}
-use mir.Syntax.{w64}
-use mir.Val.{to_z}
 use Rattle.ladders.proofs.Rungs.{Laying}
 use Rattle.ladders.proofs.ladder.write_rungs.Given as goal
 
 abbrev pub invariant-loop-i : goal.invariant-loop-i
 invariant-loop-i l = Laying l.mid_price l.config l.r l.initial.out l.out l.at l.i
-
-abbrev pub decreases-loop-i : goal.decreases-loop-i
-decreases-loop-i l = l.n - l.i

@@ -1,5 +1,5 @@
 use mathlib.Core.Path.{refl}
-use Prim.Native.Nat.{◌+◌, ◌-◌, ◌*◌, ◌^◌, ◌<◌}
+use Prim.Native.Nat.{◌+◌, ◌*◌, ◌^◌, ◌<◌}
 use native.Mathlib.Omega.{arith}
 use Rattle.record.specs.Record.{most_groups}
 use Rattle.record.specs.Inner.{NumberIs}
@@ -22,28 +22,28 @@ returns-then-groups-b c =
 
 pub overflow_mul-result : goal.overflow_mul-result
 overflow_mul-result c =
-    let last_fits : c.loop-groups.value + c.wide.result * c.loop-groups.unit < 128 ^ most_groups = rw c.wide.ensures (group_fits _ _ _ _ _ c.loop-groups.invariant c.loop-groups-test.true _ (omega (arith, c.if-b-lt128.true))) in
+    let last_fits : c.loop-groups.value + c.from.result * c.loop-groups.unit < 128 ^ most_groups = rw c.from.ensures (group_fits _ _ _ _ _ c.loop-groups.invariant c.loop-groups-test.true _ (omega (arith, c.if-b-lt128.true))) in
     record { fits = omega (arith, last_fits) }
 
 pub overflow_add-result : goal.overflow_add-result
 overflow_add-result c =
-    let last_fits : c.loop-groups.value + c.wide.result * c.loop-groups.unit < 128 ^ most_groups = rw c.wide.ensures (group_fits _ _ _ _ _ c.loop-groups.invariant c.loop-groups-test.true _ (omega (arith, c.if-b-lt128.true))) in
+    let last_fits : c.loop-groups.value + c.from.result * c.loop-groups.unit < 128 ^ most_groups = rw c.from.ensures (group_fits _ _ _ _ _ c.loop-groups.invariant c.loop-groups-test.true _ (omega (arith, c.if-b-lt128.true))) in
     record { fits = omega (arith, last_fits) }
 
 pub returns-then-b-lt128 : goal.returns-then-b-lt128
 unfolding NumberIs
 returns-then-b-lt128 c =
-    rw c.wide.ensures
+    rw c.from.ensures
     (group_last _ _ _ _ _ c.loop-groups.invariant c.loop-groups-test.true _ c.if-i-s.false refl c.if-b-lt128.true c.if-groups-b.false, omega arith)
 
 pub overflow_mul-value : goal.overflow_mul-value
 overflow_mul-value c =
-    let more-fits : c.loop-groups.value + c.wide-in-loop-groups.result * c.loop-groups.unit < 128 ^ most_groups = rw c.wide-in-loop-groups.ensures (group_fits _ _ _ _ _ c.loop-groups.invariant c.loop-groups-test.true _ (omega arith)) in
+    let more-fits : c.loop-groups.value + c.from-in-loop-groups.result * c.loop-groups.unit < 128 ^ most_groups = rw c.from-in-loop-groups.ensures (group_fits _ _ _ _ _ c.loop-groups.invariant c.loop-groups-test.true _ (omega arith)) in
     record { fits = omega (arith, more-fits) }
 
 pub overflow_add-value : goal.overflow_add-value
 overflow_add-value c =
-    let more-fits : c.loop-groups.value + c.wide-in-loop-groups.result * c.loop-groups.unit < 128 ^ most_groups = rw c.wide-in-loop-groups.ensures (group_fits _ _ _ _ _ c.loop-groups.invariant c.loop-groups-test.true _ (omega arith)) in
+    let more-fits : c.loop-groups.value + c.from-in-loop-groups.result * c.loop-groups.unit < 128 ^ most_groups = rw c.from-in-loop-groups.ensures (group_fits _ _ _ _ _ c.loop-groups.invariant c.loop-groups-test.true _ (omega arith)) in
     record { fits = omega (arith, more-fits) }
 
 pub overflow_mul-unit : goal.overflow_mul-unit
@@ -52,7 +52,7 @@ overflow_mul-unit c =
 
 pub loop-groups-preserved : goal.loop-groups-preserved
 loop-groups-preserved c =
-    rw c.wide-in-loop-groups.ensures
+    rw c.from-in-loop-groups.ensures
     (group_more _ _ _ _ _ c.loop-groups.invariant c.loop-groups-test.true _ c.if-i-s.false refl c.if-b-lt128.false)
 
 pub returns : goal.returns

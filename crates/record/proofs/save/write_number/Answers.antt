@@ -1,6 +1,4 @@
-use mathlib.Core.Path.{◌∙◌}
 use native.Mathlib.Omega.{arith}
-use lib.ListN.{length-set}
 use Rattle.record.proofs.Groups.{grouping_none, grouping_room, grouping_more, grouping_last}
 use Rattle.record.proofs.save.write_number.Goals as goal
 
@@ -10,20 +8,11 @@ loop-rest-init c = grouping_none _ _
 pub bounds-out-at : goal.bounds-out-at
 bounds-out-at c = omega (arith, grouping_room _ _ _ _ _ c.requires c.loop-rest.invariant)
 
-pub overflow_add-at : goal.overflow_add-at
-overflow_add-at c = omega (arith, grouping_room _ _ _ _ _ c.requires c.loop-rest.invariant)
-
 pub loop-rest-preserved : goal.loop-rest-preserved
 loop-rest-preserved c = grouping_more _ _ _ _ _ c.requires c.loop-rest.invariant c.loop-rest-test.true
 
 pub bounds-out-at-2 : goal.bounds-out-at-2
 bounds-out-at-2 c = omega (arith, grouping_room _ _ _ _ _ c.requires c.loop-rest.invariant)
-
-pub overflow_add-result : goal.overflow_add-result
-overflow_add-result c = omega (arith, grouping_room _ _ _ _ _ c.requires c.loop-rest.invariant)
-
-pub shape_of-out : goal.shape_of-out
-shape_of-out c = length-set c.loop-rest.out c.loop-rest.at c.loop-rest.rest ∙ (grouping_room _ _ _ _ _ c.requires c.loop-rest.invariant).1
 
 pub returns : goal.returns
 returns c = let p = grouping_last _ _ _ _ _ c.requires c.loop-rest.invariant c.loop-rest-test.false in record { out_after = p.0; value = p.1 }

@@ -1,10 +1,6 @@
--- `record::save::write_numbers` meets its contract. The loop's invariant: the first i numbers are written. The measure is what is left of eleven. Assumes nothing.
-use Prim.Native.Nat.{◌-◌}
+-- `record::save::write_numbers` meets its contract. The loop's invariant: the first numbers are written. Assumes nothing.
 use Rattle.record.proofs.Saving.{Saving}
 use Rattle.record.proofs.save.write_numbers.Given as goal
 
-abbrev pub invariant-loop-i : goal.invariant-loop-i
-invariant-loop-i l = Saving l.v l.initial.out l.out l.at l.i
-
-abbrev pub decreases-loop-i : goal.decreases-loop-i
-decreases-loop-i l = 11 - l.i
+abbrev pub invariant-loop-n : goal.invariant-loop-n
+invariant-loop-n l = Saving l.n-items l.initial.out l.out l.at l.n-index
