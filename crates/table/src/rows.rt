@@ -36,10 +36,10 @@ fn row_fits(table: &[u64], r: usize) -> bool
 {
     let at = row_at(r);
     let bound = table[at + BOUND];
-    if (MAX_INVENTORY_LOTS as u64) < bound {
+    if u64::from(MAX_INVENTORY_LOTS) < bound {
         return false;
     }
-    (table[at + STEPS] <= MAX_EXPM_STEPS as u64)
+    (table[at + STEPS] <= u64::from(MAX_EXPM_STEPS))
         & ((1 <= bound) & (table[at + LENGTH] == 2 * bound + 1))
 }
 
@@ -48,14 +48,7 @@ fn rows_fit(table: &[u64], n: usize) -> bool
     requires { (table_room ≤ length table.now) × (n ≤ rows_kept) }
     ensures { result ≡ every n (row_ok table.now) }
 {
-    let mut r: usize = 0;
-    while r < n {
-        if !row_fits(table, r) {
-            return false;
-        }
-        r += 1;
-    }
-    true
+    (0..n).all(|r| row_fits(table, r))
 }
 
 // Whether a table passes the check of 24: an unfilled row is not looked at, and no float.
@@ -89,7 +82,7 @@ fn row_agrees(table: &[u64], r: usize, input: RunInput) -> bool
     ensures { result ≡ agrees table.now input r }
 {
     let at = row_at(r);
-    (table[at + BOUND] == input.bound as u64)
+    (table[at + BOUND] == u64::from(input.bound))
         & (table[at + ALPHA] == bits_of(input.alpha))
         & (table[at + BETA] == bits_of(input.beta))
         & (table[at + ETA] == bits_of(input.eta))
@@ -102,12 +95,10 @@ pub(crate) fn find(table: &[u64], input: RunInput) -> Found
     ensures { result ≡ found table.now input }
 {
     let rows = table[FILLED] as usize;
-    let mut r: usize = 0;
-    while r < rows {
+    for r in 0..rows {
         if row_agrees(table, r, input) {
             return Found::Row(r);
         }
-        r += 1;
     }
     Found::Nothing
 }

@@ -15,11 +15,7 @@ use vector::RunInput;
 pub(crate) fn set_zeros(out: &mut [u64])
     ensures { out.new ≡ replicate (length out.old) 0 }
 {
-    let mut i: usize = 0;
-    while i < out.len() {
-        out[i] = 0;
-        i += 1;
-    }
+    out.fill(0);
 }
 
 // The bits of as many floats.
@@ -27,10 +23,9 @@ fn write_bits(out: &mut [u64], floats: &[f64])
     requires { length out.old ≡ length floats.now }
     ensures { out.new ≡ map bits floats.now }
 {
-    let mut i: usize = 0;
-    while i < out.len() {
-        out[i] = bits_of(floats[i]);
-        i += 1;
+    // By index: of `iter_mut` under `zip` a proof knows no value that is written.
+    for (i, x) in floats.iter().enumerate() {
+        out[i] = bits_of(*x);
     }
 }
 
@@ -39,9 +34,9 @@ fn write_row<'a>(row: &mut [u64], input: RunInput, steps: u32, n: usize, w: &'a 
     requires { (length row.old ≡ row_size) × (length w.now ≡ room) × (length o.now ≡ room) }
     ensures { row.new ≡ row_numbers input steps (lent n w.now o.now) }
 {
-    row[STEPS] = steps as u64;
+    row[STEPS] = u64::from(steps);
     row[LENGTH] = n as u64;
-    row[BOUND] = input.bound as u64;
+    row[BOUND] = u64::from(input.bound);
     row[ALPHA] = bits_of(input.alpha);
     row[BETA] = bits_of(input.beta);
     row[ETA] = bits_of(input.eta);
@@ -54,10 +49,7 @@ fn write_row<'a>(row: &mut [u64], input: RunInput, steps: u32, n: usize, w: &'a 
 fn one_more(filled: u64) -> u64
     ensures { result ≡ min rows_kept (suc filled) }
 {
-    if filled < ROWS {
-        return filled + 1;
-    }
-    ROWS
+    filled.saturating_add(1).min(ROWS)
 }
 
 // The row after a row, the first after the last.
