@@ -52,8 +52,7 @@ pub struct FloatAnswer {
 pub fn within(q: i64, bound: u32) -> bool
     ensures { result ≡ within bound q }
 {
-    let b = bound as i64;
-    (0 - b <= q) & (q <= b)
+    q.unsigned_abs() <= u64::from(bound)
 }
 
 // Whether a side is absent or its distance finite.

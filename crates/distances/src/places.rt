@@ -31,7 +31,7 @@ pub(crate) fn place_of(q: i64, bound: u32) -> usize
     requires { nat_abs q ≤ bound }
     ensures { result ≡ place bound q }
 {
-    (q + (bound as i64)) as usize
+    (q + i64::from(bound)) as usize
 }
 
 // ((LN w - LN x) + (o - p)) / k + base, from an entry's weight w and offset o to its neighbour's.
