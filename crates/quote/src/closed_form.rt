@@ -38,10 +38,10 @@ pub(crate) fn distances(m: Model, q: i64) -> Sides
 {
     let c = slope_of(m);
     if elementary::is_positive_finite(c) {
-        let bound = m.q_max as i64;
+        let bound = i64::from(m.q_max);
         let qf = std::num::nearest_i64_to_f64(q);
         let bid = bid_of(q < bound, m.base, c, qf);
-        let ask = ask_of(0 - bound < q, m.base, c, qf);
+        let ask = ask_of(-bound < q, m.base, c, qf);
         if distances::is_fine(bid) & distances::is_fine(ask) {
             return Sides::Distances(bid, ask);
         }
