@@ -5,6 +5,7 @@
 mod entry;
 mod from_bits;
 mod from_vector;
+mod lent;
 mod places;
 pub mod refusals;
 
@@ -16,6 +17,8 @@ ghost use Rattle.distances.specs.Count.{step_count};
 use elementary::Check;
 pub use from_bits::answer_in_bits;
 pub use from_vector::{answer_from, answer_in};
+use lent::Lent;
+use places::Scale;
 use vector::{FirstPlan, RunInput, ValueVector};
 
 // A side's distance from the mid; at the bound one side is withheld.
@@ -69,7 +72,12 @@ pub fn is_fine(d: Distance) -> bool
 pub fn exact_distances(vector: ValueVector, k: f64, base: f64, q: i64) -> Sides
     ensures { result ≡ exact_distances vector k base q }
 {
-    places::distances_in(&vector.w, &vector.log_offset, vector.n, k, base, q)
+    let v = Lent {
+        w: &vector.w,
+        log_offset: &vector.log_offset,
+        n: vector.n,
+    };
+    places::distances_in(v, Scale { k, base }, q)
 }
 
 // The float entry: the value vector, the steps spent and the distances at q lots, or the cap report.
@@ -77,13 +85,13 @@ pub fn exact_distances(vector: ValueVector, k: f64, base: f64, q: i64) -> Sides
 pub fn float_entry(k: f64, base: f64, input: RunInput, q: i64) -> FloatAnswer
     ensures { result ≡ float_entry k base input q }
 {
-    match entry::check_entry(k, base, input, q) {
+    match entry::check_entry(Scale { k, base }, input, q) {
         Check::Passes => {}
         Check::Refused(number) => {
             return entry::refused_entry(number);
         }
     }
-    entry::entry_within(k, base, input, q)
+    entry::entry_within(Scale { k, base }, input, q)
 }
 
 // The steps of the first plan of the float entry's run, before anything runs; 0 where no time is left.
@@ -91,7 +99,7 @@ pub fn float_entry(k: f64, base: f64, input: RunInput, q: i64) -> FloatAnswer
 pub fn step_count(k: f64, base: f64, input: RunInput, q: i64) -> FirstPlan
     ensures { result ≡ step_count k base input q }
 {
-    match entry::check_entry(k, base, input, q) {
+    match entry::check_entry(Scale { k, base }, input, q) {
         Check::Passes => vector::first_plan(input),
         Check::Refused(number) => FirstPlan::Refused(number),
     }
