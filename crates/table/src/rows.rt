@@ -13,6 +13,7 @@ use crate::places::{
 use crate::refusals::{BAD_TABLE, SMALL_TABLE};
 use distances::Answer;
 use elementary::{Check, bits_of};
+use model::Model;
 use vector::{MAX_EXPM_STEPS, MAX_INVENTORY_LOTS, RunInput};
 
 // The first row that agrees, if one does.
@@ -104,9 +105,9 @@ pub(crate) fn find(table: &[u64], input: RunInput) -> Found
 }
 
 // The answer at q lots from a row as it stands, whose weights and offsets are lent: none is copied.
-pub(crate) fn answer_of_row(table: &[u64], r: usize, k: f64, base: f64, q: i64) -> Answer
+pub(crate) fn answer_of_row(table: &[u64], r: usize, m: Model, q: i64) -> Answer
     requires { (table_room ≤ length table.now) × (r ≤ 3) × (row_ok table.now r ≡ true) }
-    ensures { result ≡ answer_from (row_vector table.now r) k base q }
+    ensures { result ≡ answer_from (row_vector table.now r) m.k m.base q }
 {
     let at = row_at(r);
     distances::answer_in_bits(
@@ -114,8 +115,8 @@ pub(crate) fn answer_of_row(table: &[u64], r: usize, k: f64, base: f64, q: i64) 
         &table[at + WEIGHTS..at + OFFSETS],
         &table[at + OFFSETS..at + ROW],
         table[at + LENGTH] as usize,
-        k,
-        base,
+        m.k,
+        m.base,
         q,
     )
 }

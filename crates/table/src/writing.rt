@@ -29,20 +29,31 @@ fn write_bits(out: &mut [u64], floats: &[f64])
     }
 }
 
+// What a row keeps: what its vector was made from, the steps that it took, and its n weights and offsets.
+#[derive(Clone, Copy)]
+pub(crate) struct Kept<'a> {
+    pub(crate) input: RunInput,
+    pub(crate) steps: u32,
+    pub(crate) n: usize,
+    pub(crate) w: &'a [f64],
+    pub(crate) log_offset: &'a [f64],
+}
+
 // The numbers of a row: the steps, the vector's length, what it was made from, weights and offsets.
-fn write_row<'a>(row: &mut [u64], input: RunInput, steps: u32, n: usize, w: &'a [f64], o: &'a [f64])
-    requires { (length row.old ≡ row_size) × (length w.now ≡ room) × (length o.now ≡ room) }
-    ensures { row.new ≡ row_numbers input steps (lent n w.now o.now) }
+fn write_row(row: &mut [u64], kept: Kept<'_>)
+    requires { (length row.old ≡ row_size) × (length kept.w.now ≡ room) × (length kept.log_offset.now ≡ room) }
+    ensures { row.new ≡ row_numbers kept.entry.input kept.entry.steps (lent kept.entry.n kept.entry.w.now kept.entry.log_offset.now) }
 {
-    row[STEPS] = u64::from(steps);
-    row[LENGTH] = n as u64;
+    let input = kept.input;
+    row[STEPS] = u64::from(kept.steps);
+    row[LENGTH] = kept.n as u64;
     row[BOUND] = u64::from(input.bound);
     row[ALPHA] = bits_of(input.alpha);
     row[BETA] = bits_of(input.beta);
     row[ETA] = bits_of(input.eta);
     row[TAU] = bits_of(input.tau);
-    write_bits(&mut row[WEIGHTS..OFFSETS], w);
-    write_bits(&mut row[OFFSETS..ROW], o);
+    write_bits(&mut row[WEIGHTS..OFFSETS], kept.w);
+    write_bits(&mut row[OFFSETS..ROW], kept.log_offset);
 }
 
 // One row more, of four at the most.
@@ -61,20 +72,13 @@ fn row_after(next: u64) -> u64
 }
 
 // Puts a vector into the next row, which is the oldest where all are filled.
-pub(crate) fn add_row<'a>(
-    table: &mut [u64],
-    input: RunInput,
-    steps: u32,
-    n: usize,
-    w: &'a [f64],
-    o: &'a [f64],
-)
-    requires { (table_room ≤ length table.old) × (next table.old ≤ 3) × (length w.now ≡ room) × (length o.now ≡ room) }
-    ensures { table.new ≡ with_row input steps (lent n w.now o.now) table.old }
+pub(crate) fn add_row(table: &mut [u64], kept: Kept<'_>)
+    requires { (table_room ≤ length table.old) × (next table.old ≤ 3) × (length kept.w.now ≡ room) × (length kept.log_offset.now ≡ room) }
+    ensures { table.new ≡ with_row kept.entry.input kept.entry.steps (lent kept.entry.n kept.entry.w.now kept.entry.log_offset.now) table.old }
 {
     let next = table[NEXT];
     let at = row_at(next as usize);
     table[FILLED] = one_more(table[FILLED]);
     table[NEXT] = row_after(next);
-    write_row(&mut table[at..at + ROW], input, steps, n, w, o);
+    write_row(&mut table[at..at + ROW], kept);
 }
