@@ -62,7 +62,7 @@ fn distance_at<T: Number>(v: Lent<'_, T>, scale: Scale, i: usize, j: usize) -> f
     )
 }
 
-// The bid's distance at place i, one place up.
+// The bid's distance at place i, one place up; one function for both sides would take each side's test.
 fn bid_at<T: Number>(v: Lent<'_, T>, scale: Scale, i: usize) -> Distance
     requires { i < v.n }
     ensures { result ≡ bid_at (ltb (suc i) v.entry.n) (lent v.entry.n (map T.float v.entry.w.now) (map T.float v.entry.log_offset.now)) scale.k scale.base i }
