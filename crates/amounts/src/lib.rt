@@ -27,7 +27,7 @@ const MILLISECONDS_PER_SECOND: f64 = 1000.0;
 pub fn amount_fits(x: i64) -> bool
     ensures { result ≡ amount_ok x }
 {
-    (0 - MAX_AMOUNT <= x) & (x <= MAX_AMOUNT)
+    x.unsigned_abs() <= MAX_AMOUNT.unsigned_abs()
 }
 
 // Whether a time is within the limit.
@@ -40,17 +40,14 @@ pub fn time_fits(t: u64) -> bool
 pub fn is_positive(x: i64) -> bool
     ensures { result ≡ above0 x }
 {
-    0 < x
+    x.is_positive()
 }
 
 // An amount without its sign.
 pub fn size_of(x: i64) -> u64
     ensures { result ≡ unsigned_abs x }
 {
-    if x < 0 {
-        return (-1 - x) as u64 + 1;
-    }
-    x as u64
+    x.unsigned_abs()
 }
 
 // An amount as a float.
@@ -64,9 +61,5 @@ pub fn to_f64(x: i64) -> f64
 pub fn seconds_to_terminal(terminal: u64, current: u64) -> f64
     ensures { result ≡ tau_of terminal current }
 {
-    let mut left: u64 = 0;
-    if current < terminal {
-        left = terminal - current;
-    }
-    std::num::nearest_u64_to_f64(left) / MILLISECONDS_PER_SECOND
+    std::num::nearest_u64_to_f64(terminal.saturating_sub(current)) / MILLISECONDS_PER_SECOND
 }

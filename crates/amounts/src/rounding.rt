@@ -9,10 +9,7 @@ ghost use Rattle.amounts.specs.Rounding.{billionths, to_billionths};
 ghost use Rattle.amounts.specs.Inner.{size_by, count_of};
 
 use crate::{BILLION, MAX_AMOUNT, refusals};
-use elementary::Refusal;
-
-// 2^52, the weight of a significand's leading digit.
-const HIDDEN: u64 = 4503599627370496;
+use elementary::{HIDDEN, Refusal};
 
 // 2^23, the high word's weight. Every divisor below is a number of high words.
 const WORD: u64 = 8388608;
@@ -67,7 +64,7 @@ fn counted(x: f64, cut: bool) -> u64
     requires in_range { (lt x (hex 0x3E10000000000000) ≡ false) × (lt x (hex 0x41D0000000000000) ≡ true) }
     ensures { result ≡ size_by cut x }
 {
-    let bits: u64 = f64::to_bits(x);
+    let bits = x.to_bits();
     let field = bits / HIDDEN;
     divided(
         times_billion(bits % HIDDEN + HIDDEN),

@@ -3,17 +3,15 @@ use Rattle.std.specs.Prelude.{Ok, Err}
 use mathlib.Core.Path.{◌≡◌, refl}
 use Prim.Native.Nat.{ℕ, zero, suc, ◌/◌, ◌<◌, ◌≤◌}
 use native.Mathlib.Omega.{arith}
-use mathlib.Core.List.{List, [], ◌∷◌}
+use mathlib.Core.List.{List, [], ◌∷◌, map}
 use lib.ListN.{length, get_or}
 use lib.IntN.{ℤ, nat_abs}
 use lib.Ieee.{Float}
 use borrow.Author.Tests.{leb-true}
-use Rattle.elementary.specs.Float.{hex}
 use Rattle.elementary.specs.Checks.{Verdict, passes, first_failing, check_of, Passes, none, each}
 use Rattle.elementary.proofs.Checks.{none_failing, check_passes, check_refused}
 use Rattle.distances.specs.Distances.{lent, place, exact_at, distance_checks, distances_if, exact_distances}
 use Rattle.operator.specs.Vectors.{at}
-use Rattle.distances.specs.Reading.{floats}
 use Rattle.distances.proofs.Holdings.{length_range, place_most}
 use Rattle.elementary.specs.declared.Refusal.{Refusal}
 
@@ -46,8 +44,8 @@ module _ (n : ℕ) (k base : Float) (q : ℤ) where
   unfolding exact_distances distances_if
   unreadable m h w o = rw (check_refused (read_verdict n k base q) m h)
 
--- ---- an entry that is lent by its bits
-pub at_floats : (l : List ℕ) (i : ℕ) → i < length l → at (floats l) i ≡ hex (get_or l i 0)
-at_floats [] i h = absurd (omega arith)
-at_floats (x ∷ l) zero h = refl
-at_floats (x ∷ l) (suc i) h = at_floats l i (omega arith)
+-- ---- an entry that is lent, by the float that it stands for
+pub at_map : {A : Type 0} (f : A → Float) (l : List A) (i : ℕ) (d : A) → i < length l → at (map f l) i ≡ f (get_or l i d)
+at_map f [] i d h = absurd (omega arith)
+at_map f (x ∷ l) zero d h = refl
+at_map f (x ∷ l) (suc i) d h = at_map f l i d (omega arith)

@@ -4,16 +4,18 @@ ghost use Rattle.vector.specs.Run.{bound_ok, run};
 ghost use Rattle.elementary.specs.Checks.{first_failing, check_of};
 ghost use Rattle.distances.specs.FloatEntry.{refused_entry, with_vector, answer_by, floats_ok, entry_checks};
 
+use crate::lent::{Lent, sides_at};
+use crate::places::Scale;
 use crate::refusals::HOLDING;
 use crate::{Answer, FloatAnswer, Sides};
 use elementary::Refusal;
 use vector::{Outcome, RunInput, ValueVector};
 
 // Whether the numbers of a call pass: refused by 5, then 1, then 4.
-pub(crate) fn check_entry(k: f64, base: f64, input: RunInput, q: i64) -> Result<(), Refusal>
-    ensures { result ≡ check_of (first_failing (entry_checks k base input q)) }
+pub(crate) fn check_entry(scale: Scale, input: RunInput, q: i64) -> Result<(), Refusal>
+    ensures { result ≡ check_of (first_failing (entry_checks scale.k scale.base input q)) }
 {
-    if crate::places::scale_fits(k, base) {
+    if crate::places::scale_fits(scale) {
         vector::check_input(input)?;
         if crate::within(q, input.bound) {
             return Ok(());
@@ -49,9 +51,9 @@ fn with_vector(vector: ValueVector, steps: u32, sides: Sides) -> FloatAnswer
 }
 
 // The answer where the numbers pass the checks.
-pub(crate) fn entry_within(k: f64, base: f64, input: RunInput, q: i64) -> FloatAnswer
-    requires { (floats_ok k base input ≡ true) × (bound_ok input.bound ≡ true) × (nat_abs q ≤ input.bound) }
-    ensures { result ≡ answer_by input.bound k base q (run input) }
+pub(crate) fn entry_within(scale: Scale, input: RunInput, q: i64) -> FloatAnswer
+    requires { (floats_ok scale.k scale.base input ≡ true) × (bound_ok input.bound ≡ true) × (nat_abs q ≤ input.bound) }
+    ensures { result ≡ answer_by input.bound scale.k scale.base q (run input) }
 {
     let a = vector::value_vector(input);
     let outcome = a.outcome;
@@ -59,18 +61,12 @@ pub(crate) fn entry_within(k: f64, base: f64, input: RunInput, q: i64) -> FloatA
     match outcome {
         Outcome::Done(steps) => {
             let place = crate::places::place_of(q, input.bound);
-            with_vector(
-                vector,
-                steps,
-                crate::places::sides_in(
-                    &a.vector.w,
-                    &a.vector.log_offset,
-                    a.vector.n,
-                    k,
-                    base,
-                    place,
-                ),
-            )
+            let v = Lent {
+                w: &a.vector.w,
+                log_offset: &a.vector.log_offset,
+                n: a.vector.n,
+            };
+            with_vector(vector, steps, sides_at(v, scale, place))
         }
         Outcome::OverCap(need, budget, steps) => FloatAnswer {
             answer: Answer::OverCap(need, budget, steps),

@@ -3,6 +3,8 @@ ghost use Rattle.std.specs.Prelude.{◌≡◌};
 ghost use Rattle.distances.specs.Distances.{lent};
 ghost use Rattle.distances.specs.Reading.{sides_with, read_by, answer_from};
 
+use crate::lent::Lent;
+use crate::places::Scale;
 use crate::{Answer, Sides};
 use vector::{MAX_DIM, Outcome, VectorAnswer};
 
@@ -30,10 +32,10 @@ pub fn answer_in<'a>(
     ensures { result ≡ read_by outcome (lent n w.now log_offset.now) k base q }
 {
     match outcome {
-        Outcome::Done(steps) => with_steps(
-            crate::places::distances_in(w, log_offset, n, k, base, q),
-            steps,
-        ),
+        Outcome::Done(steps) => {
+            let v = Lent { w, log_offset, n };
+            with_steps(crate::places::distances_in(v, Scale { k, base }, q), steps)
+        }
         Outcome::OverCap(need, budget, steps) => Answer::OverCap(need, budget, steps),
         Outcome::Refused(refusal) => Answer::Refused(refusal),
     }

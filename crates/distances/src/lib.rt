@@ -5,6 +5,7 @@
 mod entry;
 mod from_bits;
 mod from_vector;
+mod lent;
 mod places;
 pub mod refusals;
 
@@ -16,6 +17,8 @@ ghost use Rattle.distances.specs.Count.{step_count};
 use elementary::Refusal;
 pub use from_bits::answer_in_bits;
 pub use from_vector::{answer_from, answer_in};
+use lent::Lent;
+use places::Scale;
 use vector::{FirstPlan, RunInput, ValueVector};
 
 // A side's distance from the mid; at the bound one side is withheld.
@@ -44,8 +47,7 @@ pub struct FloatAnswer {
 pub fn within(q: i64, bound: u32) -> bool
     ensures { result ≡ within bound q }
 {
-    let b = bound as i64;
-    (0 - b <= q) & (q <= b)
+    q.unsigned_abs() <= u64::from(bound)
 }
 
 // Whether a side is absent or its distance finite.
@@ -62,7 +64,12 @@ pub fn is_fine(d: Distance) -> bool
 pub fn exact_distances(vector: ValueVector, k: f64, base: f64, q: i64) -> Sides
     ensures { result ≡ exact_distances vector k base q }
 {
-    places::distances_in(&vector.w, &vector.log_offset, vector.n, k, base, q)
+    let v = Lent {
+        w: &vector.w,
+        log_offset: &vector.log_offset,
+        n: vector.n,
+    };
+    places::distances_in(v, Scale { k, base }, q)
 }
 
 // The float entry: the value vector, the steps spent and the distances at q lots, or the cap report.
@@ -70,8 +77,9 @@ pub fn exact_distances(vector: ValueVector, k: f64, base: f64, q: i64) -> Sides
 pub fn float_entry(k: f64, base: f64, input: RunInput, q: i64) -> FloatAnswer
     ensures { result ≡ float_entry k base input q }
 {
-    match entry::check_entry(k, base, input, q) {
-        Ok(()) => entry::entry_within(k, base, input, q),
+    let scale = Scale { k, base };
+    match entry::check_entry(scale, input, q) {
+        Ok(()) => entry::entry_within(scale, input, q),
         Err(refusal) => entry::refused_entry(refusal),
     }
 }
@@ -81,7 +89,7 @@ pub fn float_entry(k: f64, base: f64, input: RunInput, q: i64) -> FloatAnswer
 pub fn step_count(k: f64, base: f64, input: RunInput, q: i64) -> FirstPlan
     ensures { result ≡ step_count k base input q }
 {
-    match entry::check_entry(k, base, input, q) {
+    match entry::check_entry(Scale { k, base }, input, q) {
         Ok(()) => vector::first_plan(input),
         Err(refusal) => FirstPlan::Refused(refusal),
     }

@@ -1,12 +1,12 @@
--- What a change of sign does to each operation and comparison, that the operands of a sum or a product can change places, and how a program tests that a value is finite.
+-- What a change of sign does to each operation and comparison, and that the operands of a sum or a product can change places.
 -- NaNs, infinities and values that no format holds are included. Assumes nothing.
-use Rattle.std.proofs.Common.{◌≡◌, ℕ, zero, suc, ◌+◌, ◌-◌, ◌*◌, ◌^◌, ◌<◌, Bool, true, false, cond, not, ◌||◌, T, eqb, ltb, pos, negsuc, sym, refl, ap, ◌∙◌, subst, ap₂, le_refl, mul_comm, add_comm, mul-pos, mul-one, arith, ltb-false, ltb-true, le-ltb, ne_eqb, eqb-true}
+use Rattle.std.proofs.Common.{◌≡◌, ℕ, zero, suc, ◌+◌, ◌-◌, ◌*◌, ◌^◌, ◌<◌, Bool, true, false, cond, not, ◌||◌, T, eqb, ltb, pos, negsuc, sym, refl, ap, ◌∙◌, subst, ap₂, mul_comm, add_comm, mul-one, arith, ltb-false, ltb-true, ne_eqb, eqb-true}
 use Prim.Native.Nat.compare
-use native.Mathlib.Nat.{zero-div, zero-mod, sub_self}
+use native.Mathlib.Nat.{zero-div, zero-mod}
 use mathlib.Core.Bool.{beq, not-not}
 use borrow.Author.Tests.{eqb-false}
-use lib.Ieee.{Float, nan, inf, fin, Format, binary32, binary64, prec, emax, low, up, down, unlike, span, climb, size, odd, units, round, neg, sum, add, sub, mul, div, below, level, lt, eq, le, of_int, of_bits, is_nan}
-use lib.Ieee.Fits.{down_pos, round_is}
+use lib.Ieee.{Float, nan, inf, fin, Format, binary32, binary64, prec, emax, low, up, down, unlike, span, climb, size, odd, units, round, neg, sum, add, sub, mul, div, below, level, lt, eq, le, of_int, is_nan}
+use lib.Ieee.Fits.{round_is}
 use Rattle.elementary.specs.Float.{finite}
 
 -- of plus sign, and no NaN: of the zeros +0 alone, and +infinity too
@@ -289,33 +289,9 @@ mul_finite f (fin s m e) nan h = absurd h
 mul_finite f (fin s m e) (inf t) h = absurd (no_product (eqb m 0) (unlike s t) h)
 mul_finite f (fin s m e) (fin t n d) h = (tt, tt)
 
--- ---- a value less itself is zero exactly where the value is finite
+-- ---- no units round to a zero
 pub round_zero : (f : Format) (s : Bool) (d : ℕ) → 0 < d → round f s 0 d ≡ fin s 0 (pos 0)
 unfolding round size span climb units odd
 round_zero f s zero h = absurd (omega arith)
 round_zero binary32 s (suc d) h = rw (zero-div (suc d), mul-one (suc d), zero-div (suc d), zero-mod (suc d), compare.zero-suc d)
 round_zero binary64 s (suc d) h = rw (zero-div (suc d), mul-one (suc d), zero-div (suc d), zero-mod (suc d), compare.zero-suc d)
-
-eq_zero : (f : Format) → eq (fin false 0 (pos 0)) (of_bits f 0) ≡ true
-unfolding eq of_bits
-eq_zero binary32 = refl
-eq_zero binary64 = refl
-
-less_itself : (f : Format) (s : Bool) (a c : ℕ) → sum f s a (not s) a c ≡ round f false 0 c
-unfolding sum
-less_itself f true a c = rw (le-ltb a a (le_refl a), sub_self a)
-less_itself f false a c = rw (le-ltb a a (le_refl a), sub_self a)
-
-pub finite_test : (f : Format) (x : Float) → eq (sub f x x) (of_bits f 0) ≡ finite x
-unfolding sub add neg finite eq
-finite_test f nan = refl
-finite_test f (inf true) = refl
-finite_test f (inf false) = refl
-finite_test f (fin s m e) = rw (less_itself f s (m * up e * down e) (down e * down e), round_zero f false (down e * down e) (mul-pos (down_pos e) (down_pos e))) (eq_zero f)
-
--- ---- what equals itself is no NaN
-pub equal_no_nan : (x : Float) → eq x x ≡ true → T (not (is_nan x))
-unfolding eq is_nan
-equal_no_nan nan h = subst T (sym h) tt
-equal_no_nan (inf s) h = tt
-equal_no_nan (fin s m e) h = tt

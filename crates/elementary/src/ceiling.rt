@@ -4,7 +4,8 @@ ghost use Rattle.std.specs.Float.Ieee.{neg, lt};
 ghost use Rattle.elementary.specs.Float.{finite, hex, 0ᶠ};
 ghost use Rattle.elementary.specs.Elementary.{ceil_of};
 
-// 2^52: a float of this size or more is a whole number.
+// 2^52: a float of this size or more is a whole number. It stands beside `HIDDEN`, since a constant's value
+// converts no integer to a float.
 const WHOLE: f64 = 4503599627370496.0;
 
 // Of a negative number the fraction is cut off, and the sign stays.

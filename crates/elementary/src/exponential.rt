@@ -80,7 +80,7 @@ pub(crate) fn exp_finite(x: f64) -> f64
     ensures { result ≡ exp_of (lt (whole (pos 709)) x) (lt x (whole (negsuc 707))) x }
 {
     if x > 709.0 {
-        return 1.0 / 0.0;
+        return f64::INFINITY;
     }
     if x < -708.0 {
         return 0.0;

@@ -14,14 +14,7 @@ ghost use Rattle.std.specs.Float.{binary64};
 ghost use Rattle.elementary.specs.Float.{finite, positive};
 ghost use Rattle.elementary.specs.Elementary.{told, or_nan, LN, LN1P, EXP, SQRT, CEIL};
 
-// The bits of a NaN.
-const NAN_BITS: u64 = 0x7FF8000000000000;
-
-// The sign's bit, and the bits of an infinity. Above these, the sign's bit taken off, are those of the
-// NaNs.
-const SIGN_BIT: u64 = 0x8000000000000000;
-
-const INFINITY_BITS: u64 = 0x7FF0000000000000;
+pub use split::HIDDEN;
 
 // Why a call is refused: a number of document 01's, and no more. It is no enum of those numbers: callers
 // hand any number to `Model::after`, `quotes_by` and the writers of lines, and each has its line.
@@ -38,11 +31,11 @@ pub fn or_nan(r: Option<f64>) -> f64
     r.unwrap_or(0.0 / 0.0)
 }
 
-// Whether x is neither a NaN nor an infinity: only then is x - x a zero.
+// Whether x is neither a NaN nor an infinity.
 pub fn is_finite(x: f64) -> bool
     ensures { result ≡ finite x }
 {
-    x - x == 0.0
+    x.is_finite()
 }
 
 // Whether x is finite and above zero.
@@ -56,20 +49,14 @@ pub fn is_positive_finite(x: f64) -> bool
 pub fn bits_of(x: f64) -> u64
     ensures { result ≡ to_bits binary64 x }
 {
-    if x == x {
-        return f64::to_bits(x);
-    }
-    NAN_BITS
+    std::num::f64_to_bits_with_nan(x)
 }
 
 // The float of any bits. All those of a NaN give the one NaN.
 pub fn float_of(bits: u64) -> f64
     ensures { result ≡ from_bits binary64 bits }
 {
-    if bits % SIGN_BIT > INFINITY_BITS {
-        return 0.0 / 0.0;
-    }
-    f64::from_bits(bits)
+    std::num::f64_from_bits_with_nan(bits)
 }
 
 // The natural logarithm of a positive finite number.

@@ -39,11 +39,9 @@ fn whole_root(m: u64) -> Digits
 {
     let mut d = Digits { root: 0, rest: 0 };
     let mut left = m;
-    let mut i: u32 = 0;
-    while i < 54 {
+    for _ in 0..54u32 {
         d = next_digit(d, left / crate::split::HIDDEN);
         left = left % crate::split::HIDDEN * 4;
-        i += 1;
     }
     d
 }

@@ -6,7 +6,7 @@ ghost use Rattle.elementary.specs.Float.{positive, count};
 ghost use Rattle.elementary.specs.Inner.{SplitOf};
 
 // 2^52, the weight of a significand's leading digit.
-pub(crate) const HIDDEN: u64 = 4503599627370496;
+pub const HIDDEN: u64 = 4503599627370496;
 
 // The 53 leading digits of n, and the count of its digits.
 #[derive(Clone, Copy)]
@@ -21,7 +21,7 @@ fn split_normal(x: f64) -> Parts
     requires normal { 53 ≤ size (count binary64 x) }
     ensures { SplitOf (count binary64 x) result.digits result.size }
 {
-    let bits: u64 = f64::to_bits(x);
+    let bits = x.to_bits();
     Parts {
         digits: bits % HIDDEN + HIDDEN,
         size: bits / HIDDEN + 52,
@@ -33,7 +33,7 @@ pub(crate) fn split(x: f64) -> Parts
     requires { T (positive x) }
     ensures { SplitOf (count binary64 x) result.digits result.size }
 {
-    if x < 2.2250738585072014e-308 {
+    if x < f64::MIN_POSITIVE {
         let s = split_normal(x * 18014398509481984.0);
         return Parts {
             digits: s.digits,

@@ -84,7 +84,7 @@ fn lots_fit(q: i64, lot_size: i64) -> bool
     ensures { result ≡ amount_ok (q *ℤ lot_size) }
 {
     let most = GLFTConfig::MAX_AMOUNT / lot_size;
-    (0 - most <= q) & (q <= most)
+    q.unsigned_abs() <= most.unsigned_abs()
 }
 
 // The exact quotes of so many lots from a reckoning, whose vector's n weights and offsets are lent: a

@@ -3,7 +3,7 @@ ghost use Rattle.std.specs.Prelude.{◌≡◌};
 ghost use Rattle.model.specs.Configuration.{config_limits, config_ok};
 
 use crate::GLFTConfig;
-use amounts::{amount_fits, is_positive};
+use amounts::{amount_fits, is_positive, time_fits};
 
 // Whether the amounts and the time are within their limits.
 pub(crate) fn within_limits(c: GLFTConfig) -> bool
@@ -15,7 +15,7 @@ pub(crate) fn within_limits(c: GLFTConfig) -> bool
         & amount_fits(c.lot_size)
         & amount_fits(c.min_spread)
         & amount_fits(c.drift)
-        & (c.terminal_time <= GLFTConfig::MAX_TIME)
+        & time_fits(c.terminal_time)
 }
 
 // Whether the configuration is valid.

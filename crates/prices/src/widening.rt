@@ -41,6 +41,7 @@ fn moved(least: i64, bid: Price, ask: Price) -> i64
     }
 }
 
+// Down from the mid, and the ask's up from it: one function for both would take the direction.
 fn bid_price(mid: i64, w: i64, bid: Price) -> Price
     requires { T (amount_ok mid) × (nat_abs w ≤ 3 * amount_limit) × T (each amount_ok bid) }
     ensures { result ≡ bid_price mid w bid }

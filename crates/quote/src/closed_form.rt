@@ -14,6 +14,7 @@ fn slope_of(m: Model) -> f64
     elementary::or_nan(elementary::sqrt(m.sigma2 * m.gamma / (2.0 * m.k * m.a) * growth))
 }
 
+// Two formulas, as the document has them: one function for both would take their signs.
 fn bid_of(allowed: bool, base: f64, c: f64, q: f64) -> Distance
     ensures { result ≡ form_bid allowed base c q }
 {
@@ -38,10 +39,10 @@ pub(crate) fn distances(m: Model, q: i64) -> Sides
 {
     let c = slope_of(m);
     if elementary::is_positive_finite(c) {
-        let bound = m.q_max as i64;
+        let bound = i64::from(m.q_max);
         let qf = std::num::nearest_i64_to_f64(q);
         let bid = bid_of(q < bound, m.base, c, qf);
-        let ask = ask_of(0 - bound < q, m.base, c, qf);
+        let ask = ask_of(-bound < q, m.base, c, qf);
         if distances::is_fine(bid) & distances::is_fine(ask) {
             return Ok((bid, ask));
         }

@@ -1,16 +1,16 @@
 -- A row whose arrays are lent, and a call by what its checks say, its model and the row that is found. Assumes nothing.
 use Rattle.std.specs.Prelude.{Some, None, Result, Ok, Err}
 use mathlib.Core.Path.{◌≡◌, sym, ap, ◌∙◌}
-use Prim.Native.Nat.{ℕ, ◌+◌, ◌-◌, ◌<◌, ◌≤◌}
+use Prim.Native.Nat.{ℕ, ◌+◌, ◌-◌, ◌≤◌}
 use native.Mathlib.Omega.{arith}
 use mathlib.Core.Bool.{true}
 use mathlib.Core.List.{List}
-use lib.ListN.{length, get_or, take, drop, length-map, length-drop}
+use lib.ListN.{length, take, drop, length-map, length-drop}
 use lib.Seq.{length-take-le, get_or-take, get_or-drop}
 use lib.IntN.{ℤ}
 use lib.Ieee.{Float}
 use Rattle.elementary.specs.Float.{hex}
-use Rattle.elementary.specs.Checks.{passes, refused, first_failing, check_of, by}
+use Rattle.elementary.specs.Checks.{first_failing, check_of}
 use Rattle.elementary.proofs.Checks.{check_passes, check_refused, none_failing}
 use Rattle.operator.specs.Vectors.{at, tab}
 use Rattle.operator.proofs.Lists.{tab_own, tab_ext}
@@ -20,15 +20,14 @@ use Rattle.vector.specs.Values.{value_vector}
 use Rattle.vector.specs.declared.Outcome.TheVariants as Outcome
 use Rattle.distances.specs.Distances.{lent}
 use Rattle.distances.specs.Reading.{floats, read_by, answer_from}
-use Rattle.distances.proofs.Readable.{at_floats}
+use Rattle.distances.proofs.Readable.{at_map}
 use Rattle.amounts.specs.Amounts.{tau_of}
 use Rattle.model.specs.Model.{input_of, exact_model}
 use Rattle.model.specs.declared.GLFTConfig.{GLFTConfig}
 use Rattle.model.specs.declared.Model.{Model}
 use Rattle.quote.specs.Quotes.{quotes_by_answer}
 use Rattle.quote.specs.declared.ExactQuotes.{ExactQuotes}
-use Rattle.quote.specs.declared.ExactQuotes.TheVariants as ExactQuotes
-use Rattle.table.specs.Places.{table_room, row_at, steps_at, length_at, weight_at, offset_at}
+use Rattle.table.specs.Places.{table_room, row_at, steps_at, weight_at, offset_at}
 use Rattle.table.specs.Table.{number, row_vector, row_ok, table_ok, table_checks, found, vector_in, kept_in, used_with, used_if, table_used}
 use Rattle.table.proofs.Checked.{table_passed}
 use Rattle.table.proofs.FirstRow.{found_row}
@@ -41,7 +40,7 @@ part_floats t a n h =
     let l = take n (drop a t) in
     let e : length l ≡ n = length-take-le n (drop a t) (rw (length-drop a t) (omega arith)) in
     tab_own n (floats l) (length-map l hex ∙ e)
-    ∙ tab_ext n (at (floats l)) (λ i. hex (number t (a + i))) (λ i k. at_floats l i (omega (arith, e)) ∙ ap hex (get_or-take n (drop a t) i 0 k ∙ get_or-drop a t i 0))
+    ∙ tab_ext n (at (floats l)) (λ i. hex (number t (a + i))) (λ i k. at_map hex l i 0 (omega (arith, e)) ∙ ap hex (get_or-take n (drop a t) i 0 k ∙ get_or-drop a t i 0))
 
 -- a row from its first number on, its arrays lent
 module _ (t : List ℕ) (r p : ℕ) (e : p ≡ row_at r) (long : table_room ≤ length t) (h : r ≤ 3) where

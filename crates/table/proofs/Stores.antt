@@ -1,12 +1,11 @@
--- What the stores of the writers leave: of zeros, of the bits of floats, and of a row's numbers. Assumes nothing.
-use Rattle.std.specs.Prelude.{Ok, Err}
+-- What the stores of the writers leave: of the bits of floats, and of a row's numbers. Assumes nothing.
 use mathlib.Core.Path.{◌≡◌, refl, sym, ap, ◌∙◌}
 use mathlib.Core.List.{List, [], ◌∷◌, ◌++◌, map, append-nil}
 use Prim.Native.Nat.{ℕ, zero, suc, ◌+◌, ◌-◌, ◌%◌, min, ◌<◌, ◌≤◌}
 use native.Mathlib.Numerals.{add-one}
 use native.Mathlib.Omega.{arith}
 use borrow.Author.Tests.{le-leb, lt-leb}
-use lib.ListN.{length, get_or, set, take, drop, replicate, length-set, length-map, length-replicate, get_or-replicate, drop_of_length-le, length-drop}
+use lib.ListN.{length, get_or, set, take, drop, replicate, length-set, length-map, drop_of_length-le, length-drop}
 use lib.Seq.{length-take-le, take_all, take_at, take-suc, drop_at, drop-cons, drop-drop, set_at, append_snoc, sets-eq}
 use borrow.Rule.Slice.PartMut.{put_mid}
 use lib.Ieee.{Float, nan}
@@ -42,13 +41,6 @@ stored_more l s out i v d h e =
 
 pub stored_all : (l s out : List ℕ) (i : ℕ) → Stored l s out i → length out ≤ i → out ≡ s
 stored_all l s out i d h = d.is ∙ rw (take_all i s (omega arith), drop_of_length-le l {i = i} (omega arith), append-nil)
-
--- zeros
-pub zeros_none : (l : List ℕ) → Stored l (replicate (length l) 0) l 0
-zeros_none l = stored_none l (replicate (length l) 0) (sym (length-replicate (length l) 0))
-
-pub zeros_more : (l out : List ℕ) (i : ℕ) → Stored l (replicate (length l) 0) out i → i < length out → Stored l (replicate (length l) 0) (set out i 0) (i + 1)
-zeros_more l out i d h = stored_more l (replicate (length l) 0) out i 0 d h (sym (get_or-replicate (length l) i 0 0 (omega arith)))
 
 -- the bits of floats
 pub number_bits : (l : List Float) (i : ℕ) → i < length l → number (map bits l) i ≡ bits (get_or l i nan)

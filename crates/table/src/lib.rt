@@ -19,6 +19,7 @@ use model::{GLFTConfig, Model};
 pub use places::TABLE_ROOM;
 use quote::{ExactQuotes, quotes_by};
 use vector::RunInput;
+use writing::Kept;
 
 // Sets every number of a table to 0: refused by 23, and by nothing else.
 pub fn clear_table(table: &mut [u64]) -> Result<(), Refusal>
@@ -37,13 +38,12 @@ fn made_quotes(
     table: &mut [u64],
     mid: i64,
     least: i64,
-    k: f64,
-    base: f64,
+    m: Model,
     q: i64,
     input: RunInput,
 ) -> ExactQuotes
     requires { (table_room ≤ length table.old) × (table_ok table.old ≡ true) }
-    ensures value { result ≡ quotes_by_answer mid least (answer_from (value_vector input) k base q) }
+    ensures value { result ≡ quotes_by_answer mid least (answer_from (value_vector input) m.k m.base q) }
     ensures table_after { table.new ≡ kept_in None result input (value_vector input).vector table.old }
 {
     let a = vector::value_vector(input);
@@ -53,21 +53,21 @@ fn made_quotes(
         &a.vector.w,
         &a.vector.log_offset,
         a.vector.n,
-        k,
-        base,
+        m.k,
+        m.base,
         q,
     );
     let quotes = quotes_by(mid, least, answer);
     match quotes {
         ExactQuotes::Quotes(_, steps) => {
-            writing::add_row(
-                table,
+            let kept = Kept {
                 input,
                 steps,
-                a.vector.n,
-                &a.vector.w,
-                &a.vector.log_offset,
-            );
+                n: a.vector.n,
+                w: &a.vector.w,
+                log_offset: &a.vector.log_offset,
+            };
+            writing::add_row(table, kept);
         }
         ExactQuotes::OverStepCap(_, _, _) => {}
         ExactQuotes::Refused(_) => {}
@@ -83,8 +83,8 @@ fn model_quotes(table: &mut [u64], mid: i64, least: i64, m: Model, q: i64, tau: 
 {
     let input = model::run_input(m, tau);
     match rows::find(table, input) {
-        Some(r) => quotes_by(mid, least, rows::answer_of_row(table, r, m.k, m.base, q)),
-        None => made_quotes(table, mid, least, m.k, m.base, q, input),
+        Some(r) => quotes_by(mid, least, rows::answer_of_row(table, r, m, q)),
+        None => made_quotes(table, mid, least, m, q, input),
     }
 }
 

@@ -13,6 +13,7 @@ use crate::places::{
 use crate::refusals::{BAD_TABLE, SMALL_TABLE};
 use distances::Answer;
 use elementary::{Refusal, bits_of};
+use model::Model;
 use vector::{MAX_EXPM_STEPS, MAX_INVENTORY_LOTS, RunInput};
 
 // Whether the two counts are such as calls leave them.
@@ -29,10 +30,10 @@ fn row_fits(table: &[u64], r: usize) -> bool
 {
     let at = row_at(r);
     let bound = table[at + BOUND];
-    if (MAX_INVENTORY_LOTS as u64) < bound {
+    if u64::from(MAX_INVENTORY_LOTS) < bound {
         return false;
     }
-    (table[at + STEPS] <= MAX_EXPM_STEPS as u64)
+    (table[at + STEPS] <= u64::from(MAX_EXPM_STEPS))
         & ((1 <= bound) & (table[at + LENGTH] == 2 * bound + 1))
 }
 
@@ -41,14 +42,7 @@ fn rows_fit(table: &[u64], n: usize) -> bool
     requires { (table_room ≤ length table.now) × (n ≤ rows_kept) }
     ensures { result ≡ every n (row_ok table.now) }
 {
-    let mut r: usize = 0;
-    while r < n {
-        if !row_fits(table, r) {
-            return false;
-        }
-        r += 1;
-    }
-    true
+    (0..n).all(|r| row_fits(table, r))
 }
 
 // Whether a table passes the check of 24: an unfilled row is not looked at, and no float.
@@ -82,7 +76,7 @@ fn row_agrees(table: &[u64], r: usize, input: RunInput) -> bool
     ensures { result ≡ agrees table.now input r }
 {
     let at = row_at(r);
-    (table[at + BOUND] == input.bound as u64)
+    (table[at + BOUND] == u64::from(input.bound))
         & (table[at + ALPHA] == bits_of(input.alpha))
         & (table[at + BETA] == bits_of(input.beta))
         & (table[at + ETA] == bits_of(input.eta))
@@ -95,20 +89,18 @@ pub(crate) fn find(table: &[u64], input: RunInput) -> Option<usize>
     ensures { result ≡ found table.now input }
 {
     let rows = table[FILLED] as usize;
-    let mut r: usize = 0;
-    while r < rows {
+    for r in 0..rows {
         if row_agrees(table, r, input) {
             return Some(r);
         }
-        r += 1;
     }
     None
 }
 
 // The answer at q lots from a row as it stands, whose weights and offsets are lent: none is copied.
-pub(crate) fn answer_of_row(table: &[u64], r: usize, k: f64, base: f64, q: i64) -> Answer
+pub(crate) fn answer_of_row(table: &[u64], r: usize, m: Model, q: i64) -> Answer
     requires { (table_room ≤ length table.now) × (r ≤ 3) × (row_ok table.now r ≡ true) }
-    ensures { result ≡ answer_from (row_vector table.now r) k base q }
+    ensures { result ≡ answer_from (row_vector table.now r) m.k m.base q }
 {
     let at = row_at(r);
     distances::answer_in_bits(
@@ -116,8 +108,8 @@ pub(crate) fn answer_of_row(table: &[u64], r: usize, k: f64, base: f64, q: i64) 
         &table[at + WEIGHTS..at + OFFSETS],
         &table[at + OFFSETS..at + ROW],
         table[at + LENGTH] as usize,
-        k,
-        base,
+        m.k,
+        m.base,
         q,
     )
 }

@@ -15,11 +15,7 @@ use vector::RunInput;
 pub(crate) fn set_zeros(out: &mut [u64])
     ensures { out.new ≡ replicate (length out.old) 0 }
 {
-    let mut i: usize = 0;
-    while i < out.len() {
-        out[i] = 0;
-        i += 1;
-    }
+    out.fill(0);
 }
 
 // The bits of as many floats.
@@ -27,37 +23,44 @@ fn write_bits(out: &mut [u64], floats: &[f64])
     requires { length out.old ≡ length floats.now }
     ensures { out.new ≡ map bits floats.now }
 {
-    let mut i: usize = 0;
-    while i < out.len() {
-        out[i] = bits_of(floats[i]);
-        i += 1;
+    // By index: of `iter_mut` under `zip` a proof knows no value that is written.
+    for (i, x) in floats.iter().enumerate() {
+        out[i] = bits_of(*x);
     }
 }
 
+// What a row keeps: what its vector was made from, the steps that it took, and its n weights and offsets.
+#[derive(Clone, Copy)]
+pub(crate) struct Kept<'a> {
+    pub(crate) input: RunInput,
+    pub(crate) steps: u32,
+    pub(crate) n: usize,
+    pub(crate) w: &'a [f64],
+    pub(crate) log_offset: &'a [f64],
+}
+
 // The numbers of a row: the steps, the vector's length, what it was made from, weights and offsets.
-fn write_row<'a>(row: &mut [u64], input: RunInput, steps: u32, n: usize, w: &'a [f64], o: &'a [f64])
-    requires { (length row.old ≡ row_size) × (length w.now ≡ room) × (length o.now ≡ room) }
-    ensures { row.new ≡ row_numbers input steps (lent n w.now o.now) }
+fn write_row(row: &mut [u64], kept: Kept<'_>)
+    requires { (length row.old ≡ row_size) × (length kept.w.now ≡ room) × (length kept.log_offset.now ≡ room) }
+    ensures { row.new ≡ row_numbers kept.entry.input kept.entry.steps (lent kept.entry.n kept.entry.w.now kept.entry.log_offset.now) }
 {
-    row[STEPS] = steps as u64;
-    row[LENGTH] = n as u64;
-    row[BOUND] = input.bound as u64;
+    let input = kept.input;
+    row[STEPS] = u64::from(kept.steps);
+    row[LENGTH] = kept.n as u64;
+    row[BOUND] = u64::from(input.bound);
     row[ALPHA] = bits_of(input.alpha);
     row[BETA] = bits_of(input.beta);
     row[ETA] = bits_of(input.eta);
     row[TAU] = bits_of(input.tau);
-    write_bits(&mut row[WEIGHTS..OFFSETS], w);
-    write_bits(&mut row[OFFSETS..ROW], o);
+    write_bits(&mut row[WEIGHTS..OFFSETS], kept.w);
+    write_bits(&mut row[OFFSETS..ROW], kept.log_offset);
 }
 
 // One row more, of four at the most.
 fn one_more(filled: u64) -> u64
     ensures { result ≡ min rows_kept (suc filled) }
 {
-    if filled < ROWS {
-        return filled + 1;
-    }
-    ROWS
+    filled.saturating_add(1).min(ROWS)
 }
 
 // The row after a row, the first after the last.
@@ -69,20 +72,13 @@ fn row_after(next: u64) -> u64
 }
 
 // Puts a vector into the next row, which is the oldest where all are filled.
-pub(crate) fn add_row<'a>(
-    table: &mut [u64],
-    input: RunInput,
-    steps: u32,
-    n: usize,
-    w: &'a [f64],
-    o: &'a [f64],
-)
-    requires { (table_room ≤ length table.old) × (next table.old ≤ 3) × (length w.now ≡ room) × (length o.now ≡ room) }
-    ensures { table.new ≡ with_row input steps (lent n w.now o.now) table.old }
+pub(crate) fn add_row(table: &mut [u64], kept: Kept<'_>)
+    requires { (table_room ≤ length table.old) × (next table.old ≤ 3) × (length kept.w.now ≡ room) × (length kept.log_offset.now ≡ room) }
+    ensures { table.new ≡ with_row kept.entry.input kept.entry.steps (lent kept.entry.n kept.entry.w.now kept.entry.log_offset.now) table.old }
 {
     let next = table[NEXT];
     let at = row_at(next as usize);
     table[FILLED] = one_more(table[FILLED]);
     table[NEXT] = row_after(next);
-    write_row(&mut table[at..at + ROW], input, steps, n, w, o);
+    write_row(&mut table[at..at + ROW], kept);
 }

@@ -1,6 +1,13 @@
-use lib.Ieee.{binary64}
-use Rattle.elementary.proofs.Signs.{finite_test}
+use Rattle.std.proofs.Common.{◌≡◌, refl, ◌∙◌}
+use Rattle.std.specs.Float.{Float, nan, inf, fin, float_is_finite}
+use Rattle.elementary.specs.Float.{finite}
 use Rattle.elementary.proofs.is_finite.Goals as goal
 
+same : (x : Float) → float_is_finite x ≡ finite x
+unfolding float_is_finite finite
+same nan = refl
+same (inf s) = refl
+same (fin s m e) = refl
+
 pub returns : goal.returns
-returns c = finite_test binary64 c.args.x
+returns c = c.is_finite.ensures.value ∙ same c.args.x

@@ -17,17 +17,17 @@ add_row-requires c =
 pub returns-in-Quotes : goal.returns-in-Quotes
 unfolding kept_in answer_from
 returns-in-Quotes c =
-    let quotes-are : let a = c.args in c.quotes_by-quotes.result ≡ quotes_by_answer a.mid a.least (answer_from (value_vector a.input) a.k a.base a.q) = rw (c.quotes_by-quotes.ensures, to_z-of_z c.ranges.mid, to_z-of_z c.ranges.least, c.answer_in-answer.ensures, to_z-of_z c.ranges.q, c.value_vector-a.ensures) in
+    let quotes-are : let a = c.args in c.quotes_by-quotes.result ≡ quotes_by_answer a.mid a.least (answer_from (value_vector a.input) a.m.k a.m.base a.q) = rw (c.quotes_by-quotes.ensures, to_z-of_z c.ranges.mid, to_z-of_z c.ranges.least, c.answer_in-answer.ensures, to_z-of_z c.ranges.q, c.value_vector-a.ensures) in
     record { value = sym c.in-Quotes.is ∙ quotes-are; table_after = rw (← c.value_vector-a.ensures) c.add_row.ensures }
 
 pub returns-in-OverStepCap : goal.returns-in-OverStepCap
 unfolding kept_in answer_from
 returns-in-OverStepCap c =
-    let quotes-are : let a = c.args in c.quotes_by-quotes.result ≡ quotes_by_answer a.mid a.least (answer_from (value_vector a.input) a.k a.base a.q) = rw (c.quotes_by-quotes.ensures, to_z-of_z c.ranges.mid, to_z-of_z c.ranges.least, c.answer_in-answer.ensures, to_z-of_z c.ranges.q, c.value_vector-a.ensures) in
+    let quotes-are : let a = c.args in c.quotes_by-quotes.result ≡ quotes_by_answer a.mid a.least (answer_from (value_vector a.input) a.m.k a.m.base a.q) = rw (c.quotes_by-quotes.ensures, to_z-of_z c.ranges.mid, to_z-of_z c.ranges.least, c.answer_in-answer.ensures, to_z-of_z c.ranges.q, c.value_vector-a.ensures) in
     record { value = quotes-are; table_after = rw c.in-OverStepCap.is }
 
 pub returns-in-Refused : goal.returns-in-Refused
 unfolding kept_in answer_from
 returns-in-Refused c =
-    let quotes-are : let a = c.args in c.quotes_by-quotes.result ≡ quotes_by_answer a.mid a.least (answer_from (value_vector a.input) a.k a.base a.q) = rw (c.quotes_by-quotes.ensures, to_z-of_z c.ranges.mid, to_z-of_z c.ranges.least, c.answer_in-answer.ensures, to_z-of_z c.ranges.q, c.value_vector-a.ensures) in
+    let quotes-are : let a = c.args in c.quotes_by-quotes.result ≡ quotes_by_answer a.mid a.least (answer_from (value_vector a.input) a.m.k a.m.base a.q) = rw (c.quotes_by-quotes.ensures, to_z-of_z c.ranges.mid, to_z-of_z c.ranges.least, c.answer_in-answer.ensures, to_z-of_z c.ranges.q, c.value_vector-a.ensures) in
     record { value = quotes-are; table_after = rw c.in-Refused.is }

@@ -4,6 +4,7 @@ use native.Mathlib.Omega.{arith}
 use lib.IntN.{ℤ}
 use lib.Ieee.{Float}
 use mir.Facts.{to_z-of_z}
+use Rattle.std.proofs.lemmas.List.{map-id}
 use Rattle.vector.specs.Run.{Ended, vector, over_cap, failed, run}
 use Rattle.operator.specs.Operator.{rows}
 use Rattle.vector.specs.Values.{vector_of, refused_vector, vector_by}
@@ -39,9 +40,9 @@ done-length n s (vector w o t) h = refl
 done-length n s (over_cap need l) h = cc
 done-length n s (failed t) h = cc
 
-pub sides_in-requires : goal.sides_in-requires
-sides_in-requires c =
-    let come : let a = c.args in c.value_vector-a.result ≡ vector_by (rows a.input.bound) (run a.input) = let s = c in c.value_vector-a.ensures ∙ vector_is s.args.k s.args.base s.args.input s.requires.0 s.requires.1 in
+pub sides_at-requires : goal.sides_at-requires
+sides_at-requires c =
+    let come : let a = c.args in c.value_vector-a.result ≡ vector_by (rows a.input.bound) (run a.input) = let s = c in c.value_vector-a.ensures ∙ vector_is s.args.scale.k s.args.scale.base s.args.input s.requires.0 s.requires.1 in
     let full : (s : ℕ) → c.value_vector-a.result.outcome ≡ Outcome.Done s → c.value_vector-a.result.vector.n ≡ rows c.args.input.bound = λ s h. let a = c.args in
     rw come (done-length (rows a.input.bound) s (run a.input) (rw come at h)) in
     let p = c in
@@ -54,23 +55,23 @@ sides_in-requires c =
 pub returns-in-Done : goal.returns-in-Done
 unfolding entry
 returns-in-Done c =
-    let come : let a = c.args in c.value_vector-a.result ≡ vector_by (rows a.input.bound) (run a.input) = c.value_vector-a.ensures ∙ vector_is c.args.k c.args.base c.args.input c.requires.0 c.requires.1 in
-    let ended : let a = c.args in answer_by a.input.bound a.k a.base a.q (run a.input) ≡ entry a.input.bound a.k a.base a.q c.value_vector-a.result.outcome c.value_vector-a.result.vector = let a = c.args in
-    rw come (entry-is a.input.bound a.k a.base a.q (run a.input)) in
-    rw (ended, c.in-Done.is, c.with_vector.ensures, c.sides_in.ensures, c.place_of-place.ensures, to_z-of_z c.ranges.q)
+    let come : let a = c.args in c.value_vector-a.result ≡ vector_by (rows a.input.bound) (run a.input) = c.value_vector-a.ensures ∙ vector_is c.args.scale.k c.args.scale.base c.args.input c.requires.0 c.requires.1 in
+    let ended : let a = c.args in answer_by a.input.bound a.scale.k a.scale.base a.q (run a.input) ≡ entry a.input.bound a.scale.k a.scale.base a.q c.value_vector-a.result.outcome c.value_vector-a.result.vector = let a = c.args in
+    rw come (entry-is a.input.bound a.scale.k a.scale.base a.q (run a.input)) in
+    rw (ended, c.in-Done.is, c.with_vector.ensures, c.sides_at.ensures, c.place_of-place.ensures, to_z-of_z c.ranges.q, map-id c.value_vector-a.result.vector.w, map-id c.value_vector-a.result.vector.log_offset)
 
 pub returns-in-OverCap : goal.returns-in-OverCap
 unfolding entry
 returns-in-OverCap c =
-    let come : let a = c.args in c.value_vector-a.result ≡ vector_by (rows a.input.bound) (run a.input) = c.value_vector-a.ensures ∙ vector_is c.args.k c.args.base c.args.input c.requires.0 c.requires.1 in
-    let ended : let a = c.args in answer_by a.input.bound a.k a.base a.q (run a.input) ≡ entry a.input.bound a.k a.base a.q c.value_vector-a.result.outcome c.value_vector-a.result.vector = let a = c.args in
-    rw come (entry-is a.input.bound a.k a.base a.q (run a.input)) in
+    let come : let a = c.args in c.value_vector-a.result ≡ vector_by (rows a.input.bound) (run a.input) = c.value_vector-a.ensures ∙ vector_is c.args.scale.k c.args.scale.base c.args.input c.requires.0 c.requires.1 in
+    let ended : let a = c.args in answer_by a.input.bound a.scale.k a.scale.base a.q (run a.input) ≡ entry a.input.bound a.scale.k a.scale.base a.q c.value_vector-a.result.outcome c.value_vector-a.result.vector = let a = c.args in
+    rw come (entry-is a.input.bound a.scale.k a.scale.base a.q (run a.input)) in
     rw (ended, c.in-OverCap.is)
 
 pub returns-in-Refused : goal.returns-in-Refused
 unfolding entry
 returns-in-Refused c =
-    let come : let a = c.args in c.value_vector-a.result ≡ vector_by (rows a.input.bound) (run a.input) = c.value_vector-a.ensures ∙ vector_is c.args.k c.args.base c.args.input c.requires.0 c.requires.1 in
-    let ended : let a = c.args in answer_by a.input.bound a.k a.base a.q (run a.input) ≡ entry a.input.bound a.k a.base a.q c.value_vector-a.result.outcome c.value_vector-a.result.vector = let a = c.args in
-    rw come (entry-is a.input.bound a.k a.base a.q (run a.input)) in
+    let come : let a = c.args in c.value_vector-a.result ≡ vector_by (rows a.input.bound) (run a.input) = c.value_vector-a.ensures ∙ vector_is c.args.scale.k c.args.scale.base c.args.input c.requires.0 c.requires.1 in
+    let ended : let a = c.args in answer_by a.input.bound a.scale.k a.scale.base a.q (run a.input) ≡ entry a.input.bound a.scale.k a.scale.base a.q c.value_vector-a.result.outcome c.value_vector-a.result.vector = let a = c.args in
+    rw come (entry-is a.input.bound a.scale.k a.scale.base a.q (run a.input)) in
     rw (ended, c.in-Refused.is, c.refused_entry.ensures)

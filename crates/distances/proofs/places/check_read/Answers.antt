@@ -20,7 +20,7 @@ overflow_cast-n c =
 pub returns-then-within : goal.returns-then-within
 unfolding first_failing first_of verdict check_of
 returns-then-within c =
-    let scaled : (positive c.args.k && positive c.args.base) ≡ true = sym c.scale_fits.ensures ∙ c.if-scale_fits.true in
+    let scaled : (positive c.args.scale.k && positive c.args.scale.base) ≡ true = sym c.scale_fits.ensures ∙ c.if-scale_fits.true in
     let sized : length_ok c.args.n ≡ true = sym c.length_fits.ensures ∙ c.if-length_fits.true in
     let held : let a = c.args in leb (nat_abs a.q) (a.n / 2) ≡ c.within.result = sym (c.within.ensures ∙ ap (λ (z : ℤ). leb (nat_abs z) (c.args.n / 2)) (to_z-of_z c.ranges.q)) in
     rw (scaled, sized, held, c.if-within.true)
@@ -28,7 +28,7 @@ returns-then-within c =
 pub returns-then-length_fits : goal.returns-then-length_fits
 unfolding first_failing first_of verdict check_of
 returns-then-length_fits c =
-    let scaled : (positive c.args.k && positive c.args.base) ≡ true = sym c.scale_fits.ensures ∙ c.if-scale_fits.true in
+    let scaled : (positive c.args.scale.k && positive c.args.scale.base) ≡ true = sym c.scale_fits.ensures ∙ c.if-scale_fits.true in
     let sized : length_ok c.args.n ≡ true = sym c.length_fits.ensures ∙ c.if-length_fits.true in
     let held : let a = c.args in leb (nat_abs a.q) (a.n / 2) ≡ c.within.result = sym (c.within.ensures ∙ ap (λ (z : ℤ). leb (nat_abs z) (c.args.n / 2)) (to_z-of_z c.ranges.q)) in
     rw (scaled, sized, held, c.if-within.false)
@@ -36,7 +36,7 @@ returns-then-length_fits c =
 pub returns-then-scale_fits : goal.returns-then-scale_fits
 unfolding first_failing first_of verdict check_of
 returns-then-scale_fits c =
-    let scaled : (positive c.args.k && positive c.args.base) ≡ true = sym c.scale_fits.ensures ∙ c.if-scale_fits.true in
+    let scaled : (positive c.args.scale.k && positive c.args.scale.base) ≡ true = sym c.scale_fits.ensures ∙ c.if-scale_fits.true in
     rw (scaled, ← c.length_fits.ensures, c.if-length_fits.false)
 
 pub returns : goal.returns

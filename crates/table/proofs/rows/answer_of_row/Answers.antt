@@ -13,4 +13,4 @@ overflow_cast-table c =
 pub returns : goal.returns
 returns c =
     let a = c.args in
-    rw (c.answer_in_bits.ensures, to_z-of_z c.ranges.q) (row_read a.table.now a.r _ c.row_at-at.ensures c.requires.0 c.requires.1 a.k a.base a.q)
+    rw (c.answer_in_bits.ensures, to_z-of_z c.ranges.q) (row_read a.table.now a.r _ c.row_at-at.ensures c.requires.0 c.requires.1 a.m.k a.m.base a.q)

@@ -1,17 +1,15 @@
 use mathlib.Core.Path.{sym, ◌∙◌}
-use Prim.Native.Nat.{◌-◌}
-use native.Mathlib.Omega.{arith}
 use Rattle.table.proofs.Looking.{first_all, first_here, first_on, first_none}
 use Rattle.table.proofs.rows.find.Goals as goal
 
 pub loop-r-init : goal.loop-r-init
-loop-r-init c = (omega arith, first_all _ _)
+loop-r-init c = first_all _ _
 
 pub returns-then-row_agrees : goal.returns-then-row_agrees
-returns-then-row_agrees c = sym (c.loop-r.invariant.1 ∙ first_here _ _ _ c.loop-r-test.true (sym c.row_agrees.ensures ∙ c.if-row_agrees.true))
+returns-then-row_agrees c = sym (c.loop-r.invariant ∙ first_here _ _ _ c.loop-r-test.true (sym c.row_agrees.ensures ∙ c.if-row_agrees.true))
 
 pub loop-r-preserved : goal.loop-r-preserved
-loop-r-preserved c = (omega arith, c.loop-r.invariant.1 ∙ first_on _ _ _ c.loop-r-test.true (sym c.row_agrees.ensures ∙ c.if-row_agrees.false))
+loop-r-preserved c = c.loop-r.invariant ∙ first_on _ _ _ c.loop-r-test.true (sym c.row_agrees.ensures ∙ c.if-row_agrees.false)
 
 pub returns : goal.returns
-returns c = sym (c.loop-r.invariant.1 ∙ first_none _ _ _ c.loop-r-test.false)
+returns c = sym (c.loop-r.invariant ∙ first_none _ _ _ c.loop-r-test.false)

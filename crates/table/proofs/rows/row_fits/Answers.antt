@@ -2,8 +2,8 @@
 use Rattle.table.proofs.Looking.{row_far, row_near}
 use Rattle.table.proofs.rows.row_fits.Goals as goal
 
-pub returns-then-bound : goal.returns-then-bound
-returns-then-bound c = row_far _ _ _ c.row_at-at.ensures c.if-bound.true
+pub returns-then-from-bound : goal.returns-then-from-bound
+returns-then-from-bound c = row_far _ _ _ c.row_at-at.ensures (rw c.from.ensures at c.if-from-bound.true)
 
 pub returns : goal.returns
-returns c = row_near _ _ _ c.row_at-at.ensures c.if-bound.false
+returns c = rw c.from-2.ensures (row_near _ _ _ c.row_at-at.ensures (rw c.from.ensures at c.if-from-bound.false))

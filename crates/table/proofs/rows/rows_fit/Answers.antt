@@ -1,19 +1,18 @@
-use mathlib.Core.Path.{sym, ◌∙◌}
-use mathlib.Core.Bool.{true}
-use Prim.Native.Nat.{◌-◌}
-use native.Mathlib.Omega.{arith}
-use Rattle.operator.proofs.Lists.{every_fails}
-use Rattle.operator.proofs.Loops.{every_zero, every_suc, every_at}
+use Rattle.std.proofs.Common.{◌≡◌, ℕ, zero, suc, Bool, ◌&&◌, refl, ap, ◌∙◌, add-one, arith, rules}
+use Rattle.std.specs.List.{list_all, range_with_len}
+use Rattle.std.proofs.lemmas.Iterator.{YieldsList-from_range}
+use Rattle.std.proofs.lemmas.Iterator.Search.{all_from_yields_List}
+use Rattle.operator.specs.Vectors.{every_from}
+use Rattle.table.specs.Table.{row_ok}
 use Rattle.table.proofs.rows.rows_fit.Goals as goal
 
-pub loop-r-init : goal.loop-r-init
-loop-r-init c = (omega arith, sym (every_zero _))
-
-pub returns-then-not-row_fits : goal.returns-then-not-row_fits
-returns-then-not-row_fits c = sym (every_fails _ _ _ c.loop-r-test.true (sym c.row_fits.ensures ∙ c.if-not-row_fits.true))
-
-pub loop-r-preserved : goal.loop-r-preserved
-loop-r-preserved c = (omega arith, sym (every_suc _ _) ∙ rw c.loop-r.invariant.1 (sym c.row_fits.ensures ∙ c.if-not-row_fits.false))
+range_every : (p : ℕ → Bool) (i n : ℕ) → list_all p (range_with_len i n) ≡ every_from i n p
+unfolding every_from
+range_every p i zero = refl
+range_every p i (suc n) = rw add-one (ap (λ (b : Bool). p i && b) (range_every p (suc i) n))
 
 pub returns : goal.returns
-returns c = sym (every_at _ _ _ (omega arith) ∙ c.loop-r.invariant.1)
+returns c =
+    let rows = row_ok c.args.table.now in
+    all_from_yields_List rows _ _ _ c.all.ensures.ran (YieldsList-from_range 0 c.args.n c.args.n (cc) (omega arith)) (λ x b q h. search rules)
+    ∙ range_every rows 0 c.args.n

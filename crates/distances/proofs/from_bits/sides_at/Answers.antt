@@ -1,7 +1,0 @@
-use Rattle.distances.specs.Distances.{exact_at}
-use Rattle.distances.proofs.from_bits.sides_at.Goals as goal
-
-pub returns : goal.returns
-unfolding exact_at
-returns c =
-    rw (c.both.ensures, c.bid_at.ensures, c.ask_at.ensures c.args.n)
