@@ -27,12 +27,9 @@ pub fn put(out: &mut [u8], at: usize, text: &[u8]) -> usize
     if !has_room(out, at, text.len()) {
         return at;
     }
-    let mut i: usize = 0;
-    while i < text.len() {
-        out[at + i] = text[i];
-        i += 1;
-    }
-    at + i
+    let end = at + text.len();
+    out[at..end].copy_from_slice(text);
+    end
 }
 
 // A count in decimal digits.
@@ -64,10 +61,8 @@ pub fn put_hex(out: &mut [u8], at: usize, bits: u64) -> usize
     if !has_room(out, at, 16) {
         return at;
     }
-    let mut left: usize = 16;
-    while left > 0 {
-        left -= 1;
-        out[at + (15 - left)] = digit(bits >> (4 * left));
+    for i in 0..16 {
+        out[at + i] = digit(bits >> (60 - 4 * i));
     }
     at + 16
 }
