@@ -43,7 +43,7 @@ pub fn put_count(out: &mut [u8], at: usize, n: u64) -> usize
 }
 
 // The lowest hex digit of a number, `0` to `9` and `A` to `F`.
-fn digit(n: u64) -> u8
+pub fn digit(n: u64) -> u8
     ensures { result ≡ glyph n }
 {
     let d = n % 16;
