@@ -10,25 +10,20 @@
 #![tactic(auto)]
 
 use desk::{amount_at, config_at, put_exact, put_float, put_quotes};
-use harness::{
-    LARGEST_BOUND, first, make_room, put, put_cut, put_number, put_refusal, put_signed, read_block,
-    word_at,
-};
+use harness::{LARGEST_BOUND, Sizes, put, put_number, put_refusal, put_signed, run, word_at};
 use quote::refusals::LIMITS;
 use quote::{
     ClosedFormQuotes, ConfigAnswer, ExactQuotes, GLFTConfig, GLFTStrategy, Model, ModelAnswer,
     OptimalQuotes,
 };
 
-// The bytes of a record.
-const RECORD: usize = 104;
-
-// The bytes read at once: 630 records.
-const BLOCK: usize = 65520;
-
-// The most bytes of a line: a letter, eight floats, two numbers with their spaces and a sign, and the
-// line's end.
-const LINE: usize = 181;
+// A record has 104 bytes, 630 records are read at once, and a line has at most a letter, eight floats, two
+// numbers with their spaces and a sign, and its end.
+const SIZES: Sizes = Sizes {
+    size: 104,
+    block: 65520,
+    line: 181,
+};
 
 // A space and a number with its sign.
 fn put_lots(out: &mut [u8], at: usize, q: i64) -> usize {
@@ -160,31 +155,6 @@ fn put_line(out: &mut [u8], start: usize, s: &[u8], at: usize) -> usize {
     put(out, end, b"\n")
 }
 
-// Puts the lines of the records in the first n bytes of s into `out`, which is written out whenever
-// it is full. Answers how many bytes are left in it.
-fn put_lines(out: &mut [u8], s: &[u8], n: usize) -> usize {
-    let mut used: usize = 0;
-    for i in 0..n / RECORD {
-        used = make_room(out, used, LINE);
-        used = put_line(out, used, s, i * RECORD);
-    }
-    used
-}
-
-// Reads a block and writes its lines. A full one holds whole records, and more may follow it.
-fn run_block() -> bool {
-    let mut block = io::large_buffer();
-    let n = read_block(&mut block, BLOCK);
-    let mut out = io::large_buffer();
-    let lines = put_lines(&mut out, &block, n);
-    let used = put_cut(&mut out, lines, n % RECORD);
-    // where standard output takes no more, nothing more is read
-    io::write_all(harness::STDOUT, first(&out, used)) && n == BLOCK
-}
-
 fn main() {
-    let mut blocks = harness::MANY;
-    while blocks > 0 && run_block() {
-        blocks -= 1;
-    }
+    run(SIZES, put_line);
 }

@@ -22,15 +22,13 @@ fn put_billionths(out: &mut [u8], at: usize, b: Billionths) -> usize {
     }
 }
 
-// The line of a pattern.
-fn put_line(out: &mut [u8], start: usize, bits: u64) -> usize {
-    let end = put_billionths(out, start, to_billionths(float_of(bits)));
+// The line of the pattern at a place.
+fn put_line(out: &mut [u8], start: usize, s: &[u8], at: usize) -> usize {
+    let x = float_of(word_at(s, at, 0));
+    let end = put_billionths(out, start, to_billionths(x));
     put(out, end, b"\n")
 }
 
 fn main() {
-    run(
-        SIZES,
-        |out: &mut [u8], used, s: &[u8], at| put_line(out, used, word_at(s, at, 0)),
-    );
+    run(SIZES, put_line);
 }
