@@ -6,17 +6,13 @@ ghost use Rattle.std.specs.Float.{binary64};
 ghost use Rattle.std.specs.Float.Ieee.{to_bits};
 ghost use Rattle.harness.specs.Texts.{fits, placed, after, spaced, after_spaced, letter_r, lettered, after_lettered, capped, after_capped, signed_by, after_signed, glyph, hex, count};
 
-use amounts::size_of;
 use elementary::bits_of;
 
 // Do n bytes fit from a place on?
 pub(crate) fn has_room(out: &[u8], at: usize, n: usize) -> bool
     ensures { result ≡ fits out.now at n }
 {
-    if n > out.len() {
-        return false;
-    }
-    at <= out.len() - n
+    n <= out.len() && at <= out.len() - n
 }
 
 // A text as it is.
@@ -82,7 +78,7 @@ pub fn put_refusal(out: &mut [u8], at: usize, number: u8) -> usize
     ensures value { result ≡ after_lettered letter_r out.old at (count number) }
 {
     let next = put(out, at, b"R");
-    put_number(out, next, number as u64)
+    put_number(out, next, u64::from(number))
 }
 
 // A number in decimal digits, after a minus sign where it is negative.
@@ -92,9 +88,9 @@ pub fn put_signed(out: &mut [u8], at: usize, n: i64) -> usize
 {
     if n < 0 {
         let next = put(out, at, b"-");
-        return put_count(out, next, size_of(n));
+        return put_count(out, next, n.unsigned_abs());
     }
-    put_count(out, at, size_of(n))
+    put_count(out, at, n.unsigned_abs())
 }
 
 // A space and a float's pattern in 16 hex digits.
@@ -113,5 +109,5 @@ pub fn put_cap(out: &mut [u8], at: usize, needed: f64, budget: u32) -> usize
 {
     let mut next = put(out, at, b"C");
     next = put_float(out, next, needed);
-    put_number(out, next, budget as u64)
+    put_number(out, next, u64::from(budget))
 }

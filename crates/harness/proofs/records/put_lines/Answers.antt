@@ -1,6 +1,5 @@
 use Rattle.std.proofs.Common.{◌≡◌, ◌/◌, length, refl, sym, arith}
 use denote.Param.Always.{mut_next}
-use Rattle.harness.specs.Records.{LinesPut}
 use Rattle.harness.proofs.Lines.{lines_more}
 use Rattle.harness.proofs.records.put_lines.Goals as goal
 

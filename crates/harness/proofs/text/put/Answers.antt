@@ -1,5 +1,5 @@
 -- `harness::text::put` meets its contract: the whole text is copied to its place. Assumes nothing.
-use Rattle.std.proofs.Common.{sym, ◌∙◌, arith, rules}
+use Rattle.std.proofs.Common.{sym, ◌∙◌, rules}
 use Rattle.harness.proofs.Placing.{placed_none, placed_all, fits_within}
 use Rattle.harness.proofs.text.put.Goals as goal
 
