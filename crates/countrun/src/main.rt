@@ -20,7 +20,7 @@ const SIZES: Sizes = Sizes {
 // `N` and a count.
 fn put_steps(out: &mut [u8], start: usize, steps: u32) -> usize {
     let at = put(out, start, b"N");
-    put_number(out, at, steps as u64)
+    put_number(out, at, u64::from(steps))
 }
 
 fn put_plan(out: &mut [u8], at: usize, plan: FirstPlan) -> usize {

@@ -67,7 +67,7 @@ fn put_reckoned(out: &mut [u8], start: usize, m: Model) -> usize {
     at = put_float(out, at, m.eta);
     at = put_float(out, at, m.base);
     at = put_float(out, at, m.beta);
-    put_number(out, at, m.q_max as u64)
+    put_number(out, at, u64::from(m.q_max))
 }
 
 // `M`, a model, and the holding in lots.

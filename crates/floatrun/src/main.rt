@@ -49,7 +49,7 @@ fn put_vector(out: &mut [u8], start: usize, v: ValueVector) -> usize {
 // `V`, the steps and both sides.
 fn put_distances(out: &mut [u8], start: usize, bid: Distance, ask: Distance, steps: u32) -> usize {
     let mut at = put(out, start, b"V");
-    at = put_number(out, at, steps as u64);
+    at = put_number(out, at, u64::from(steps));
     at = put_side(out, at, bid);
     put_side(out, at, ask)
 }
