@@ -99,29 +99,6 @@ fn renewed(c: GLFTConfig) -> ConfigAnswer {
     )
 }
 
-// What an entry without a current time answers.
-fn put_untimed(
-    out: &mut [u8],
-    start: usize,
-    entry: u64,
-    mid: i64,
-    holding: i64,
-    c: GLFTConfig,
-    volatility: i64,
-) -> usize {
-    if entry == 2 {
-        return put_closed_form(
-            out,
-            start,
-            GLFTStrategy::closed_form_quotes(mid, holding, c, volatility),
-        );
-    }
-    if entry == 3 {
-        return put_config(out, start, renewed(c));
-    }
-    put_model(out, start, Model::new(mid, holding, c, volatility))
-}
-
 // What the entry answers to the record at a place.
 fn put_answer(out: &mut [u8], start: usize, s: &[u8], at: usize) -> usize {
     let mid = amount_at(s, at, 0);
@@ -129,16 +106,22 @@ fn put_answer(out: &mut [u8], start: usize, s: &[u8], at: usize) -> usize {
     let volatility = amount_at(s, at, 16);
     let c = config_at(s, at);
     let current = word_at(s, at, 72);
-    let entry = word_at(s, at, 88);
-    if entry == 0 {
-        let a = GLFTStrategy::exact_quotes(mid, holding, c, volatility, current);
-        return put_exact(out, start, a);
+    match word_at(s, at, 88) {
+        0 => {
+            let a = GLFTStrategy::exact_quotes(mid, holding, c, volatility, current);
+            put_exact(out, start, a)
+        }
+        1 => {
+            let a = GLFTStrategy::calculate_optimal_quotes(mid, holding, c, volatility, current);
+            put_optimal(out, start, a)
+        }
+        2 => {
+            let a = GLFTStrategy::closed_form_quotes(mid, holding, c, volatility);
+            put_closed_form(out, start, a)
+        }
+        3 => put_config(out, start, renewed(c)),
+        _ => put_model(out, start, Model::new(mid, holding, c, volatility)),
     }
-    if entry == 1 {
-        let a = GLFTStrategy::calculate_optimal_quotes(mid, holding, c, volatility, current);
-        return put_optimal(out, start, a);
-    }
-    put_untimed(out, start, entry, mid, holding, c, volatility)
 }
 
 // The record at a place, without its line's end.

@@ -55,17 +55,10 @@ fn main() {
     let n = io::read_full(harness::STDIN, &mut input);
     let mut out = io::large_buffer();
     let at = put_line(&mut out, 0, NAN);
-    let mut put_next = |out: &mut [u8], used, s: &[u8], at| put_line(
-        out,
-        used,
-        harness::word_at(s, at, 0),
-    );
-    let used = harness::put_lines(
-        &mut out,
-        at,
-        harness::first(&input, n),
-        SIZES,
-        &mut put_next,
-    );
+    let mut put_next = |out: &mut [u8], used, s: &[u8], at| {
+        put_line(out, used, harness::word_at(s, at, 0))
+    };
+    let patterns = harness::first(&input, n);
+    let used = harness::put_lines(&mut out, at, patterns, SIZES, &mut put_next);
     io::write_all(harness::STDOUT, harness::first(&out, used));
 }

@@ -140,17 +140,12 @@ fn put_set(out: &mut [u8], start: usize, s: &[u8], at: usize, table: &mut [u64])
 
 // The record at a place, without its line's end.
 fn put_record(out: &mut [u8], start: usize, s: &[u8], at: usize, table: &mut [u64]) -> usize {
-    let kind = word_at(s, at, 88);
-    if kind == CLEAR {
-        return put_cleared(out, start, table);
+    match word_at(s, at, 88) {
+        CLEAR => put_cleared(out, start, table),
+        QUOTE => put_call(out, start, s, at, table),
+        SET => put_set(out, start, s, at, table),
+        _ => put(out, start, b"P"),
     }
-    if kind == QUOTE {
-        return put_call(out, start, s, at, table);
-    }
-    if kind == SET {
-        return put_set(out, start, s, at, table);
-    }
-    put(out, start, b"P")
 }
 
 // The line of the record at a place. The table is the first of the numbers, as many as are lent.
