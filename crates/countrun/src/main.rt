@@ -6,22 +6,21 @@
 #![tactic(auto)]
 
 use distances::step_count;
-use harness::{
-    ENTRY, MANY, entry_at, first, make_room, put, put_cap, put_cut, put_number, put_refusal,
-    read_block,
-};
+use harness::{ENTRY, Entry, Sizes, entry_at, put, put_cap, put_number, put_refusal, run};
 use vector::{FirstPlan, RunInput};
 
-// The bytes read at once: 1,024 records.
-const BLOCK: usize = 65536;
-
-// The most bytes of a line: a letter, a float, five digits, a space before each and the line's end.
-const LINE: usize = 25;
+// A record has 64 bytes, 1,024 records are read at once, and a line has at most a letter, a float, five
+// digits, a space before each and its end.
+const SIZES: Sizes = Sizes {
+    size: ENTRY,
+    block: 65536,
+    line: 25,
+};
 
 // `N` and a count.
 fn put_steps(out: &mut [u8], start: usize, steps: u32) -> usize {
     let at = put(out, start, b"N");
-    put_number(out, at, steps as u64)
+    put_number(out, at, u64::from(steps))
 }
 
 fn put_plan(out: &mut [u8], at: usize, plan: FirstPlan) -> usize {
@@ -34,15 +33,25 @@ fn put_plan(out: &mut [u8], at: usize, plan: FirstPlan) -> usize {
 
 // The count of the record at a place.
 fn count_at(s: &[u8], at: usize) -> FirstPlan {
-    let e = entry_at(s, at);
+    let Entry {
+        k,
+        alpha,
+        eta,
+        base,
+        bound,
+        tau,
+        q,
+        beta,
+    } = entry_at(s, at);
+    // here and in floatrun: harness stands on no crate that has `RunInput`
     let input = RunInput {
-        alpha: e.alpha,
-        beta: e.beta,
-        eta: e.eta,
-        bound: e.bound,
-        tau: e.tau,
+        alpha,
+        beta,
+        eta,
+        bound,
+        tau,
     };
-    step_count(e.k, e.base, input, e.q)
+    step_count(k, base, input, q)
 }
 
 // The line of the record at a place.
@@ -51,31 +60,6 @@ fn put_line(out: &mut [u8], start: usize, s: &[u8], at: usize) -> usize {
     put(out, end, b"\n")
 }
 
-// Puts the lines of the records in the first n bytes of s into `out`, which is written out whenever
-// it is full. Answers how many bytes are left in it.
-fn put_lines(out: &mut [u8], s: &[u8], n: usize) -> usize {
-    let mut used: usize = 0;
-    for i in 0..n / ENTRY {
-        used = make_room(out, used, LINE);
-        used = put_line(out, used, s, i * ENTRY);
-    }
-    used
-}
-
-// Reads a block and writes its lines. A full one holds whole records, and more may follow it.
-fn run_block() -> bool {
-    let mut block = io::large_buffer();
-    let n = read_block(&mut block, BLOCK);
-    let mut out = io::large_buffer();
-    let lines = put_lines(&mut out, &block, n);
-    let used = put_cut(&mut out, lines, n % ENTRY);
-    // where standard output takes no more, nothing more is read
-    io::write_all(harness::STDOUT, first(&out, used)) && n == BLOCK
-}
-
 fn main() {
-    let mut blocks = MANY;
-    while blocks > 0 && run_block() {
-        blocks -= 1;
-    }
+    run(SIZES, put_line);
 }

@@ -55,7 +55,7 @@ fn put_counted(out: &mut [u8], start: usize, q: GlftQuotes, steps: u32) -> usize
     ensures value { result ≡ after_lined letter_q out.old start (counted_texts q steps) }
 {
     let at = put_quotes(out, start, q);
-    put_number(out, at, steps as u64)
+    put_number(out, at, u64::from(steps))
 }
 
 // `C`, the steps needed, the budget left and the steps spent.
@@ -65,8 +65,8 @@ fn put_cap(out: &mut [u8], start: usize, needed: f64, budget: u32, steps: u32) -
 {
     let mut at = put(out, start, b"C");
     at = put_float(out, at, needed);
-    at = put_number(out, at, budget as u64);
-    put_number(out, at, steps as u64)
+    at = put_number(out, at, u64::from(budget));
+    put_number(out, at, u64::from(steps))
 }
 
 // The line of an exact call, without its end.

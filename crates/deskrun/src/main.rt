@@ -10,22 +10,17 @@
 #![tactic(auto)]
 
 use desk::{amount_at, config_at, put_exact, put_float, put_quotes};
-use harness::{
-    LARGEST_BOUND, first, make_room, put, put_cut, put_number, put_refusal, put_signed, read_block,
-    word_at,
-};
+use harness::{LARGEST_BOUND, Sizes, put, put_number, put_refusal, put_signed, run, word_at};
 use quote::refusals::LIMITS;
 use quote::{ExactQuotes, GLFTConfig, GLFTStrategy, GlftQuotes, Model, Refusal};
 
-// The bytes of a record.
-const RECORD: usize = 104;
-
-// The bytes read at once: 630 records.
-const BLOCK: usize = 65520;
-
-// The most bytes of a line: a letter, eight floats, two numbers with their spaces and a sign, and the
-// line's end.
-const LINE: usize = 181;
+// A record has 104 bytes, 630 records are read at once, and a line has at most a letter, eight floats, two
+// numbers with their spaces and a sign, and its end.
+const SIZES: Sizes = Sizes {
+    size: 104,
+    block: 65520,
+    line: 181,
+};
 
 // A space and a number with its sign.
 fn put_lots(out: &mut [u8], at: usize, q: i64) -> usize {
@@ -69,7 +64,7 @@ fn put_reckoned(out: &mut [u8], start: usize, m: Model) -> usize {
     at = put_float(out, at, m.eta);
     at = put_float(out, at, m.base);
     at = put_float(out, at, m.beta);
-    put_number(out, at, m.q_max as u64)
+    put_number(out, at, u64::from(m.q_max))
 }
 
 // `M`, a model, and the holding in lots.
@@ -101,29 +96,6 @@ fn renewed(c: GLFTConfig) -> Result<GLFTConfig, Refusal> {
     )
 }
 
-// What an entry without a current time answers.
-fn put_untimed(
-    out: &mut [u8],
-    start: usize,
-    entry: u64,
-    mid: i64,
-    holding: i64,
-    c: GLFTConfig,
-    volatility: i64,
-) -> usize {
-    if entry == 2 {
-        return put_closed_form(
-            out,
-            start,
-            GLFTStrategy::closed_form_quotes(mid, holding, c, volatility),
-        );
-    }
-    if entry == 3 {
-        return put_config(out, start, renewed(c));
-    }
-    put_model(out, start, Model::new(mid, holding, c, volatility))
-}
-
 // What the entry answers to the record at a place.
 fn put_answer(out: &mut [u8], start: usize, s: &[u8], at: usize) -> usize {
     let mid = amount_at(s, at, 0);
@@ -131,16 +103,22 @@ fn put_answer(out: &mut [u8], start: usize, s: &[u8], at: usize) -> usize {
     let volatility = amount_at(s, at, 16);
     let c = config_at(s, at);
     let current = word_at(s, at, 72);
-    let entry = word_at(s, at, 88);
-    if entry == 0 {
-        let a = GLFTStrategy::exact_quotes(mid, holding, c, volatility, current);
-        return put_exact(out, start, a);
+    match word_at(s, at, 88) {
+        0 => {
+            let a = GLFTStrategy::exact_quotes(mid, holding, c, volatility, current);
+            put_exact(out, start, a)
+        }
+        1 => {
+            let a = GLFTStrategy::calculate_optimal_quotes(mid, holding, c, volatility, current);
+            put_optimal(out, start, a)
+        }
+        2 => {
+            let a = GLFTStrategy::closed_form_quotes(mid, holding, c, volatility);
+            put_closed_form(out, start, a)
+        }
+        3 => put_config(out, start, renewed(c)),
+        _ => put_model(out, start, Model::new(mid, holding, c, volatility)),
     }
-    if entry == 1 {
-        let a = GLFTStrategy::calculate_optimal_quotes(mid, holding, c, volatility, current);
-        return put_optimal(out, start, a);
-    }
-    put_untimed(out, start, entry, mid, holding, c, volatility)
 }
 
 // The record at a place, without its line's end.
@@ -157,31 +135,6 @@ fn put_line(out: &mut [u8], start: usize, s: &[u8], at: usize) -> usize {
     put(out, end, b"\n")
 }
 
-// Puts the lines of the records in the first n bytes of s into `out`, which is written out whenever
-// it is full. Answers how many bytes are left in it.
-fn put_lines(out: &mut [u8], s: &[u8], n: usize) -> usize {
-    let mut used: usize = 0;
-    for i in 0..n / RECORD {
-        used = make_room(out, used, LINE);
-        used = put_line(out, used, s, i * RECORD);
-    }
-    used
-}
-
-// Reads a block and writes its lines. A full one holds whole records, and more may follow it.
-fn run_block() -> bool {
-    let mut block = io::large_buffer();
-    let n = read_block(&mut block, BLOCK);
-    let mut out = io::large_buffer();
-    let lines = put_lines(&mut out, &block, n);
-    let used = put_cut(&mut out, lines, n % RECORD);
-    // where standard output takes no more, nothing more is read
-    io::write_all(harness::STDOUT, first(&out, used)) && n == BLOCK
-}
-
 fn main() {
-    let mut blocks = harness::MANY;
-    while blocks > 0 && run_block() {
-        blocks -= 1;
-    }
+    run(SIZES, put_line);
 }

@@ -3,11 +3,13 @@
 // digits, and a refusal is `R5`. The first line is that of a NaN.
 #![tactic(auto)]
 
-// The bytes of a pattern.
-const RECORD: usize = 8;
-
-// The most bytes of a line: six fields of 16 digits, five spaces, and the line's end.
-const LINE: usize = 102;
+// A pattern has 8 bytes, 8,192 are read, and a line has at most six fields of 16 digits, five spaces, and
+// its end.
+const SIZES: harness::Sizes = harness::Sizes {
+    size: 8,
+    block: 65536,
+    line: 102,
+};
 
 // A NaN's pattern.
 const NAN: u64 = 0x7FF8000000000000;
@@ -46,21 +48,15 @@ fn put_line(out: &mut [u8], start: usize, bits: u64) -> usize {
     harness::put(out, at, b"\n")
 }
 
-// Puts the lines of the patterns in the first n bytes of s into `out`, which is written out whenever
-// it is full. Answers how many bytes are left in it.
-fn put_lines(out: &mut [u8], s: &[u8], n: usize) -> usize {
-    let mut used = put_line(out, 0, NAN);
-    for i in 0..n / RECORD {
-        used = harness::make_room(out, used, LINE);
-        used = put_line(out, used, harness::word_at(s, i * RECORD, 0));
-    }
-    used
-}
-
 fn main() {
     let mut input = io::large_buffer();
     let n = io::read_full(harness::STDIN, &mut input);
     let mut out = io::large_buffer();
-    let used = put_lines(&mut out, &input, n);
+    let at = put_line(&mut out, 0, NAN);
+    let mut put_next = |out: &mut [u8], used, s: &[u8], at| {
+        put_line(out, used, harness::word_at(s, at, 0))
+    };
+    let patterns = harness::first(&input, n);
+    let used = harness::put_lines(&mut out, at, patterns, SIZES, &mut put_next);
     io::write_all(harness::STDOUT, harness::first(&out, used));
 }

@@ -7,17 +7,17 @@
 
 use distances::{Answer, Distance, FloatAnswer, float_entry};
 use harness::{
-    ENTRY, MANY, entry_at, first, make_room, put, put_cap, put_cut, put_float, put_number,
-    put_refusal, read_block,
+    ENTRY, Entry, Sizes, entry_at, put, put_cap, put_float, put_number, put_refusal, run,
 };
 use vector::{MAX_DIM, RunInput, ValueVector};
 
-// The bytes read at once: 1,024 records.
-const BLOCK: usize = 65536;
-
-// The most bytes of a line: 804 floats and two counts, a space before each, a letter and the line's
-// end.
-const LINE: usize = 13712;
+// A record has 64 bytes, 1,024 records are read at once, and a line has at most 804 floats and two counts,
+// a space before each, a letter and its end.
+const SIZES: Sizes = Sizes {
+    size: ENTRY,
+    block: 65536,
+    line: 13712,
+};
 
 // A space and a side's distance.
 fn put_side(out: &mut [u8], at: usize, d: Distance) -> usize {
@@ -30,11 +30,8 @@ fn put_side(out: &mut [u8], at: usize, d: Distance) -> usize {
 // A space and a float, for each of the first n.
 fn put_floats(out: &mut [u8], start: usize, s: &[f64; MAX_DIM], n: usize) -> usize {
     let mut at = start;
-    for i in 0..MAX_DIM {
-        if i >= n {
-            return at;
-        }
-        at = put_float(out, at, s[i]);
+    for x in s.iter().take(n) {
+        at = put_float(out, at, *x);
     }
     at
 }
@@ -52,7 +49,7 @@ fn put_vector(out: &mut [u8], start: usize, v: ValueVector) -> usize {
 // `V`, the steps and both sides.
 fn put_distances(out: &mut [u8], start: usize, bid: Distance, ask: Distance, steps: u32) -> usize {
     let mut at = put(out, start, b"V");
-    at = put_number(out, at, steps as u64);
+    at = put_number(out, at, u64::from(steps));
     at = put_side(out, at, bid);
     put_side(out, at, ask)
 }
@@ -71,15 +68,25 @@ fn put_answer(out: &mut [u8], start: usize, answer: Answer, v: ValueVector) -> u
 
 // The answer to the record at a place.
 fn answer_at(s: &[u8], at: usize) -> FloatAnswer {
-    let e = entry_at(s, at);
+    let Entry {
+        k,
+        alpha,
+        eta,
+        base,
+        bound,
+        tau,
+        q,
+        beta,
+    } = entry_at(s, at);
+    // here and in countrun: harness stands on no crate that has `RunInput`
     let input = RunInput {
-        alpha: e.alpha,
-        beta: e.beta,
-        eta: e.eta,
-        bound: e.bound,
-        tau: e.tau,
+        alpha,
+        beta,
+        eta,
+        bound,
+        tau,
     };
-    float_entry(e.k, e.base, input, e.q)
+    float_entry(k, base, input, q)
 }
 
 // The line of the record at a place.
@@ -91,31 +98,6 @@ fn put_line(out: &mut [u8], start: usize, s: &[u8], at: usize) -> usize {
     put(out, end, b"\n")
 }
 
-// Puts the lines of the records in the first n bytes of s into `out`, which is written out whenever
-// it is full. Answers how many bytes are left in it.
-fn put_lines(out: &mut [u8], s: &[u8], n: usize) -> usize {
-    let mut used: usize = 0;
-    for i in 0..n / ENTRY {
-        used = make_room(out, used, LINE);
-        used = put_line(out, used, s, i * ENTRY);
-    }
-    used
-}
-
-// Reads a block and writes its lines. A full one holds whole records, and more may follow it.
-fn run_block() -> bool {
-    let mut block = io::large_buffer();
-    let n = read_block(&mut block, BLOCK);
-    let mut out = io::large_buffer();
-    let lines = put_lines(&mut out, &block, n);
-    let used = put_cut(&mut out, lines, n % ENTRY);
-    // where standard output takes no more, nothing more is read
-    io::write_all(harness::STDOUT, first(&out, used)) && n == BLOCK
-}
-
 fn main() {
-    let mut blocks = MANY;
-    while blocks > 0 && run_block() {
-        blocks -= 1;
-    }
+    run(SIZES, put_line);
 }

@@ -1,3 +1,4 @@
 pub mod Counting
 pub mod Hex
+pub mod Lines
 pub mod Placing

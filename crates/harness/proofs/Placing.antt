@@ -1,13 +1,15 @@
 -- A text in a buffer: what it is to fit, and what a copy of the whole text leaves. Assumes nothing.
-use mathlib.Core.Path.{◌≡◌, refl, sym, ◌∙◌}
+use mathlib.Core.Path.{◌≡◌, refl, sym, ap, ◌∙◌}
 use Prim.Native.Nat.{ℕ, ◌+◌, ◌-◌, ◌<◌, ◌≤◌}
 use native.Mathlib.Numerals.{add-one}
 use native.Mathlib.Omega.{arith}
 use mathlib.Core.Bool.{Bool, true, false}
-use mathlib.Core.List.{List}
+use mathlib.Core.List.{List, ◌++◌}
 use borrow.Author.Tests.{leb-true, leb-false, le-leb, lt-leb}
 use lib.Dec.{leb}
-use lib.ListN.{length, get_or, set, length-set}
+use lib.ListN.{length, get_or, set, length-set, take, drop}
+use borrow.Rule.Slice.PartMut.{put_mid}
+use Rattle.std.proofs.lemmas.Slice.{put_mid-paste}
 use lib.Seq.{paste, paste-zero, paste-suc, take-length}
 use Rattle.harness.specs.Texts.{fits, placed_by, placed, after}
 
@@ -28,6 +30,16 @@ fits_not l at n h = sym (lt-leb (at + n) (length l) (omega arith))
 pub placed_none : (l : List ℕ) (at : ℕ) (t : List ℕ) → fits l at (length t) ≡ false → (l ≡ placed l at t) × (at ≡ after l at t)
 unfolding placed placed_by after
 placed_none l at t h = (rw h, rw h)
+
+-- where it fits, its end is within the buffer
+pub fits_within : (l : List ℕ) (at : ℕ) (t : List ℕ) → fits l at (length t) ≡ true → at + length t ≤ length l
+unfolding fits
+fits_within l at t h = leb-true _ _ h
+
+-- what a write of the whole text over its place leaves, and the next place
+pub placed_all : (l : List ℕ) (at : ℕ) (t ys : List ℕ) → fits l at (length t) ≡ true → ys ≡ t → (put_mid at (at + length t - at) l ys ≡ placed l at t) × (at + length t ≡ after l at t)
+unfolding placed placed_by after
+placed_all l at t ys h e = (rw h (put_mid-paste at _ l ys t (length t) e (omega arith) refl ∙ ap (λ s. take at l ++ s ++ drop (at + length t) l) (take-length t)), rw h)
 
 -- ---- a buffer that came as l, with the first i bytes of a text that fits at a place
 pub record Copied (l : List ℕ) (at : ℕ) (t out : List ℕ) (i : ℕ) : Type 0 where

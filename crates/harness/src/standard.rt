@@ -20,10 +20,8 @@ pub const MANY: u64 = 0xFFFFFFFFFFFFFFFF;
 pub fn read_block(buf: &mut [u8], most: usize) -> usize
     ensures { result ≤ most }
 {
-    if most < buf.len() {
-        return io::read_full(STDIN, &mut buf[..most]);
-    }
-    io::read_full(STDIN, buf)
+    let n = most.min(buf.len());
+    io::read_full(STDIN, &mut buf[..n])
 }
 
 // Makes room for n bytes after the first `used` of a buffer, which are written out where they leave

@@ -6,17 +6,13 @@ ghost use Rattle.std.specs.Float.{binary64};
 ghost use Rattle.std.specs.Float.Ieee.{to_bits};
 ghost use Rattle.harness.specs.Texts.{fits, placed, after, spaced, after_spaced, letter_r, lettered, after_lettered, capped, after_capped, signed_by, after_signed, glyph, hex, count};
 
-use amounts::size_of;
 use elementary::bits_of;
 
 // Do n bytes fit from a place on?
 pub(crate) fn has_room(out: &[u8], at: usize, n: usize) -> bool
     ensures { result ≡ fits out.now at n }
 {
-    if n > out.len() {
-        return false;
-    }
-    at <= out.len() - n
+    n <= out.len() && at <= out.len() - n
 }
 
 // A text as it is.
@@ -27,12 +23,9 @@ pub fn put(out: &mut [u8], at: usize, text: &[u8]) -> usize
     if !has_room(out, at, text.len()) {
         return at;
     }
-    let mut i: usize = 0;
-    while i < text.len() {
-        out[at + i] = text[i];
-        i += 1;
-    }
-    at + i
+    let end = at + text.len();
+    out[at..end].copy_from_slice(text);
+    end
 }
 
 // A count in decimal digits.
@@ -46,7 +39,7 @@ pub fn put_count(out: &mut [u8], at: usize, n: u64) -> usize
 }
 
 // The lowest hex digit of a number, `0` to `9` and `A` to `F`.
-fn digit(n: u64) -> u8
+pub fn digit(n: u64) -> u8
     ensures { result ≡ glyph n }
 {
     let d = n % 16;
@@ -64,10 +57,8 @@ pub fn put_hex(out: &mut [u8], at: usize, bits: u64) -> usize
     if !has_room(out, at, 16) {
         return at;
     }
-    let mut left: usize = 16;
-    while left > 0 {
-        left -= 1;
-        out[at + (15 - left)] = digit(bits >> (4 * left));
+    for i in 0..16 {
+        out[at + i] = digit(bits >> (60 - 4 * i));
     }
     at + 16
 }
@@ -87,7 +78,7 @@ pub fn put_refusal(out: &mut [u8], at: usize, number: u8) -> usize
     ensures value { result ≡ after_lettered letter_r out.old at (count number) }
 {
     let next = put(out, at, b"R");
-    put_number(out, next, number as u64)
+    put_number(out, next, u64::from(number))
 }
 
 // A number in decimal digits, after a minus sign where it is negative.
@@ -97,9 +88,9 @@ pub fn put_signed(out: &mut [u8], at: usize, n: i64) -> usize
 {
     if n < 0 {
         let next = put(out, at, b"-");
-        return put_count(out, next, size_of(n));
+        return put_count(out, next, n.unsigned_abs());
     }
-    put_count(out, at, size_of(n))
+    put_count(out, at, n.unsigned_abs())
 }
 
 // A space and a float's pattern in 16 hex digits.
@@ -118,5 +109,5 @@ pub fn put_cap(out: &mut [u8], at: usize, needed: f64, budget: u32) -> usize
 {
     let mut next = put(out, at, b"C");
     next = put_float(out, next, needed);
-    put_number(out, next, budget as u64)
+    put_number(out, next, u64::from(budget))
 }

@@ -12,26 +12,26 @@
 ghost use Rattle.std.specs.Prelude.{◌≤◌};
 
 use desk::{amount_at, config_at};
-use harness::{LARGEST_BOUND, first, make_room, put, put_number, put_refusal, read_block, word_at};
+use harness::{
+    LARGEST_BOUND, Sizes, first, make_room, put, put_number, put_refusal, run_to_cut, word_at,
+};
 use quote::Refusal;
 use quote::refusals::LIMITS;
 use record::refusals::CUT_SHORT;
 
-// The bytes of a record.
-const RECORD: usize = 104;
-
-// The bytes read at once: 630 records.
-const BLOCK: usize = 65520;
+// A record has 104 bytes, 630 records are read at once, and an answer has at most a letter, a space, a count
+// of five digits and the line's end; a ladder; and a letter with the line's end.
+const SIZES: Sizes = Sizes {
+    size: 104,
+    block: 65520,
+    line: ladders::MOST_LADDER + 10,
+};
 
 // The longest buffer.
 const ROOM: usize = 32768;
 
 // What each byte of a buffer is before the call.
 const BEFORE: u8 = 0xA5;
-
-// The most bytes of an answer: a letter, a space, a count of five digits and the line's end; a ladder;
-// and a letter with the line's end.
-const ANSWER: usize = ladders::MOST_LADDER + 10;
 
 // The line of a refusal.
 fn put_refused(out: &mut [u8], start: usize, refusal: Refusal) -> usize {
@@ -49,14 +49,7 @@ fn put_written(out: &mut [u8], start: usize, buffer: &[u8], n: usize) -> usize {
 
 // Are the bytes of a buffer from a place on as they were before the call?
 fn untouched(buffer: &[u8], from: usize) -> bool {
-    let mut i = from;
-    while i < buffer.len() {
-        if buffer[i] != BEFORE {
-            return false;
-        }
-        i += 1;
-    }
-    true
+    buffer.iter().skip(from).all(|b| *b == BEFORE)
 }
 
 // `U` where the bytes of a buffer from a place on are as they were, or `X`.
@@ -91,11 +84,7 @@ fn put_unasked(out: &mut [u8], start: usize, refusal: Refusal) -> usize {
 fn length_at(s: &[u8], at: usize) -> usize
     ensures { result ≤ 32768 }
 {
-    let n = word_at(s, at, 88);
-    if n > ROOM as u64 {
-        return ROOM;
-    }
-    n as usize
+    word_at(s, at, 88).min(ROOM as u64) as usize
 }
 
 // What the ladder of the record at a place answers, and what it leaves in a buffer.
@@ -122,40 +111,15 @@ fn put_record(out: &mut [u8], start: usize, s: &[u8], at: usize) -> usize {
     put_call(out, start, s, at, &mut buffer[..n])
 }
 
-// Puts the answers to the records in the first n bytes of s into `out`, which is written out whenever
-// it is full. Answers how many bytes are left in it.
-fn put_records(out: &mut [u8], s: &[u8], n: usize) -> usize {
-    let mut used: usize = 0;
-    for i in 0..n / RECORD {
-        used = make_room(out, used, ANSWER);
-        used = put_record(out, used, s, i * RECORD);
-    }
-    used
-}
-
 // After the answers, that to a record that ends inside itself, if any of its bytes are left.
 fn put_cut(out: &mut [u8], used: usize, left: usize) -> usize {
     if left == 0 {
         return used;
     }
-    let start = make_room(out, used, ANSWER);
+    let start = make_room(out, used, SIZES.line);
     put_unasked(out, start, CUT_SHORT)
 }
 
-// Reads a block and writes its answers. A full one holds whole records, and more may follow it.
-fn run_block() -> bool {
-    let mut block = io::large_buffer();
-    let n = read_block(&mut block, BLOCK);
-    let mut out = io::large_buffer();
-    let answers = put_records(&mut out, &block, n);
-    let used = put_cut(&mut out, answers, n % RECORD);
-    // where standard output takes no more, nothing more is read
-    io::write_all(harness::STDOUT, first(&out, used)) && n == BLOCK
-}
-
 fn main() {
-    let mut blocks = harness::MANY;
-    while blocks > 0 && run_block() {
-        blocks -= 1;
-    }
+    run_to_cut(SIZES, put_record, put_cut);
 }

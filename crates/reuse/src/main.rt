@@ -90,8 +90,10 @@ fn told(answer: ExactQuotes) -> u64 {
         ExactQuotes::Quotes(quotes, steps) => {
             let bid = quotes.bid;
             let ask = quotes.ask;
-            let twice = wrapping_add_u64(price(ask), price(ask));
-            wrapping_add_u64(wrapping_add_u64(price(bid), twice), steps as u64)
+            let twice = price(ask).wrapping_mul(2);
+            price(bid)
+                .wrapping_add(twice)
+                .wrapping_add(u64::from(steps))
         }
         ExactQuotes::OverStepCap(_, budget, _) => budget as u64,
         ExactQuotes::Refused(refusal) => refusal.0 as u64,
@@ -117,16 +119,13 @@ fn alone(i: u64, turn: u64, current: u64) -> u64 {
 
 // A number of the table.
 fn number_at(table: &[u64], at: usize) -> u64 {
-    if at < table.len() {
-        return table[at];
-    }
-    0
+    table.get(at).copied().unwrap_or(0)
 }
 
 // Sets it to 1.
 fn set(table: &mut [u64], at: usize) {
-    if at < table.len() {
-        table[at] = 1;
+    if let Some(number) = table.get_mut(at) {
+        *number = 1;
     }
 }
 
@@ -152,10 +151,8 @@ fn call(table: &mut [u64], kind: u8, i: u64) -> u64 {
 // The sum of as many calls.
 fn calls(table: &mut [u64], kind: u8, count: u64) -> u64 {
     let mut sum: u64 = 0;
-    let mut i: u64 = 0;
-    while i < count {
+    for i in 0..count {
         sum = wrapping_add_u64(sum, call(table, kind, i));
-        i += 1;
     }
     sum
 }
@@ -179,22 +176,17 @@ fn order(kind: u8, count: u64) {
 
 // A count with one more digit; other bytes leave it.
 fn with_digit(count: u64, byte: u8) -> u64 {
-    if byte < b'0' {
-        return count;
+    if byte.is_ascii_digit() {
+        return count % 100000000 * 10 + u64::from(byte - b'0');
     }
-    if byte > b'9' {
-        return count;
-    }
-    count % 100000000 * 10 + (byte - b'0') as u64
+    count
 }
 
 // Every order of the input.
 fn orders(s: &[u8]) {
     let mut kind: u8 = 0;
     let mut count: u64 = 0;
-    let mut i: usize = 0;
-    while i < s.len() {
-        let byte = s[i];
+    for &byte in s {
         if byte == b'\n' {
             order(kind, count);
         }
@@ -203,7 +195,6 @@ fn orders(s: &[u8]) {
             count = 0;
         }
         count = with_digit(count, byte);
-        i += 1;
     }
 }
 

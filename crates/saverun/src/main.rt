@@ -10,19 +10,18 @@
 ghost use Rattle.std.specs.Prelude.{◌≤◌};
 
 use desk::amount_at;
-use harness::{
-    LARGEST_BOUND, bound_of, first, make_room, put, put_cut, put_number, put_refusal, read_block,
-    word_at,
-};
+use harness::{LARGEST_BOUND, Sizes, bound_of, digit, put, put_number, put_refusal, run, word_at};
 use quote::Refusal;
 use quote::refusals::LIMITS;
 use record::Record;
 
-// The bytes of a record.
-const RECORD: usize = 96;
-
-// The bytes read at once: 682 records.
-const BLOCK: usize = 65472;
+// A record has 96 bytes, 682 records are read at once, and a line has at most a letter, a number of two
+// digits and 128 bytes, with a space before both, and its end.
+const SIZES: Sizes = Sizes {
+    size: 96,
+    block: 65472,
+    line: 262,
+};
 
 // The longest buffer.
 const ROOM: usize = 128;
@@ -30,33 +29,20 @@ const ROOM: usize = 128;
 // What each byte of a buffer is before the call.
 const BEFORE: u8 = 0xA5;
 
-// The most bytes of a line: a letter, a number of two digits and 128 bytes, with a space before both,
-// and the line's end.
-const LINE: usize = 262;
-
-// The lowest hex digit of a byte, `0` to `9` and `A` to `F`.
-fn digit(b: u8) -> u8 {
-    let d = b % 16;
-    if d < 10 {
-        return 48 + d;
-    }
-    55 + d
-}
-
 // A byte in two hex digits.
 fn put_byte(out: &mut [u8], at: usize, b: u8) -> usize {
-    let text = [digit(b / 16), digit(b)];
+    let text = [digit(u64::from(b / 16)), digit(u64::from(b))];
     put(out, at, &text)
 }
 
 // A space and bytes in hex, or nothing where there are none.
 fn put_bytes(out: &mut [u8], start: usize, s: &[u8]) -> usize {
-    if s.len() == 0 {
+    if s.is_empty() {
         return start;
     }
     let mut at = put(out, start, b" ");
-    for i in 0..s.len() {
-        at = put_byte(out, at, s[i]);
+    for b in s {
+        at = put_byte(out, at, *b);
     }
     at
 }
@@ -95,11 +81,7 @@ fn record_at(s: &[u8], at: usize) -> Record {
 fn length_at(s: &[u8], at: usize) -> usize
     ensures { result ≤ 128 }
 {
-    let n = word_at(s, at, 88);
-    if n > ROOM as u64 {
-        return ROOM;
-    }
-    n as usize
+    word_at(s, at, 88).min(ROOM as u64) as usize
 }
 
 // What saving a record answers, and the buffer after it.
@@ -125,31 +107,6 @@ fn put_line(out: &mut [u8], start: usize, s: &[u8], at: usize) -> usize {
     put(out, end, b"\n")
 }
 
-// Puts the lines of the records in the first n bytes of s into `out`, which is written out whenever
-// it is full. Answers how many bytes are left in it.
-fn put_lines(out: &mut [u8], s: &[u8], n: usize) -> usize {
-    let mut used: usize = 0;
-    for i in 0..n / RECORD {
-        used = make_room(out, used, LINE);
-        used = put_line(out, used, s, i * RECORD);
-    }
-    used
-}
-
-// Reads a block and writes its lines. A full one holds whole records, and more may follow it.
-fn run_block() -> bool {
-    let mut block = io::large_buffer();
-    let n = read_block(&mut block, BLOCK);
-    let mut out = io::large_buffer();
-    let lines = put_lines(&mut out, &block, n);
-    let used = put_cut(&mut out, lines, n % RECORD);
-    // where standard output takes no more, nothing more is read
-    io::write_all(harness::STDOUT, first(&out, used)) && n == BLOCK
-}
-
 fn main() {
-    let mut blocks = harness::MANY;
-    while blocks > 0 && run_block() {
-        blocks -= 1;
-    }
+    run(SIZES, put_line);
 }

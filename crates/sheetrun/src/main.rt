@@ -67,8 +67,9 @@ fn run_sheet() -> bool {
 }
 
 fn main() {
-    let mut sheets = harness::MANY;
-    while sheets > 0 && run_sheet() {
-        sheets -= 1;
+    for _ in 0..harness::MANY {
+        if !run_sheet() {
+            return;
+        }
     }
 }

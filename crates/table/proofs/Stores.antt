@@ -17,6 +17,7 @@ use Rattle.table.specs.Refusals.{small_table}
 use Rattle.table.specs.Places.{table_room, rows_kept, row_at}
 use Rattle.table.specs.Table.{number, filled, next, bits, put_at, row_numbers, with_row, cleared_if, cleared_by, cleared}
 use Rattle.table.proofs.Parts.{length_row}
+use Rattle.std.specs.Prelude.{Ok, Err}
 
 -- ---- a list that came as l, after i of as many numbers as it has are stored
 pub record Stored (l s out : List ℕ) (i : ℕ) : Type 0 where

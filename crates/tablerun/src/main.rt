@@ -26,9 +26,9 @@ mod setting;
 
 use desk::{amount_at, config_at, put_exact};
 use harness::{
-    LARGEST_BOUND, first, make_room, put, put_cut, put_number, put_refusal, read_block, word_at,
+    LARGEST_BOUND, Sizes, first, put, put_cut, put_number, put_refusal, read_block, word_at,
 };
-use numbers::{are_same, at_most, copy};
+use numbers::{are_same, copy};
 use quote::ExactQuotes;
 use quote::refusals::LIMITS;
 use setting::set_number;
@@ -44,6 +44,12 @@ const BLOCK: usize = 65520;
 // The most bytes of a line: a letter, two prices of 19 digits, the steps of 10, two numbers of 20, each
 // after a space, a space, a letter and the line's end.
 const LINE: usize = 97;
+
+const SIZES: Sizes = Sizes {
+    size: RECORD,
+    block: BLOCK,
+    line: LINE,
+};
 
 // The most numbers of a table.
 const ROOM: usize = 4200;
@@ -133,17 +139,12 @@ fn put_set(out: &mut [u8], start: usize, s: &[u8], at: usize, table: &mut [u64])
 
 // The record at a place, without its line's end.
 fn put_record(out: &mut [u8], start: usize, s: &[u8], at: usize, table: &mut [u64]) -> usize {
-    let kind = word_at(s, at, 88);
-    if kind == CLEAR {
-        return put_cleared(out, start, table);
+    match word_at(s, at, 88) {
+        CLEAR => put_cleared(out, start, table),
+        QUOTE => put_call(out, start, s, at, table),
+        SET => put_set(out, start, s, at, table),
+        _ => put(out, start, b"P"),
     }
-    if kind == QUOTE {
-        return put_call(out, start, s, at, table);
-    }
-    if kind == SET {
-        return put_set(out, start, s, at, table);
-    }
-    put(out, start, b"P")
 }
 
 // The line of the record at a place. The table is the first of the numbers, as many as are lent.
@@ -155,7 +156,7 @@ fn put_line(
     numbers: &mut [u64],
     lent: usize,
 ) -> usize {
-    let n = at_most(lent, numbers.len());
+    let n = lent.min(numbers.len());
     let end = put_record(out, start, s, at, &mut numbers[..n]);
     put(out, end, b"\n")
 }
@@ -184,13 +185,13 @@ fn put_lines(
     numbers: &mut [u64],
     lent_before: usize,
 ) -> Progress {
-    let mut used: usize = 0;
     let mut lent = lent_before;
-    for i in 0..n / RECORD {
-        used = make_room(out, used, LINE);
-        used = put_line(out, used, s, i * RECORD, numbers, lent);
-        lent = lent_after(s, i * RECORD, lent);
-    }
+    let mut put_next = |out: &mut [u8], start, s: &[u8], at| {
+        let end = put_line(out, start, s, at, numbers, lent);
+        lent = lent_after(s, at, lent);
+        end
+    };
+    let used = harness::put_lines(out, 0, first(s, n), SIZES, &mut put_next);
     Progress { used, lent }
 }
 

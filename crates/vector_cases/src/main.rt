@@ -5,7 +5,7 @@
 use harness::{bits_of, first, put, put_number};
 use vector::{Outcome, RunInput};
 
-// A space and a float's 16 hex digits, in lower case.
+// A space and a float's 16 hex digits, in lower case, as in desk, on which this crate does not stand.
 fn put_float(out: &mut [u8], at: usize, x: f64) -> usize {
     let mut text = [0u8; 16];
     let k = io::hex(bits_of(x), 16, &mut text);

@@ -6,4 +6,4 @@ pub returns : goal.returns
 unfolding lined after_lined fields after_fields
 returns c =
     let q = c.put_quotes-at.ensures in
-    rw (← q.out_after, ← q.value) (record { out_after = c.put_number.ensures.out_after; value = c.put_number.ensures.value })
+    rw (← q.out_after, ← q.value, ← c.from.ensures) (record { out_after = c.put_number.ensures.out_after; value = c.put_number.ensures.value })

@@ -1,18 +1,18 @@
-use mathlib.Core.Path.{sym, ◌∙◌}
-use Rattle.harness.proofs.Placing.{placed_none, copied_none, copied_more, copied_all}
+-- `harness::text::put` meets its contract: the whole text is copied to its place. Assumes nothing.
+use Rattle.std.proofs.Common.{sym, ◌∙◌, rules}
+use Rattle.harness.proofs.Placing.{placed_none, placed_all, fits_within}
 use Rattle.harness.proofs.text.put.Goals as goal
 
 pub returns-then-not-has_room : goal.returns-then-not-has_room
 returns-then-not-has_room c = let p = placed_none _ _ _ (sym c.has_room.ensures ∙ c.if-not-has_room.true) in record { out_after = p.0; value = p.1 }
 
-pub loop-i-init : goal.loop-i-init
-loop-i-init c = copied_none _ _ _ (sym c.has_room.ensures ∙ c.if-not-has_room.false)
+pub overflow_add-end : goal.overflow_add-end
+overflow_add-end c = let h = fits_within _ _ _ (sym c.has_room.ensures ∙ c.if-not-has_room.false) in search rules
 
-pub loop-i-preserved : goal.loop-i-preserved
-loop-i-preserved c = copied_more _ _ _ _ _ c.loop-i.invariant c.loop-i-test.true
-
-pub shape_of-out : goal.shape_of-out
-shape_of-out c = c.loop-i.invariant.size
+pub slice_bounds-copy_from_slice-end : goal.slice_bounds-copy_from_slice-end
+slice_bounds-copy_from_slice-end c = let h = fits_within _ _ _ (sym c.has_room.ensures ∙ c.if-not-has_room.false) in search rules
 
 pub returns : goal.returns
-returns c = let p = copied_all _ _ _ _ _ c.loop-i.invariant c.loop-i-test.false in record { out_after = p.0; value = p.1 }
+returns c =
+    let p = placed_all _ _ _ _ (sym c.has_room.ensures ∙ c.if-not-has_room.false) c.copy_from_slice.ensures.after in
+    record { out_after = p.0; value = p.1 }

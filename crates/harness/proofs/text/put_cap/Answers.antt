@@ -6,4 +6,4 @@ pub returns : goal.returns
 unfolding capped after_capped lettered after_lettered
 returns c =
     let p = c.put-next.ensures in
-    rw (← p.out_after, ← p.value, ← c.put_float-next.ensures.out_after, ← c.put_float-next.ensures.value) (record { out_after = c.put_number.ensures.out_after; value = c.put_number.ensures.value })
+    rw (← p.out_after, ← p.value, ← c.put_float-next.ensures.out_after, ← c.put_float-next.ensures.value, ← c.from.ensures) (record { out_after = c.put_number.ensures.out_after; value = c.put_number.ensures.value })

@@ -6,4 +6,4 @@ pub returns : goal.returns
 unfolding lettered after_lettered
 returns c =
     let p = c.put-next.ensures in
-    rw (← p.out_after, ← p.value) (record { out_after = c.put_number.ensures.out_after; value = c.put_number.ensures.value })
+    rw (← p.out_after, ← p.value, ← c.from.ensures) (record { out_after = c.put_number.ensures.out_after; value = c.put_number.ensures.value })

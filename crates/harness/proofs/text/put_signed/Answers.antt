@@ -8,12 +8,12 @@ unfolding signed_by after_signed
 returns-then-n-lt0 c =
     let p = c.put-next.ensures in
     let t = rw (to_z-of_z c.ranges.n) at c.if-n-lt0.true in
-    let z = rw (to_z-of_z c.ranges.n) at c.size_of.ensures in
+    let z = rw (to_z-of_z c.ranges.n) at c.unsigned_abs.ensures.value in
     rw (t, ← z, ← p.out_after, ← p.value) (record { out_after = c.put_count.ensures.out_after; value = c.put_count.ensures.value })
 
 pub returns : goal.returns
 unfolding signed_by after_signed
 returns c =
     let t = rw (to_z-of_z c.ranges.n) at c.if-n-lt0.false in
-    let z = rw (to_z-of_z c.ranges.n) at c.size_of-2.ensures in
+    let z = rw (to_z-of_z c.ranges.n) at c.unsigned_abs-2.ensures.value in
     rw (t, ← z) (record { out_after = c.put_count-2.ensures.out_after; value = c.put_count-2.ensures.value })

@@ -1,8 +1,0 @@
--- The loop's invariant: `out` keeps its length, and the input holds the patterns to come. Assumes nothing.
-use Prim.Native.Nat.{◌*◌, ◌≤◌}
-use mathlib.Core.Path.{◌≡◌}
-use lib.ListN.{length}
-use Rattle.elementary_bits.proofs.put_lines.Given as goal
-
-abbrev pub invariant-loop-i : goal.invariant-loop-i
-invariant-loop-i l = (length l.out ≡ length l.initial.out) × (l.i ≤ l.i-end) × (l.i-end * 8 ≤ l.n)
