@@ -25,9 +25,7 @@ mod numbers;
 mod setting;
 
 use desk::{amount_at, config_at, put_exact};
-use harness::{
-    LARGEST_BOUND, Sizes, first, put, put_cut, put_number, put_refusal, read_block, word_at,
-};
+use harness::{LARGEST_BOUND, Sizes, put, put_number, put_refusal, run, word_at};
 use numbers::{are_same, copy};
 use quote::ExactQuotes;
 use quote::refusals::LIMITS;
@@ -35,20 +33,12 @@ use setting::set_number;
 use table::places::{FILLED, NEXT};
 use table::{TABLE_ROOM, clear_table, table_quotes};
 
-// The bytes of a record.
-const RECORD: usize = 104;
-
-// The bytes read at once: 630 records.
-const BLOCK: usize = 65520;
-
-// The most bytes of a line: a letter, two prices of 19 digits, the steps of 10, two numbers of 20, each
-// after a space, a space, a letter and the line's end.
-const LINE: usize = 97;
-
+// A record has 104 bytes, 630 records are read at once, and a line has at most a letter, two prices of 19
+// digits, the steps of 10, two numbers of 20, each after a space, a space, a letter and its end.
 const SIZES: Sizes = Sizes {
-    size: RECORD,
-    block: BLOCK,
-    line: LINE,
+    size: 104,
+    block: 65520,
+    line: 97,
 };
 
 // The most numbers of a table.
@@ -169,57 +159,14 @@ fn lent_after(s: &[u8], at: usize, lent: usize) -> usize {
     lent
 }
 
-// How many bytes are left to write, and how many numbers the next call gets.
-#[derive(Clone, Copy)]
-struct Progress {
-    used: usize,
-    lent: usize,
-}
-
-// Puts the lines of the records in the first n bytes of s into `out`, which is written out whenever
-// it is full.
-fn put_lines(
-    out: &mut [u8],
-    s: &[u8],
-    n: usize,
-    numbers: &mut [u64],
-    lent_before: usize,
-) -> Progress {
-    let mut lent = lent_before;
-    let mut put_next = |out: &mut [u8], start, s: &[u8], at| {
-        let end = put_line(out, start, s, at, numbers, lent);
-        lent = lent_after(s, at, lent);
-        end
-    };
-    let used = harness::put_lines(out, 0, first(s, n), SIZES, &mut put_next);
-    Progress { used, lent }
-}
-
-// Reads a block and writes its lines. A full one holds whole records, and more may follow it: then it answers
-// how many numbers the next call gets.
-fn run_block(numbers: &mut [u64], lent: usize) -> Option<usize> {
-    let mut block = io::large_buffer();
-    let n = read_block(&mut block, BLOCK);
-    let mut out = io::large_buffer();
-    let lines = put_lines(&mut out, &block, n, numbers, lent);
-    let used = put_cut(&mut out, lines.used, n % RECORD);
-    // where standard output takes no more, nothing more is read
-    if io::write_all(harness::STDOUT, first(&out, used)) && n == BLOCK {
-        return Some(lines.lent);
-    }
-    None
-}
-
 fn main() {
     let mut room = [UNSET; ROOM];
     let numbers: &mut [u64] = &mut room;
     let mut lent = TABLE_ROOM;
-    let mut blocks = harness::MANY;
-    while blocks > 0 {
-        let Some(n) = run_block(numbers, lent) else {
-            return;
-        };
-        lent = n;
-        blocks -= 1;
-    }
+    let put_next = |out: &mut [u8], start, s: &[u8], at| {
+        let end = put_line(out, start, s, at, numbers, lent);
+        lent = lent_after(s, at, lent);
+        end
+    };
+    run(SIZES, put_next);
 }
