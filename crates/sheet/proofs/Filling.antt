@@ -1,5 +1,5 @@
 -- Filling a buffer text by text: the definition's turns, and a fill of which some texts are in. Assumes nothing.
-use Rattle.std.specs.Prelude.{Ok, Err}
+use Rattle.std.specs.Prelude.{Ok, Err, Some, Result, Option, None}
 use mathlib.Core.Path.{◌≡◌, refl, sym, ap, ◌∙◌, subst}
 use mathlib.Core.Logic.{⊎_elim}
 use Prim.Native.Nat.{ℕ, zero, suc, ◌+◌, ◌-◌, ◌<◌, ◌≤◌}
@@ -14,17 +14,16 @@ use borrow.Rule.Slice.PartMut.{mid_of, put_mid, mid_len, put_same}
 use Rattle.buffers.specs.Over.{over}
 use Rattle.buffers.proofs.Texts.{Wrote, wrote_none, wrote_length, wrote_part}
 use Rattle.lines.specs.Refusals.{small_buffer}
-use Rattle.lines.specs.Lines.{least_room, has_room}
+use Rattle.lines.specs.Lines.{least_room, has_room, refusal}
 use Rattle.ladders.specs.Refusals.{small_ladder_buffer}
 use Rattle.sheet.specs.Sheet.{Step, line, end, answered, left, refuse}
 use Rattle.sheet.specs.Kinds.{room_of, text_at}
 use Rattle.sheet.specs.Inner.{text_in}
 use Rattle.sheet.specs.Fill.{Fill, up_to, after, fill_by, fill, filled_if, left_if, filled_as, left_as}
 use Rattle.sheet.specs.declared.text.Kind.{Kind}
-use Rattle.sheet.specs.declared.line.LineAnswer.{LineAnswer}
-use Rattle.sheet.specs.declared.line.LineAnswer.TheVariants as LineAnswer
 use Rattle.sheet.proofs.Texts.{with_room, room_least, text_end, text_before, text_written, texts_fit, texts_move}
 use Rattle.elementary.specs.Checks.{by}
+use Rattle.elementary.specs.declared.Refusal.{Refusal}
 
 -- ---- the turns: more than enough change nothing
 done : (j : ℕ) (m : Bool) (x : Step) (k : Kind) (s : List ℕ) (at room : ℕ) → x ≡ end → fill_by j m x k s at room ≡ up_to [] at
@@ -92,16 +91,25 @@ pub filling_none : (k : Kind) (s : List ℕ) (at : ℕ) (l : List ℕ) → Filli
 filling_none k s at l = record { text = []; wrote = wrote_none l; room = omega arith; so_far = rw (sub-zero (length l), after_none (fill k s at (length l))) }
 
 -- what `next_text` wrote into the part that was lent
-text_in_lem : (b : Bool) (x : Step) (j next : ℕ) (part back : List ℕ) → LineAnswer.Written j next ≡ answered b x → back ≡ left b x part
+text_in_lem : (b : Bool) (x : Step) (j next : ℕ) (part back : List ℕ) → Ok (Some (j, next)) ≡ answered b x → back ≡ left b x part
     → (t : List ℕ) × (x ≡ line t next) × (j ≡ length t) × (back ≡ over t part)
 unfolding answered left
 text_in_lem false x j next part back e o = let z : ◌≡◌ {A = ℕ} 0 1 = cc in absurd (omega arith)
-text_in_lem true (line t m) j next part back e o = let z : m ≡ next = cc in (t, ap (line t) z, cc, o)
+text_in_lem true (line t m) j next part back e o =
+    let p : ◌≡◌ {A = ℕ × ℕ} (j, next) (length t, m) = cc in
+    (t, ap (λ (z : ℕ × ℕ). line t z.1) (sym p), ap (λ (z : ℕ × ℕ). z.0) p, o)
 text_in_lem true end j next part back e o = let z : ◌≡◌ {A = ℕ} 0 1 = cc in absurd (omega arith)
 text_in_lem true (refuse n) j next part back e o = let z : ◌≡◌ {A = ℕ} 0 1 = cc in absurd (omega arith)
 
+-- the answer is no refusal where no step is refused
+never_refused : (x : Step) (r : Refusal) → ((n : ℕ) → x ≡ refuse n → ⊥) → Err r ≡ answered true x → ⊥
+unfolding answered
+never_refused end r g e = let z : ◌≡◌ {A = ℕ} 0 1 = cc in omega arith
+never_refused (refuse n) r g e = g n refl
+never_refused (line t next) r g e = let z : ◌≡◌ {A = ℕ} 0 1 = cc in omega arith
+
 -- the answer is no text: where no step is refused, the sheet is at its end
-none_left : (x : Step) (r : LineAnswer) → ((n : ℕ) → x ≡ refuse n → ⊥) → ((j m : ℕ) → r ≡ LineAnswer.Written j m → ⊥) → r ≡ answered true x → x ≡ end
+none_left : (x : Step) (r : Result (Option (ℕ × ℕ)) Refusal) → ((n : ℕ) → x ≡ refuse n → ⊥) → ((j m : ℕ) → r ≡ Ok (Some (j, m)) → ⊥) → r ≡ answered true x → x ≡ end
 unfolding answered
 none_left end r g o e = refl
 none_left (refuse n) r g o e = absurd (g n refl)
@@ -120,7 +128,7 @@ module _ (k : Kind) (s : List ℕ) (at : ℕ) (l out : List ℕ) (n next : ℕ) 
   part_is h = with_room k (length part) s next (rw (mid_len n (length out) out (le_refl (length out))) h)
 
   -- a text more
-  pub text_added : (b : Bool) (j place : ℕ) (back : List ℕ) → room_of k ≤ length out - n → LineAnswer.Written j place ≡ answered b (text_in k (length part) s next)
+  pub text_added : (b : Bool) (j place : ℕ) (back : List ℕ) → room_of k ≤ length out - n → Ok (Some (j, place)) ≡ answered b (text_in k (length part) s next)
       → back ≡ left b (text_in k (length part) s next) part
       → (n + j ≤ length l) × (next < place) × (place ≤ length s) × Filling k s at l (put_mid n (length out - n) out back) (n + j) place
   text_added b j place back h e o =
@@ -150,8 +158,15 @@ module _ (k : Kind) (s : List ℕ) (at : ℕ) (l out : List ℕ) (n next : ℕ) 
   pub filling_full : least_room ≤ length l → room_of k ≤ length l → length out - n < room_of k → (Ok (n, next) ≡ filled_as k s at l) × (out ≡ left_as k s at l)
   filling_full h g m = filling_done h g (fill_full k s next (length l - n) (omega (arith, filling_length)))
 
+  -- the part has the room, so the answer is no refusal
+  pub filling_goes_on : (r : Refusal) → room_of k ≤ length out - n → Err r ≡ answered (has_room part) (text_in k (length part) s next) → ⊥
+  filling_goes_on r m e =
+      let x = part_is m in
+      let b : has_room part ≡ true = le-leb least_room (length part) (rw (mid_len n (length out) out (le_refl (length out))) (le_trans (room_least k) m)) in
+      never_refused (text_at k s next) r (text_written k s next) (e ∙ rw (b, x))
+
   -- the answer is no text, so the sheet is at its end
-  pub filling_end : (r : LineAnswer) (back : List ℕ) → least_room ≤ length l → room_of k ≤ length l → room_of k ≤ length out - n → ((j m : ℕ) → r ≡ LineAnswer.Written j m → ⊥)
+  pub filling_end : (r : Result (Option (ℕ × ℕ)) Refusal) (back : List ℕ) → least_room ≤ length l → room_of k ≤ length l → room_of k ≤ length out - n → ((j m : ℕ) → r ≡ Ok (Some (j, m)) → ⊥)
       → r ≡ answered (has_room part) (text_in k (length part) s next) → back ≡ left (has_room part) (text_in k (length part) s next) part
       → (Ok (n, next) ≡ filled_as k s at l) × (put_mid n (length out - n) out back ≡ left_as k s at l)
   unfolding left

@@ -1,5 +1,5 @@
 -- What refuses the ladder at a place of a sheet: 8, then 21 in just the situation named. Assumes nothing.
-use Rattle.std.specs.Prelude.{Err}
+use Rattle.std.specs.Prelude.{Err, Result, Option, Ok, Some, None}
 use mathlib.Core.Path.{◌≡◌, refl, sym, ap, ◌∙◌}
 use mathlib.Core.Logic.{◌⊎◌, inl, inr, ⊎_elim}
 use Prim.Native.Nat.{ℕ, ◌<◌, ◌≤◌}
@@ -22,20 +22,19 @@ use Rattle.ladders.proofs.LadderLaws.{ladder_refusals}
 use Rattle.sheet.specs.Sheet.{most_bytes, Step, line, end, refuse, step_by, step_of, step_if, step_at, answered, left}
 use Rattle.sheet.specs.Ladders.{refused_by, ladder_text, record_ladder, ladder_at}
 use Rattle.sheet.specs.Refusing.{Readable, ShortLadder, LadderBufferRefusals}
-use Rattle.sheet.specs.declared.line.LineAnswer.TheVariants as LineAnswer
 use Rattle.sheet.proofs.Steps.{step_read}
 use Rattle.elementary.specs.Checks.{by}
 use Rattle.elementary.proofs.Checks.{same_number, same_err}
 
 -- ---- a refusal, by the buffer's size and by the step
-refused_of : (m : Bool) (x : Step) (k : ℕ) → answered m x ≡ LineAnswer.Refused (by k) → ((k ≡ small_buffer) × (m ≡ false)) ⊎ ((m ≡ true) × (x ≡ refuse k))
+refused_of : (m : Bool) (x : Step) (k : ℕ) → answered m x ≡ Err (by k) → ((k ≡ small_buffer) × (m ≡ false)) ⊎ ((m ≡ true) × (x ≡ refuse k))
 unfolding answered
 refused_of false x k e = inl (same_number (let z : by k ≡ by small_buffer = cc in z), refl)
 refused_of true (line t next) k e = let z : ◌≡◌ {A = ℕ} 0 1 = cc in absurd (omega arith)
 refused_of true end k e = let z : ◌≡◌ {A = ℕ} 0 1 = cc in absurd (omega arith)
 refused_of true (refuse n) k e = let z : n ≡ k = same_number (let y : by n ≡ by k = cc in y) in inr (refl, ap refuse z)
 
-left_same : (m : Bool) (x : Step) (k : ℕ) (b : List ℕ) → answered m x ≡ LineAnswer.Refused (by k) → left m x b ≡ b
+left_same : (m : Bool) (x : Step) (k : ℕ) (b : List ℕ) → answered m x ≡ Err (by k) → left m x b ≡ b
 unfolding answered left
 left_same false x k b e = refl
 left_same true (line t next) k b e = let z : ◌≡◌ {A = ℕ} 0 1 = cc in absurd (omega arith)
@@ -103,7 +102,7 @@ module _ (b : List ℕ) (r : Record) where
 
 -- ---- at a place of a sheet
 module _ (s : List ℕ) (at : ℕ) (b : List ℕ) (k : ℕ) where
-  told_so : answered (has_room b) (ladder_at (length b) s at) ≡ LineAnswer.Refused (by k) → ((k ≡ small_buffer) × (length b < least_room)) ⊎ ((k ≡ small_ladder_buffer) × (least_room ≤ length b) × ShortLadder s at (length b))
+  told_so : answered (has_room b) (ladder_at (length b) s at) ≡ Err (by k) → ((k ≡ small_buffer) × (length b < least_room)) ⊎ ((k ≡ small_ladder_buffer) × (least_room ≤ length b) × ShortLadder s at (length b))
   unfolding ladder_at
   told_so e = go (refused_of (has_room b) _ k e)
     where
@@ -116,7 +115,7 @@ module _ (s : List ℕ) (at : ℕ) (b : List ℕ) (k : ℕ) where
           let y = short_so b r.0 k r.3 in
           inr (y.0, leb-true least_room (length b) x.0, (p.0, (r.0, r.1, r.2, y.1.0, y.1.1)))
 
-  so_told : ((k ≡ small_buffer) × (length b < least_room)) ⊎ ((k ≡ small_ladder_buffer) × (least_room ≤ length b) × ShortLadder s at (length b)) → answered (has_room b) (ladder_at (length b) s at) ≡ LineAnswer.Refused (by k)
+  so_told : ((k ≡ small_buffer) × (length b < least_room)) ⊎ ((k ≡ small_ladder_buffer) × (least_room ≤ length b) × ShortLadder s at (length b)) → answered (has_room b) (ladder_at (length b) s at) ≡ Err (by k)
   unfolding answered ladder_at step_of step_by
   so_told (inl x) = rw (lt-leb least_room (length b) x.1, x.0)
   so_told (inr x) =

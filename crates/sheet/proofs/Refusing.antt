@@ -1,5 +1,5 @@
 -- Each refusal of this layer is the reply in just the situation that the paper names. Assumes nothing.
-use Rattle.std.specs.Prelude.{Err}
+use Rattle.std.specs.Prelude.{Err, Result, Option, Ok, Some, None}
 use mathlib.Core.Path.{◌≡◌, refl, sym}
 use mathlib.Core.Logic.{◌⊎◌, inl, inr, ⊎_elim, ◌↔◌}
 use Prim.Native.Nat.{ℕ, ◌<◌}
@@ -18,12 +18,11 @@ use Rattle.sheet.specs.Kinds.{room_of}
 use Rattle.sheet.specs.Fill.{Fill, up_to, fill, filled_if, left_if}
 use Rattle.sheet.specs.Refusing.{BufferRefusals, FillRefusals}
 use Rattle.sheet.specs.declared.text.Kind.TheVariants as Kind
-use Rattle.sheet.specs.declared.line.LineAnswer.TheVariants as LineAnswer
 use Rattle.elementary.specs.Checks.{by}
 use Rattle.elementary.proofs.Checks.{same_number, same_err}
 
 -- ---- 8
-line_refused : (m : Bool) (x : Step) (k : ℕ) → ((n : ℕ) → x ≡ refuse n → ⊥) → answered m x ≡ LineAnswer.Refused (by k) → (k ≡ small_buffer) × (m ≡ false)
+line_refused : (m : Bool) (x : Step) (k : ℕ) → ((n : ℕ) → x ≡ refuse n → ⊥) → answered m x ≡ Err (by k) → (k ≡ small_buffer) × (m ≡ false)
 unfolding answered
 line_refused false x k g e = (same_number (let z : by k ≡ by small_buffer = cc in z), refl)
 line_refused true (line t next) k g e = let z : ◌≡◌ {A = ℕ} 0 1 = cc in absurd (omega arith)
@@ -31,7 +30,7 @@ line_refused true end k g e = let z : ◌≡◌ {A = ℕ} 0 1 = cc in absurd (om
 line_refused true (refuse n) k g e = absurd (g n refl)
 
 -- whatever stands at the place, where no step is refused
-pub step_refusals : (x : Step) (b : List ℕ) (k : ℕ) → ((n : ℕ) → x ≡ refuse n → ⊥) → (answered (has_room b) x ≡ LineAnswer.Refused (by k)) ↔ ((k ≡ small_buffer) × (length b < least_room))
+pub step_refusals : (x : Step) (b : List ℕ) (k : ℕ) → ((n : ℕ) → x ≡ refuse n → ⊥) → (answered (has_room b) x ≡ Err (by k)) ↔ ((k ≡ small_buffer) × (length b < least_room))
 unfolding answered
 step_refusals x b k g = (
   λ e. let h = line_refused (has_room b) x k g e in (h.0, leb-false least_room (length b) h.1),

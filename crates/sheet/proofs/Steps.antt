@@ -1,5 +1,5 @@
 -- The line at a place of a sheet, by where the place is and what is read there. Assumes nothing.
-use Rattle.std.specs.Prelude.{Result}
+use Rattle.std.specs.Prelude.{Result, Err, Ok, None, Option, Some}
 use mathlib.Core.Path.{◌≡◌, refl, ap, ◌∙◌}
 use native.Mathlib.Omega.{arith}
 use mathlib.Core.Bool.{Bool, true, false}
@@ -17,7 +17,6 @@ use Rattle.sheet.specs.Inner.{stepped_by}
 use Rattle.sheet.specs.Sheet.{most_bytes, line_text, Step, line, end, refuse, step_by, step_of, step_if, step_at, line_at, answered, left}
 use Rattle.record.specs.declared.record.Record.{Record}
 use Rattle.record.specs.declared.record.RecordAnswer.{RecordAnswer}
-use Rattle.sheet.specs.declared.line.LineAnswer.TheVariants as LineAnswer
 use Rattle.elementary.specs.declared.Refusal.{Refusal}
 use Rattle.elementary.specs.Checks.{by}
 
@@ -44,11 +43,11 @@ module _ (s : List ℕ) (at : ℕ) where
   line_read h k = step_read line_text s at (read_record s at) h k
 
 -- ---- what `next_line` answers, and what it leaves in a buffer l
-pub no_room : (t : Step) (l : List ℕ) → length l < least_room → (LineAnswer.Refused (by small_buffer) ≡ answered (has_room l) t) × (l ≡ left (has_room l) t l)
+pub no_room : (t : Step) (l : List ℕ) → length l < least_room → (Err (by small_buffer) ≡ answered (has_room l) t) × (l ≡ left (has_room l) t l)
 unfolding answered left
 no_room t l h = rw (lt-leb least_room (length l) h) (refl, refl)
 
-pub no_line : (t : Step) (l : List ℕ) → least_room ≤ length l → t ≡ end → (LineAnswer.End ≡ answered (has_room l) t) × (l ≡ left (has_room l) t l)
+pub no_line : (t : Step) (l : List ℕ) → least_room ≤ length l → t ≡ end → (Ok None ≡ answered (has_room l) t) × (l ≡ left (has_room l) t l)
 unfolding answered left
 no_line t l h e = rw (le-leb least_room (length l) h, e) (refl, refl)
 

@@ -1,5 +1,5 @@
 -- Change request 6 for a sheet: is a record's horizon too long? Each statement is proved once, in proofs/. Definitions only.
-use Rattle.std.specs.Prelude.{◌≡◌, ◌⊎◌, ◌↔◌, ℕ, ◌<◌, ◌≤◌, List, length, Float}
+use Rattle.std.specs.Prelude.{◌≡◌, ◌⊎◌, ◌↔◌, ℕ, ◌<◌, ◌≤◌, List, length, Float, Err, Result, Option, Ok, Some, None}
 use Rattle.plan.specs.declared.FirstPlan.{FirstPlan}
 use Rattle.plan.specs.declared.FirstPlan.TheVariants as FirstPlan
 use Rattle.quote.specs.Horizon.{desk_plan}
@@ -9,7 +9,6 @@ use Rattle.lines.specs.Lines.{least_room, has_room, plan_line, Text, text}
 use Rattle.sheet.specs.Sheet.{record_line, Step, line, step_at, line_at, answered}
 use Rattle.record.specs.declared.record.Record.{Record}
 use Rattle.record.specs.declared.record.RecordAnswer.TheVariants as RecordAnswer
-use Rattle.sheet.specs.declared.line.LineAnswer.TheVariants as LineAnswer
 use Rattle.elementary.specs.Checks.{by}
 
 -- a record's plan, and its line
@@ -38,4 +37,4 @@ pub record HorizonLines : Type 0 where
   pub fits : (s : List ℕ) (at : ℕ) (t : List ℕ) (next : ℕ) → plan_at s at ≡ line t next → length t ≤ least_room
   pub moves : (s : List ℕ) (at : ℕ) (t : List ℕ) (next : ℕ) → plan_at s at ≡ line t next → (at < next) × (next ≤ length s)
   -- 8: the buffer has fewer than 64 bytes, whatever the sheet and the place
-  pub small : (s : List ℕ) (at : ℕ) (b : List ℕ) (k : ℕ) → (answered (has_room b) (plan_at s at) ≡ LineAnswer.Refused (by k)) ↔ ((k ≡ small_buffer) × (length b < least_room))
+  pub small : (s : List ℕ) (at : ℕ) (b : List ℕ) (k : ℕ) → (answered (has_room b) (plan_at s at) ≡ Err (by k)) ↔ ((k ≡ small_buffer) × (length b < least_room))

@@ -1,9 +1,7 @@
 -- What the crate's own functions hand each other. No public contract cites this file. Definitions only.
-use Rattle.std.specs.Prelude.{ℕ, List, Result, Ok, Err}
+use Rattle.std.specs.Prelude.{ℕ, List, Result, Ok, Err, Option, Some, None}
 use Rattle.record.specs.Record.{read_as}
 use Rattle.lines.specs.Lines.{Text}
-use Rattle.sheet.specs.declared.line.LineAnswer.{LineAnswer}
-use Rattle.sheet.specs.declared.line.LineAnswer.TheVariants as LineAnswer
 use Rattle.sheet.specs.Sheet.{line_text, Step, step_at}
 use Rattle.sheet.specs.Ladders.{record_ladder}
 use Rattle.sheet.specs.Horizon.{plan_text}
@@ -12,6 +10,7 @@ use Rattle.record.specs.declared.record.Record.{Record}
 use Rattle.sheet.specs.declared.text.Kind.{Kind}
 use Rattle.sheet.specs.declared.text.Kind.TheVariants as Kind
 use Rattle.elementary.specs.declared.Refusal.{Refusal}
+use Rattle.elementary.specs.Checks.{by}
 
 -- a record's line, its ladder or its plan, for a buffer of so many bytes
 unfoldable pub record_text : Kind → ℕ → Record → Text
@@ -23,6 +22,6 @@ abbrev pub text_in : Kind → ℕ → List ℕ → ℕ → Step
 text_in k room s at = step_at (record_text k room) s at (read_as (is_flat k) s at)
 
 -- a step's answer, by that of a writer
-unfoldable pub stepped_by : Result ℕ Refusal → ℕ → LineAnswer
-stepped_by (Ok n) next = LineAnswer.Written n next
-stepped_by (Err k) next = LineAnswer.Refused k
+unfoldable pub stepped_by : Result ℕ Refusal → ℕ → Result (Option (ℕ × ℕ)) Refusal
+stepped_by (Ok n) next = Ok (Some (n, next))
+stepped_by (Err k) next = Err k

@@ -1,5 +1,5 @@
 -- Document 01 and change request 4: each of 8, 9 and 21, and the line of each of 6, 7 and 2, is the reply of this layer in just the situation named. Named statements, each proved once, in proofs/. Definitions only.
-use Rattle.std.specs.Prelude.{◌≡◌, ◌⊎◌, ◌↔◌, ℕ, ◌<◌, ◌≤◌, true, List, length, drop, Err}
+use Rattle.std.specs.Prelude.{◌≡◌, ◌⊎◌, ◌↔◌, ℕ, ◌<◌, ◌≤◌, true, List, length, drop, Err, Result, Option, Ok, Some, None}
 use Rattle.amounts.specs.Refusals.{limits}
 use Rattle.record.specs.Refusals.{cut_short, malformed}
 use Rattle.record.specs.Record.{config_of, read_as}
@@ -16,7 +16,6 @@ use Rattle.sheet.specs.Ladders.{ladder_at}
 use Rattle.sheet.specs.Kinds.{room_of}
 use Rattle.sheet.specs.Fill.{filled_as, left_as, filled}
 use Rattle.sheet.specs.declared.text.Kind.{Kind}
-use Rattle.sheet.specs.declared.line.LineAnswer.TheVariants as LineAnswer
 use Rattle.elementary.specs.Checks.{by}
 
 -- before the end of a sheet that is no longer than the longest
@@ -26,7 +25,7 @@ Readable s at = (at < length s) × (length s ≤ most_bytes)
 -- ==== 8: the buffer has fewer than 64 bytes, whatever the sheet and the place
 abbrev pub BufferRefusals : Type 0
 BufferRefusals = (s : List ℕ) (at : ℕ) (b : List ℕ) (k : ℕ)
-    → ((answered (has_room b) (line_at s at) ≡ LineAnswer.Refused (by k)) ↔ ((k ≡ small_buffer) × (length b < least_room)))
+    → ((answered (has_room b) (line_at s at) ≡ Err (by k)) ↔ ((k ≡ small_buffer) × (length b < least_room)))
     × ((filled s at b ≡ Err (by k)) ↔ ((k ≡ small_buffer) × (length b < least_room)))
 
 -- of whole texts: 8 likewise; then 21, where the buffer has less than the room for any text of the kind; and a refusal leaves the buffer as it was
@@ -42,9 +41,9 @@ ShortLadder s at room = Readable s at × ((r : Record) × (next : ℕ) × (read_
 
 abbrev pub LadderBufferRefusals : Type 0
 LadderBufferRefusals = (s : List ℕ) (at : ℕ) (b : List ℕ) (k : ℕ)
-    → ((answered (has_room b) (ladder_at (length b) s at) ≡ LineAnswer.Refused (by k))
+    → ((answered (has_room b) (ladder_at (length b) s at) ≡ Err (by k))
     ↔ (((k ≡ small_buffer) × (length b < least_room)) ⊎ ((k ≡ small_ladder_buffer) × (least_room ≤ length b) × ShortLadder s at (length b))))
-    × (answered (has_room b) (ladder_at (length b) s at) ≡ LineAnswer.Refused (by k) → left (has_room b) (ladder_at (length b) s at) b ≡ b)
+    × (answered (has_room b) (ladder_at (length b) s at) ≡ Err (by k) → left (has_room b) (ladder_at (length b) s at) b ≡ b)
 
 -- ==== the lines: `R 9` for a sheet over 65,536 bytes, before its end; else `R 6` and `R 7`, after which nothing is read, and `R 2`, after which reading goes on
 abbrev pub LongLine : Type 0

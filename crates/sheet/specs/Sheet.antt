@@ -1,5 +1,5 @@
 -- Document 01, module 6: a sheet's lines and other texts, one by one and as a whole. Definitions only.
-use Rattle.std.specs.Prelude.{ℕ, zero, suc, Bool, true, false, List, [], ◌∷◌, ◌++◌, length, ltb, leb}
+use Rattle.std.specs.Prelude.{ℕ, zero, suc, Bool, true, false, List, [], ◌∷◌, ◌++◌, length, ltb, leb, Result, Option, Ok, Err, Some, None}
 use Rattle.amounts.specs.Refusals.{limits}
 use Rattle.quote.specs.Quotes.{exact_quotes}
 use Rattle.lines.specs.Refusals.{small_buffer}
@@ -10,9 +10,8 @@ use Rattle.buffers.specs.Over.{over}
 use Rattle.record.specs.declared.record.Record.{Record}
 use Rattle.record.specs.declared.record.RecordAnswer.{RecordAnswer}
 use Rattle.record.specs.declared.record.RecordAnswer.TheVariants as RecordAnswer
-use Rattle.sheet.specs.declared.line.LineAnswer.{LineAnswer}
-use Rattle.sheet.specs.declared.line.LineAnswer.TheVariants as LineAnswer
 use Rattle.elementary.specs.Checks.{by}
+use Rattle.elementary.specs.declared.Refusal.{Refusal}
 
 -- the longest sheet
 abbrev pub most_bytes : ℕ
@@ -56,11 +55,11 @@ unfoldable pub line_at : List ℕ → ℕ → Step
 line_at s at = step_at line_text s at (read_record s at)
 
 -- ---- what `next_line` answers, and what it leaves in the buffer: has that the room
-unfoldable pub answered : Bool → Step → LineAnswer
-answered false x = LineAnswer.Refused (by small_buffer)
-answered true (line t next) = LineAnswer.Written (length t) next
-answered true end = LineAnswer.End
-answered true (refuse n) = LineAnswer.Refused (by n)
+unfoldable pub answered : Bool → Step → Result (Option (ℕ × ℕ)) Refusal
+answered false x = Err (by small_buffer)
+answered true (line t next) = Ok (Some (length t, next))
+answered true end = Ok None
+answered true (refuse n) = Err (by n)
 
 unfoldable pub left : Bool → Step → List ℕ → List ℕ
 left false x b = b

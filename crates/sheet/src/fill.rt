@@ -3,7 +3,6 @@ ghost use Rattle.std.specs.Prelude.{◌≡◌};
 ghost use Rattle.sheet.specs.Kinds.{room_of};
 ghost use Rattle.sheet.specs.Fill.{filled_as, left_as, filled, left_in};
 
-use crate::line::LineAnswer;
 use crate::text::{Kind, next_text};
 use elementary::Refusal;
 use ladders::MOST_LADDER;
@@ -44,7 +43,7 @@ pub fn fill_texts(
     let mut n: usize = 0;
     let mut next = at;
     while out.len() - n >= room {
-        let LineAnswer::Written(k, place) = next_text(sheet, next, &mut out[n..], kind) else {
+        let Some((k, place)) = next_text(sheet, next, &mut out[n..], kind)? else {
             return Ok((n, next));
         };
         n += k;

@@ -12,13 +12,8 @@ use record::{Record, config_of};
 // The longest sheet.
 pub const MOST_BYTES: usize = 65536;
 
-// The length of a text and the place of the next record; the end of the sheet; or a refusal by 8 or 21.
-#[derive(Clone, Copy)]
-pub enum LineAnswer {
-    Written(usize, usize),
-    End,
-    Refused(Refusal),
-}
+// The length of a text and the place of the next record; none at the end of the sheet; or a refusal by 8 or 21.
+pub type LineAnswer = Result<Option<(usize, usize)>, Refusal>;
 
 // The line of a record.
 pub(crate) fn write_record(line: &mut [u8], r: Record) -> Result<usize, Refusal>

@@ -47,10 +47,7 @@ fn write_text(out: &mut [u8], r: Record, kind: Kind) -> Result<usize, Refusal>
 fn stepped(written: Result<usize, Refusal>, next: usize) -> LineAnswer
     ensures { result ≡ stepped_by written next }
 {
-    match written {
-        Ok(n) => LineAnswer::Written(n, next),
-        Err(refusal) => LineAnswer::Refused(refusal),
-    }
+    Ok(Some((written?, next)))
 }
 
 // Writes what stands for the record at a place of a sheet, a text of some kind: refused by 8 and 21,
@@ -60,10 +57,10 @@ pub(crate) fn next_text(sheet: &[u8], at: usize, out: &mut [u8], kind: Kind) -> 
     ensures out_after { out.new ≡ left (has_room out.old) (text_in kind (length out.old) sheet.now at) out.old }
 {
     if out.len() < LEAST_ROOM {
-        return LineAnswer::Refused(SMALL_BUFFER);
+        return Err(SMALL_BUFFER);
     }
     if at >= sheet.len() {
-        return LineAnswer::End;
+        return Ok(None);
     }
     if sheet.len() > MOST_BYTES {
         return stepped(write_refusal(out, LONG_SHEET), sheet.len());

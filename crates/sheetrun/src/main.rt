@@ -6,7 +6,6 @@
 ghost use Rattle.std.specs.Prelude.{◌≡◌, length};
 
 use harness::{first, read_block};
-use sheet::LineAnswer;
 
 // One byte more than the longest sheet.
 const ROOM: usize = sheet::MOST_BYTES + 1;
@@ -18,12 +17,11 @@ const LENGTH: usize = 3;
 fn say_line(s: &[u8], at: usize) -> usize {
     let mut line = [0u8; sheet::LEAST_ROOM];
     match sheet::next_line(s, at, &mut line) {
-        LineAnswer::Written(n, next) => {
+        Ok(Some((n, next))) => {
             io::write_all(harness::STDOUT, first(&line, n));
             next
         }
-        LineAnswer::End => s.len(),
-        LineAnswer::Refused(_) => s.len(),
+        Ok(None) | Err(_) => s.len(),
     }
 }
 

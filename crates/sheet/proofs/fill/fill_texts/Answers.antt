@@ -1,12 +1,13 @@
-use mathlib.Core.Path.{sym, ◌∙◌}
+use mathlib.Core.Path.{sym, ◌∙◌, ap}
 use Prim.Native.Nat.{◌+◌, ◌-◌, ◌<◌, ◌≤◌}
 use native.Mathlib.Omega.{arith}
 use lib.ListN.{length}
 use borrow.Rule.Slice.PartMut.{put_mid, same_len_mid}
 use Rattle.lines.specs.Lines.{least_room}
 use Rattle.sheet.specs.Kinds.{room_of}
-use Rattle.sheet.proofs.Filling.{Filling, filling_none, filling_length, text_added, filling_end, filling_full, no_fill, short_fill}
+use Rattle.sheet.proofs.Filling.{Filling, filling_none, filling_length, text_added, filling_end, filling_full, filling_goes_on, no_fill, short_fill}
 use Rattle.sheet.proofs.fill.fill_texts.Goals as goal
+use Rattle.std.specs.Prelude.{Ok}
 
 pub returns-then-out-lt-LEAST_ROOM : goal.returns-then-out-lt-LEAST_ROOM
 returns-then-out-lt-LEAST_ROOM c =
@@ -34,34 +35,22 @@ slice_bounds-next_text-start c =
     let within : c.loop-out.n ≤ length c.loop-out.out = omega (arith, filling_length _ _ _ _ _ _ _ c.loop-out.invariant, c.loop-out.invariant.room) in
     within
 
-pub shape_of-out-in_default : goal.shape_of-out-in_default
-shape_of-out-in_default c =
-    let l = c.loop-out in
-    same_len_mid l.n (length l.out - l.n) l.out c.next_text.new.out c.next_text.auto.out ∙ filling_length _ _ _ _ _ _ _ l.invariant
-
-pub returns-in_default : goal.returns-in_default
-returns-in_default c =
-    let room : room_of c.args.kind ≤ length c.loop-out.out - c.loop-out.n = omega (arith, c.loop-out-test, c.room_of-room.ensures) in
-    let rooms : let a = c.args in (least_room ≤ length a.out.now) × (room_of a.kind ≤ length a.out.now) = (c.if-out-lt-LEAST_ROOM.false, omega (arith, c.if-out-room.false, c.room_of-room.ensures)) in
-    let h = rooms in
-    let p = filling_end _ _ _ _ _ _ _ c.loop-out.invariant _ _ h.0 h.1 room c.in_default.not-Written c.next_text.ensures.value c.next_text.ensures.out_after in record { value = p.0; out_after = p.1 }
-
 pub overflow_add-n : goal.overflow_add-n
 overflow_add-n c =
     let room : room_of c.args.kind ≤ length c.loop-out.out - c.loop-out.n = omega (arith, c.loop-out-test, c.room_of-room.ensures) in
-    let more : let a = c.args in (c.loop-out.n + c.in-Written.k ≤ length a.out.now) × (c.loop-out.next < c.in-Written.place) × (c.in-Written.place ≤ length a.sheet.now) × Filling a.kind a.sheet.now a.at a.out.now (put_mid c.loop-out.n (length c.loop-out.out - c.loop-out.n) c.loop-out.out c.next_text.new.out) (c.loop-out.n + c.in-Written.k) c.in-Written.place = text_added _ _ _ _ _ _ _ c.loop-out.invariant _ _ _ _ room (sym c.in-Written.is ∙ c.next_text.ensures.value) c.next_text.ensures.out_after in
+    let more : let a = c.args in (c.loop-out.n + c.in-Some.k ≤ length a.out.now) × (c.loop-out.next < c.in-Some.place) × (c.in-Some.place ≤ length a.sheet.now) × Filling a.kind a.sheet.now a.at a.out.now (put_mid c.loop-out.n (length c.loop-out.out - c.loop-out.n) c.loop-out.out c.next_text.new.out) (c.loop-out.n + c.in-Some.k) c.in-Some.place = text_added _ _ _ _ _ _ _ c.loop-out.invariant _ _ _ _ room (sym (c.in_ok-k.was ∙ ap Ok c.in-Some.is) ∙ c.next_text.ensures.value) c.next_text.ensures.out_after in
     omega (arith, more.0)
 
 pub loop-out-smaller : goal.loop-out-smaller
 loop-out-smaller c =
     let room : room_of c.args.kind ≤ length c.loop-out.out - c.loop-out.n = omega (arith, c.loop-out-test, c.room_of-room.ensures) in
-    let more : let a = c.args in (c.loop-out.n + c.in-Written.k ≤ length a.out.now) × (c.loop-out.next < c.in-Written.place) × (c.in-Written.place ≤ length a.sheet.now) × Filling a.kind a.sheet.now a.at a.out.now (put_mid c.loop-out.n (length c.loop-out.out - c.loop-out.n) c.loop-out.out c.next_text.new.out) (c.loop-out.n + c.in-Written.k) c.in-Written.place = text_added _ _ _ _ _ _ _ c.loop-out.invariant _ _ _ _ room (sym c.in-Written.is ∙ c.next_text.ensures.value) c.next_text.ensures.out_after in
+    let more : let a = c.args in (c.loop-out.n + c.in-Some.k ≤ length a.out.now) × (c.loop-out.next < c.in-Some.place) × (c.in-Some.place ≤ length a.sheet.now) × Filling a.kind a.sheet.now a.at a.out.now (put_mid c.loop-out.n (length c.loop-out.out - c.loop-out.n) c.loop-out.out c.next_text.new.out) (c.loop-out.n + c.in-Some.k) c.in-Some.place = text_added _ _ _ _ _ _ _ c.loop-out.invariant _ _ _ _ room (sym (c.in_ok-k.was ∙ ap Ok c.in-Some.is) ∙ c.next_text.ensures.value) c.next_text.ensures.out_after in
     let m = more in omega (arith, m.1, m.2)
 
 pub loop-out-preserved : goal.loop-out-preserved
 loop-out-preserved c =
     let room : room_of c.args.kind ≤ length c.loop-out.out - c.loop-out.n = omega (arith, c.loop-out-test, c.room_of-room.ensures) in
-    let more : let a = c.args in (c.loop-out.n + c.in-Written.k ≤ length a.out.now) × (c.loop-out.next < c.in-Written.place) × (c.in-Written.place ≤ length a.sheet.now) × Filling a.kind a.sheet.now a.at a.out.now (put_mid c.loop-out.n (length c.loop-out.out - c.loop-out.n) c.loop-out.out c.next_text.new.out) (c.loop-out.n + c.in-Written.k) c.in-Written.place = text_added _ _ _ _ _ _ _ c.loop-out.invariant _ _ _ _ room (sym c.in-Written.is ∙ c.next_text.ensures.value) c.next_text.ensures.out_after in
+    let more : let a = c.args in (c.loop-out.n + c.in-Some.k ≤ length a.out.now) × (c.loop-out.next < c.in-Some.place) × (c.in-Some.place ≤ length a.sheet.now) × Filling a.kind a.sheet.now a.at a.out.now (put_mid c.loop-out.n (length c.loop-out.out - c.loop-out.n) c.loop-out.out c.next_text.new.out) (c.loop-out.n + c.in-Some.k) c.in-Some.place = text_added _ _ _ _ _ _ _ c.loop-out.invariant _ _ _ _ room (sym (c.in_ok-k.was ∙ ap Ok c.in-Some.is) ∙ c.next_text.ensures.value) c.next_text.ensures.out_after in
     more.3
 
 pub shape_of-out : goal.shape_of-out
@@ -72,3 +61,15 @@ returns c =
     let rooms : let a = c.args in (least_room ≤ length a.out.now) × (room_of a.kind ≤ length a.out.now) = (c.if-out-lt-LEAST_ROOM.false, omega (arith, c.if-out-room.false, c.room_of-room.ensures)) in
     let h = rooms in
     let p = filling_full _ _ _ _ _ _ _ c.loop-out.invariant h.0 h.1 (omega (arith, c.loop-out-test, c.room_of-room.ensures)) in record { value = p.0; out_after = p.1 }
+
+pub returns-in_default : goal.returns-in_default
+returns-in_default c =
+    let room : room_of c.args.kind ≤ length c.loop-out.out - c.loop-out.n = omega (arith, c.loop-out-test, c.room_of-room.ensures) in
+    let rooms : let a = c.args in (least_room ≤ length a.out.now) × (room_of a.kind ≤ length a.out.now) = (c.if-out-lt-LEAST_ROOM.false, omega (arith, c.if-out-room.false, c.room_of-room.ensures)) in
+    let h = rooms in
+    let p = filling_end _ _ _ _ _ _ _ c.loop-out.invariant _ _ h.0 h.1 room (λ j m i. c.in_default.not-Some (j, m) (cc (c.in_ok-k.was, i))) c.next_text.ensures.value c.next_text.ensures.out_after in record { value = p.0; out_after = p.1 }
+
+pub returns-in_err-k : goal.returns-in_err-k
+returns-in_err-k c =
+    let room : room_of c.args.kind ≤ length c.loop-out.out - c.loop-out.n = omega (arith, c.loop-out-test, c.room_of-room.ensures) in
+    absurd (filling_goes_on _ _ _ _ _ _ _ c.loop-out.invariant _ room (sym c.in_err-k.was ∙ c.next_text.ensures.value))
