@@ -35,15 +35,28 @@ const FOUR: u64 = 4;
 const FIVE: u64 = 5;
 
 // Kinds of calls.
-const REUSE: u8 = b'r';
+#[derive(Clone, Copy)]
+enum Kind {
+    Reuse,
+    Run,
+    Miss,
+    NoTime,
+    Clear,
+    Nothing,
+}
 
-const RUN: u8 = b'e';
-
-const MISS: u8 = b'm';
-
-const NO_TIME: u8 = b'z';
-
-const CLEAR: u8 = b'c';
+impl From<u8> for Kind {
+    fn from(letter: u8) -> Kind {
+        match letter {
+            b'r' => Kind::Reuse,
+            b'e' => Kind::Run,
+            b'm' => Kind::Miss,
+            b'z' => Kind::NoTime,
+            b'c' => Kind::Clear,
+            _ => Kind::Nothing,
+        }
+    }
+}
 
 // An amount of the desk that has a turn.
 fn amount(billionths: u64, turn: u64) -> i64 {
@@ -137,19 +150,19 @@ fn set_and_clear(table: &mut [u64], at: usize) -> u64 {
 }
 
 // What call i of a kind counts as.
-fn call(table: &mut [u64], kind: u8, i: u64) -> u64 {
+fn call(table: &mut [u64], kind: Kind, i: u64) -> u64 {
     match kind {
-        REUSE => from_table(table, i, i % FOUR, TWO_SECONDS_BEFORE),
-        RUN => alone(i, i % FOUR, TWO_SECONDS_BEFORE),
-        MISS => from_table(table, i, i % FIVE, TERMINAL),
-        NO_TIME => alone(i, i % FIVE, TERMINAL),
-        CLEAR => set_and_clear(table, (i % 4096) as usize),
-        _ => size_of(holding(i)),
+        Kind::Reuse => from_table(table, i, i % FOUR, TWO_SECONDS_BEFORE),
+        Kind::Run => alone(i, i % FOUR, TWO_SECONDS_BEFORE),
+        Kind::Miss => from_table(table, i, i % FIVE, TERMINAL),
+        Kind::NoTime => alone(i, i % FIVE, TERMINAL),
+        Kind::Clear => set_and_clear(table, (i % 4096) as usize),
+        Kind::Nothing => size_of(holding(i)),
     }
 }
 
 // The sum of as many calls.
-fn calls(table: &mut [u64], kind: u8, count: u64) -> u64 {
+fn calls(table: &mut [u64], kind: Kind, count: u64) -> u64 {
     let mut sum: u64 = 0;
     for i in 0..count {
         sum = wrapping_add_u64(sum, call(table, kind, i));
@@ -162,7 +175,7 @@ fn print(text: &[u8]) {
 }
 
 // An order and its line.
-fn order(kind: u8, count: u64) {
+fn order(kind: Kind, count: u64) {
     let mut room = [0u64; TABLE_ROOM];
     let table: &mut [u64] = &mut room;
     let _ = clear_table(table);
@@ -184,14 +197,14 @@ fn with_digit(count: u64, byte: u8) -> u64 {
 
 // Every order of the input.
 fn orders(s: &[u8]) {
-    let mut kind: u8 = 0;
+    let mut kind = Kind::Nothing;
     let mut count: u64 = 0;
     for &byte in s {
         if byte == b'\n' {
             order(kind, count);
         }
         if byte >= b'a' {
-            kind = byte;
+            kind = Kind::from(byte);
             count = 0;
         }
         count = with_digit(count, byte);

@@ -48,13 +48,31 @@ const ROOM: usize = 4200;
 const UNSET: u64 = 0xA5A5A5A5A5A5A5A5;
 
 // Kinds of calls.
-const CLEAR: u64 = 0;
+#[derive(Clone, Copy)]
+enum Call {
+    Clear,
+    Quote,
+    Set,
+    Lend,
+    Nothing,
+}
 
-const QUOTE: u64 = 1;
+impl From<u64> for Call {
+    fn from(kind: u64) -> Call {
+        match kind {
+            0 => Call::Clear,
+            1 => Call::Quote,
+            2 => Call::Set,
+            3 => Call::Lend,
+            _ => Call::Nothing,
+        }
+    }
+}
 
-const SET: u64 = 2;
-
-const LEND: u64 = 3;
+// The call of the record at a place.
+fn call_at(s: &[u8], at: usize) -> Call {
+    Call::from(word_at(s, at, 88))
+}
 
 // `Z` where every number of the table is 0, or `X`.
 fn put_zeros(out: &mut [u8], at: usize, table: &[u64]) -> usize {
@@ -129,11 +147,11 @@ fn put_set(out: &mut [u8], start: usize, s: &[u8], at: usize, table: &mut [u64])
 
 // The record at a place, without its line's end.
 fn put_record(out: &mut [u8], start: usize, s: &[u8], at: usize, table: &mut [u64]) -> usize {
-    match word_at(s, at, 88) {
-        CLEAR => put_cleared(out, start, table),
-        QUOTE => put_call(out, start, s, at, table),
-        SET => put_set(out, start, s, at, table),
-        _ => put(out, start, b"P"),
+    match call_at(s, at) {
+        Call::Clear => put_cleared(out, start, table),
+        Call::Quote => put_call(out, start, s, at, table),
+        Call::Set => put_set(out, start, s, at, table),
+        Call::Lend | Call::Nothing => put(out, start, b"P"),
     }
 }
 
@@ -153,10 +171,10 @@ fn put_line(
 
 // How many numbers the calls after the record at a place get.
 fn lent_after(s: &[u8], at: usize, lent: usize) -> usize {
-    if word_at(s, at, 88) == LEND {
-        return word_at(s, at, 0) as usize;
+    match call_at(s, at) {
+        Call::Lend => word_at(s, at, 0) as usize,
+        _ => lent,
     }
-    lent
 }
 
 fn main() {
