@@ -8,7 +8,7 @@ use crate::ln2::{HI, LO};
 
 const LOG2E: f64 = 1.4426950408889634;
 
-// The sum of r^j / j!, j = 0..13.
+// The sum of r^j / j!, j = 0..13. Written out, as in `ln_sum`: a loop would read each coefficient from a table.
 fn exp_sum(r: f64) -> f64
     ensures { result ≡ exp_sum r }
 {

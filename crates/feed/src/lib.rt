@@ -13,6 +13,7 @@ pub fn read_sheet(rt: &HostRuntime, input: &mut [u8]) -> Result<usize>
 {
     let mut from = rt.stdin();
     let mut n: usize = 0;
+    // No `for`: each read says how far it came.
     while n < input.len() {
         let more = from.read(&mut input[n..])?;
         if more == 0 {

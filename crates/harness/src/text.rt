@@ -38,7 +38,7 @@ pub fn put_count(out: &mut [u8], at: usize, n: u64) -> usize
     put(out, at, &text[..k])
 }
 
-// The lowest hex digit of a number, `0` to `9` and `A` to `F`.
+// The lowest hex digit of a number, `0` to `9` and `A` to `F`. That of lines is private, and takes a digit.
 pub fn digit(n: u64) -> u8
     ensures { result ≡ glyph n }
 {

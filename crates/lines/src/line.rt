@@ -18,6 +18,7 @@ fn count_places(n: u64) -> usize
 {
     let mut k: usize = 1;
     let mut rest = n;
+    // No `for`: how many digits there are shows on the way.
     while rest >= 10 {
         rest /= 10;
         k += 1;

@@ -1,5 +1,4 @@
-// Single floats: the magnitude of one, EXP with a NaN for a refusal, which what reads it tests for later,
-// and the factor that two offsets make.
+// Single floats: the magnitude of one, and the factor that two offsets make.
 ghost use Rattle.std.specs.Prelude.{◌≡◌};
 ghost use Rattle.elementary.specs.Float.{◌⊖◌};
 ghost use Rattle.elementary.specs.Elementary.{EXP, or_nan};
@@ -12,13 +11,8 @@ pub fn magnitude(x: f64) -> f64
     if x < 0.0 { -x } else { x }
 }
 
-fn exp_or_nan(x: f64) -> f64
-    ensures { result ≡ or_nan (EXP x) }
-{
-    elementary::or_nan(elementary::exp(x))
-}
-
-// A row's factor for a neighbour, by their offsets. Where these are equal, as all are before the first
+// A row's factor for a neighbour, by their offsets; a NaN where EXP has no value, which what reads it tests for
+// later. Where the offsets are equal, as all are before the first
 // rebalancing, EXP of their difference is 1.0, and none is made. The difference is tested and not the
 // offsets: two equal infinities make a NaN.
 pub(crate) fn factor(neighbour: f64, own: f64) -> f64
@@ -28,5 +22,5 @@ pub(crate) fn factor(neighbour: f64, own: f64) -> f64
     if d == 0.0 {
         return 1.0;
     }
-    exp_or_nan(d)
+    elementary::or_nan(elementary::exp(d))
 }

@@ -5,7 +5,7 @@ ghost use Rattle.plan.specs.Plan.{norm, needed, fixed_over, plan_for, plan_with}
 const STEP_NORM: f64 = 2.0;
 
 // The steps and the time of each; or the steps needed, above the budget; or none: in a run, whose slices
-// agree, refusal 11.
+// agree, refusal 11. Three outcomes, as in `FirstPlan`.
 #[derive(Clone, Copy)]
 pub enum Planned {
     Steps(u32, f64),
@@ -31,7 +31,8 @@ fn norm_of(diag_s: &[f64], eta: f64, left: &[f64], right: &[f64]) -> f64
 fn steps_needed(size: f64) -> f64
     ensures { result ≡ needed size }
 {
-    crate::reals::larger_of(crate::reals::ceil_or_nan(size / STEP_NORM), 1.0)
+    let up = elementary::or_nan(elementary::ceil(size / STEP_NORM));
+    crate::reals::larger_of(up, 1.0)
 }
 
 // The plan for a norm times a time that is finite and positive.

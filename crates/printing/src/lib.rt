@@ -61,6 +61,7 @@ pub fn print_texts(rt: &HostRuntime, s: &[u8], kind: Kind) -> Result<usize, Prin
     let mut out = io::large_buffer();
     let mut at: usize = 0;
     let mut done = none_done();
+    // No `for`: each fill says where the next begins.
     while at < s.len() {
         let texts = fill(s, at, &mut out, kind);
         // Under `map_err` and `?` no proof sees which error is handed on, and `Counted` names it.

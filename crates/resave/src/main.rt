@@ -59,6 +59,7 @@ fn keep(s: &[u8], out: &mut [u8]) -> usize
     }
     let mut n: usize = 0;
     let mut at: usize = 0;
+    // No `for`: each record says where the next begins.
     while at < s.len() {
         let k = keep_record(s, at, &mut out[n..]);
         n += k.count;

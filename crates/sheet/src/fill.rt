@@ -42,6 +42,7 @@ pub fn fill_texts(
     }
     let mut n: usize = 0;
     let mut next = at;
+    // No `for`: each text says how long it is and where the next begins.
     while out.len() - n >= room {
         let Some((k, place)) = next_text(sheet, next, &mut out[n..], kind)? else {
             return Ok((n, next));

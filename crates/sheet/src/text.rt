@@ -14,7 +14,7 @@ use lines::refusals::SMALL_BUFFER;
 use lines::{LEAST_ROOM, write_refusal};
 use record::{Record, RecordAnswer, read_as};
 
-// The kinds of text.
+// The kinds of text. An enum and no trait: `printed_as`, `filled_as` and their statements speak of a kind.
 #[derive(Clone, Copy)]
 pub enum Kind {
     Line,

@@ -4,4 +4,4 @@ use Rattle.plan.proofs.plan.steps_needed.Goals as goal
 
 pub returns : goal.returns
 unfolding needed
-returns c = rw (← c.ceil_or_nan.ensures) c.larger_of.ensures
+returns c = rw (← c.ceil.ensures, ← c.or_nan-up.ensures) c.larger_of.ensures
