@@ -47,11 +47,8 @@ fn quote_at(inventory: i64) {
     let current_time = 0;
     match GLFTStrategy::exact_quotes(mid_price, inventory, config, volatility, current_time) {
         ExactQuotes::Quotes(quotes, steps) => {
-            // A field that is an enum goes into a variable first: it cannot be passed directly.
-            let bid = quotes.bid;
-            let ask = quotes.ask;
-            print_price(b"bid ", bid);
-            print_price(b"ask ", ask);
+            print_price(b"bid ", quotes.bid);
+            print_price(b"ask ", quotes.ask);
             print_number(b"steps ", steps as u64);
         }
         ExactQuotes::OverStepCap(_, budget, _) => print_number(

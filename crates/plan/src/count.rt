@@ -8,7 +8,7 @@ ghost use Rattle.plan.specs.Plan.{bound_ok, fixed_over, fixed, whole_plan, first
 ghost use Rattle.plan.specs.Count.{plan_in, plan_ahead, row_sum};
 ghost use Rattle.plan.specs.Inner.{ahead_of};
 
-use crate::plan::Planned;
+use crate::plan::{Factors, Planned, plan_over};
 use crate::refusals::NUMERICAL;
 use crate::{FirstPlan, MAX_EXPM_STEPS, RunInput};
 
@@ -63,14 +63,11 @@ fn plan_of_rows(diag: &[f64], eta: f64, tau: f64, n: usize) -> FirstPlan
     let mut left = crate::zeros();
     let mut right = crate::zeros();
     if operator::set_factors(&o[..n], &mut left[..n], &mut right[..n], false) {
-        return ahead(crate::plan::plan_over(
-            tau,
-            diag,
-            eta,
-            &left[..n],
-            &right[..n],
-            MAX_EXPM_STEPS,
-        ));
+        let factors = Factors {
+            left: &left[..n],
+            right: &right[..n],
+        };
+        return ahead(plan_over(tau, diag, eta, factors, MAX_EXPM_STEPS));
     }
     FirstPlan::Refused(NUMERICAL)
 }

@@ -13,11 +13,19 @@ pub enum Planned {
     Refused,
 }
 
+// The left and right factors by reference.
+#[derive(Clone, Copy)]
+pub(crate) struct Factors<'a> {
+    pub(crate) left: &'a [f64],
+    pub(crate) right: &'a [f64],
+}
+
 // The largest row sum, of the diagonal's magnitude and what its neighbours take.
-fn norm_of(diag_s: &[f64], eta: f64, left: &[f64], right: &[f64]) -> f64
-    requires { (length left.now ≡ length diag_s.now) × (length right.now ≡ length diag_s.now) }
-    ensures { result ≡ norm (fixed_over (length diag_s.now) diag_s.now eta) left.now right.now }
+fn norm_of(diag_s: &[f64], eta: f64, factors: Factors<'_>) -> f64
+    requires { (length factors.left.now ≡ length diag_s.now) × (length factors.right.now ≡ length diag_s.now) }
+    ensures { let f = factors.entry in result ≡ norm (fixed_over (length diag_s.now) diag_s.now eta) f.left.now f.right.now }
 {
+    let Factors { left, right } = factors;
     let mut norm = 0.0;
     for i in 0..diag_s.len() {
         let d = diag_s[i];
@@ -53,19 +61,19 @@ pub(crate) fn plan_over(
     tau: f64,
     diag_s: &[f64],
     eta: f64,
-    left: &[f64],
-    right: &[f64],
+    factors: Factors<'_>,
     budget: u32,
 ) -> Planned
-    ensures { result ≡ plan_with tau diag_s.now eta left.now right.now budget }
+    ensures { let f = factors.entry in result ≡ plan_with tau diag_s.now eta f.left.now f.right.now budget }
 {
+    let Factors { left, right } = factors;
     if left.len() != diag_s.len() {
         return Planned::Refused;
     }
     if right.len() != diag_s.len() {
         return Planned::Refused;
     }
-    let size = tau * norm_of(diag_s, eta, left, right);
+    let size = tau * norm_of(diag_s, eta, factors);
     if elementary::is_positive_finite(size) {
         return plan_for(size, tau, budget);
     }

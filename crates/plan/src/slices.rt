@@ -4,7 +4,7 @@ ghost use Rattle.std.specs.Prelude.{◌≡◌, ◌&&◌, length};
 ghost use Rattle.operator.specs.Slices.{factors_fit, left_over, right_over, both_fine};
 ghost use Rattle.plan.specs.Slices.{diagonal_for, plan_from};
 
-use crate::plan::{Planned, plan_over};
+use crate::plan::{Factors, Planned, plan_over};
 
 // The diagonal of a plan's steps; it stays as it is where there are none.
 fn scale_for(plan: Planned, diag_s: &[f64], diag: &mut [f64])
@@ -36,7 +36,7 @@ pub fn set_plan(
     ensures value { result ≡ plan_from (factors_fit o.now left.old right.old && both_fine (length o.now) left.new right.new) rest diag_s.now eta left.new right.new budget }
 {
     if operator::set_factors(o, left, right, half) {
-        let plan = plan_over(rest, diag_s, eta, left, right, budget);
+        let plan = plan_over(rest, diag_s, eta, Factors { left, right }, budget);
         scale_for(plan, diag_s, diag);
         return plan;
     }

@@ -15,7 +15,7 @@ pub loop-i-preserved : goal.loop-i-preserved
 loop-i-preserved c =
     let i = c.loop-i.i in
     let x = c.args in
-    let f = row_sum x.diag_s.now x.eta x.left.now x.right.now in
+    let f = row_sum x.diag_s.now x.eta x.factors.left.now x.factors.right.now in
     c.larger_of-norm.ensures ∙ rw (c.loop-i.invariant, c.magnitude.ensures) (sym (fold_suc larger 0ᶠ i f))
 
 -- the magnitudes as the definition stores them
@@ -28,4 +28,4 @@ pub returns : goal.returns
 unfolding norm
 returns c =
     let x = c.args in
-    c.loop-i.invariant ∙ fold_at larger 0ᶠ _ (length x.diag_s.now) _ (omega arith) ∙ stored-sizes (length x.diag_s.now) x.diag_s.now x.eta x.left.now x.right.now
+    c.loop-i.invariant ∙ fold_at larger 0ᶠ _ (length x.diag_s.now) _ (omega arith) ∙ stored-sizes (length x.diag_s.now) x.diag_s.now x.eta x.factors.left.now x.factors.right.now
