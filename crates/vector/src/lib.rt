@@ -18,7 +18,8 @@ pub use run::refused_vector;
 // Below this weight a step is followed by rebalancing.
 const REBALANCE_FLOOR: f64 = 1e-200;
 
-// v_i is proportional to w_i exp(log_offset_i), over the first n entries; the rest is 0.0.
+// v_i is proportional to w_i exp(log_offset_i), over the first n entries; the rest is 0.0. Arrays of a fixed size
+// with a length beside them, and no `Vec`: the unit takes no memory while it runs.
 #[derive(Clone, Copy)]
 pub struct ValueVector {
     pub w: [f64; MAX_DIM],
