@@ -13,29 +13,16 @@ use elementary::Refusal;
 fn side_positive(p: Price) -> bool
     ensures { result ≡ each above0 p }
 {
-    match p {
-        Some(x) => is_positive(x),
-        None => true,
-    }
+    p.is_none_or(is_positive)
 }
 
-// Whether a bid is below an ask, where there is one.
-fn below(b: i64, ask: Price) -> bool
-    ensures { result ≡ in_order (Some b) ask }
-{
-    match ask {
-        Some(a) => b < a,
-        None => true,
-    }
-}
-
-// Whether bid and ask are in order, where both are there.
-fn in_order(bid: Price, ask: Price) -> bool
+// Whether the bid is below the ask, where both are there.
+fn below(bid: Price, ask: Price) -> bool
     ensures { result ≡ in_order bid ask }
 {
-    match bid {
-        Some(b) => below(b, ask),
-        None => true,
+    match (bid, ask) {
+        (Some(b), Some(a)) => b < a,
+        _ => true,
     }
 }
 
@@ -47,7 +34,7 @@ pub fn judge(quotes: GlftQuotes) -> Result<GlftQuotes, Refusal>
     let bid = quotes.bid;
     let ask = quotes.ask;
     if side_fits(bid) & side_fits(ask) {
-        if side_positive(bid) & side_positive(ask) & in_order(bid, ask) {
+        if side_positive(bid) & side_positive(ask) & below(bid, ask) {
             return Ok(quotes);
         }
         return Err(CROSSED);

@@ -29,8 +29,5 @@ pub struct GlftQuotes {
 pub(crate) fn side_fits(p: Price) -> bool
     ensures { result ≡ each amount_ok p }
 {
-    match p {
-        Some(x) => amounts::amount_fits(x),
-        None => true,
-    }
+    p.is_none_or(amounts::amount_fits)
 }

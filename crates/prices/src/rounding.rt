@@ -10,14 +10,12 @@ use distances::{Distance, is_fine};
 use elementary::Refusal;
 
 // A side's distance in billionths: absent, or refused by 13 where it is beyond the limit.
+// A closure: the check does not take `amounts::to_billionths` as it is, which a private module declares.
 fn side_of(d: Distance) -> Result<Price, Refusal>
     requires { fine d ≡ true }
     ensures { result ≡ side_of (side d) }
 {
-    match d {
-        Some(x) => Ok(Some(amounts::to_billionths(x)?)),
-        None => Ok(None),
-    }
+    d.map(|x| amounts::to_billionths(x)).transpose()
 }
 
 // The sides of finite distances: refused by 13.

@@ -19,25 +19,14 @@ fn half_shortfall(short: i64) -> i64
     0
 }
 
-// How far each price moves outward where there is a bid.
-fn moved_with(least: i64, b: i64, ask: Price) -> i64
-    requires { T (amount_ok least) × T (amount_ok b) × T (each amount_ok ask) }
-    ensures { result ≡ widening least (Some b) ask }
-{
-    match ask {
-        Some(a) => half_shortfall(least - (b + a)),
-        None => 0,
-    }
-}
-
-// How far each price moves outward.
+// How far each price moves outward: only where both are there.
 fn moved(least: i64, bid: Price, ask: Price) -> i64
     requires { T (amount_ok least) × T (each amount_ok bid) × T (each amount_ok ask) }
     ensures { result ≡ widening least bid ask }
 {
-    match bid {
-        Some(b) => moved_with(least, b, ask),
-        None => 0,
+    match (bid, ask) {
+        (Some(b), Some(a)) => half_shortfall(least - (b + a)),
+        _ => 0,
     }
 }
 
@@ -46,20 +35,14 @@ fn bid_price(mid: i64, w: i64, bid: Price) -> Price
     requires { T (amount_ok mid) × (nat_abs w ≤ 3 * amount_limit) × T (each amount_ok bid) }
     ensures { result ≡ bid_price mid w bid }
 {
-    match bid {
-        Some(d) => Some(mid - (d + w)),
-        None => None,
-    }
+    bid.map(|d| mid - (d + w))
 }
 
 fn ask_price(mid: i64, w: i64, ask: Price) -> Price
     requires { T (amount_ok mid) × (nat_abs w ≤ 3 * amount_limit) × T (each amount_ok ask) }
     ensures { result ≡ ask_price mid w ask }
 {
-    match ask {
-        Some(d) => Some(mid + (d + w)),
-        None => None,
-    }
+    ask.map(|d| mid + (d + w))
 }
 
 // The prices of two sides' distances around a mid. Where both are there and the spread is short of the

@@ -14,6 +14,7 @@ pub use elementary::Refusal;
 pub use horizon::first_plan;
 pub use model::{GLFTConfig, Model, check_call, limits_fit};
 pub use prices::{GlftQuotes, Price};
+use quotes::Around;
 pub use quotes::quotes_by;
 
 // The exact quotes with the steps spent; or the steps needed, the budget left and the steps spent; or
@@ -41,11 +42,14 @@ impl GLFTStrategy {
         ensures { result ≡ exact_quotes mid_price inventory config volatility current_time }
     {
         let terminal = config.terminal_time;
-        let least = config.min_spread;
         match Model::exact(mid_price, inventory, config, volatility, current_time) {
             Ok((m, q)) => {
                 let tau = amounts::seconds_to_terminal(terminal, current_time);
-                quotes::exact_of(mid_price, least, m, q, tau)
+                let around = Around {
+                    mid: mid_price,
+                    least: config.min_spread,
+                };
+                quotes::exact_of(around, m, q, tau)
             }
             Err(refusal) => ExactQuotes::Refused(refusal),
         }
@@ -79,8 +83,11 @@ impl GLFTStrategy {
     ) -> Result<GlftQuotes, Refusal>
         ensures { result ≡ closed_form_quotes mid_price inventory config volatility }
     {
-        let least = config.min_spread;
         let (m, q) = Model::closed_form(mid_price, inventory, config, volatility)?;
-        quotes::closed_of(mid_price, least, closed_form::distances(m, q))
+        let around = Around {
+            mid: mid_price,
+            least: config.min_spread,
+        };
+        quotes::closed_of(around, closed_form::distances(m, q))
     }
 }

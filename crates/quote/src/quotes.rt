@@ -14,21 +14,29 @@ use elementary::Refusal;
 use model::Model;
 use prices::{GlftQuotes, Price};
 
+// What the distances are laid around: a mid, with the least spread, both within the limit.
+#[derive(Clone, Copy)]
+pub(crate) struct Around {
+    pub(crate) mid: i64,
+    pub(crate) least: i64,
+    ghost mid_fits: { T (amount_ok mid) },
+    ghost least_fits: { T (amount_ok least) },
+}
+
 // The quotes of two sides in whole billionths: widened to the min spread, then judged.
-fn priced(mid: i64, least: i64, bid: Price, ask: Price) -> Result<GlftQuotes, Refusal>
-    requires { T (amount_ok mid) × T (amount_ok least) × T (each amount_ok bid) × T (each amount_ok ask) }
-    ensures { result ≡ judge (widened mid least bid ask) }
+fn priced(around: Around, bid: Price, ask: Price) -> Result<GlftQuotes, Refusal>
+    requires { T (each amount_ok bid) × T (each amount_ok ask) }
+    ensures { result ≡ judge (widened around.mid around.least bid ask) }
 {
-    prices::judge(prices::widen(mid, least, bid, ask)?)
+    prices::judge(prices::widen(around.mid, around.least, bid, ask)?)
 }
 
 // Builds the quotes from the distances: rounded, widened and judged.
-fn build_quotes(mid: i64, least: i64, bid: Distance, ask: Distance) -> Result<GlftQuotes, Refusal>
-    requires { T (amount_ok mid) × T (amount_ok least) }
-    ensures { result ≡ build_quotes mid least bid ask }
+fn build_quotes(around: Around, bid: Distance, ask: Distance) -> Result<GlftQuotes, Refusal>
+    ensures { result ≡ build_quotes around.mid around.least bid ask }
 {
     let (b, a) = prices::round_sides(bid, ask)?;
-    priced(mid, least, b, a)
+    priced(around, b, a)
 }
 
 fn with_steps(b: Result<GlftQuotes, Refusal>, steps: u32) -> ExactQuotes
@@ -41,34 +49,31 @@ fn with_steps(b: Result<GlftQuotes, Refusal>, steps: u32) -> ExactQuotes
 }
 
 // The exact quotes of an answer before prices.
-pub(crate) fn from_answer(mid: i64, least: i64, answer: Answer) -> ExactQuotes
-    requires { T (amount_ok mid) × T (amount_ok least) }
-    ensures { result ≡ exact_by mid least answer }
+pub(crate) fn from_answer(around: Around, answer: Answer) -> ExactQuotes
+    ensures { result ≡ exact_by around.mid around.least answer }
 {
     match answer {
-        Answer::Distances(bid, ask, steps) => with_steps(build_quotes(mid, least, bid, ask), steps),
+        Answer::Distances(bid, ask, steps) => with_steps(build_quotes(around, bid, ask), steps),
         Answer::OverCap(need, budget, steps) => ExactQuotes::OverStepCap(need, budget, steps),
         Answer::Refused(refusal) => ExactQuotes::Refused(refusal),
     }
 }
 
 // The exact quotes of a model at q lots.
-pub(crate) fn exact_of(mid: i64, least: i64, m: Model, q: i64, tau: f64) -> ExactQuotes
-    requires { T (amount_ok mid) × T (amount_ok least) }
-    ensures { result ≡ exact_by mid least (float_entry m.k m.base (input_of m tau) q).answer }
+pub(crate) fn exact_of(around: Around, m: Model, q: i64, tau: f64) -> ExactQuotes
+    ensures { result ≡ exact_by around.mid around.least (float_entry m.k m.base (input_of m tau) q).answer }
 {
     let r = distances::float_entry(m.k, m.base, model::run_input(m, tau), q);
     let answer = r.answer;
-    from_answer(mid, least, answer)
+    from_answer(around, answer)
 }
 
 // The quotes of the closed form's distances.
-pub(crate) fn closed_of(mid: i64, least: i64, sides: Sides) -> Result<GlftQuotes, Refusal>
-    requires { T (amount_ok mid) × T (amount_ok least) }
-    ensures { result ≡ closed_by mid least sides }
+pub(crate) fn closed_of(around: Around, sides: Sides) -> Result<GlftQuotes, Refusal>
+    ensures { result ≡ closed_by around.mid around.least sides }
 {
     let (bid, ask) = sides?;
-    build_quotes(mid, least, bid, ask)
+    build_quotes(around, bid, ask)
 }
 
 // The exact quotes of any answer before prices: refused by 2 where the mid or the min spread is beyond
@@ -78,7 +83,11 @@ pub fn quotes_by(mid_price: i64, min_spread: i64, answer: Answer) -> ExactQuotes
 {
     if amount_fits(mid_price) {
         if amount_fits(min_spread) {
-            return from_answer(mid_price, min_spread, answer);
+            let around = Around {
+                mid: mid_price,
+                least: min_spread,
+            };
+            return from_answer(around, answer);
         }
     }
     ExactQuotes::Refused(LIMITS)

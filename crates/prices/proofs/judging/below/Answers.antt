@@ -1,12 +1,15 @@
 use Rattle.prices.specs.Prices.{in_order}
-use mir.Facts.{to_z-of_z}
 use borrow.Author.Rules.{rules}
 use Rattle.prices.proofs.judging.below.Goals as goal
 
-pub returns-in-Some : goal.returns-in-Some
+pub returns-in-Some-Some : goal.returns-in-Some-Some
 unfolding in_order
-returns-in-Some c = rw (c.in-Some.is, to_z-of_z c.ranges.b) (search rules)
+returns-in-Some-Some c = rw (c.in-Some-Some.is-0, c.in-Some-Some.is-1) (search rules)
 
-pub returns-in-None : goal.returns-in-None
+pub returns-in_default : goal.returns-in_default
 unfolding in_order
-returns-in-None c = rw c.in-None.is
+returns-in_default c = rw (c.in_default.is-0, c.in_default.is-1)
+
+pub returns-in_default-2 : goal.returns-in_default-2
+unfolding in_order
+returns-in_default-2 c = rw c.in_default.is-0

@@ -2,10 +2,6 @@ use Rattle.prices.specs.Prices.{each}
 use borrow.Author.Rules.{rules}
 use Rattle.prices.proofs.judging.side_positive.Goals as goal
 
-pub returns-in-Some : goal.returns-in-Some
+pub returns : goal.returns
 unfolding each
-returns-in-Some c = rw (c.in-Some.is, c.is_positive.ensures) (search rules)
-
-pub returns-in-None : goal.returns-in-None
-unfolding each
-returns-in-None c = rw c.in-None.is
+returns c = search rules

@@ -1,11 +1,11 @@
-use Rattle.std.proofs.Common.{◌≡◌, ◌∙◌, to_z-of_z}
+use Rattle.std.proofs.Common.{◌∙◌}
 use Rattle.elementary.proofs.Results.{handed_on}
 use Rattle.quote.specs.Quotes.{closed_by}
 use Rattle.quote.proofs.quotes.closed_of.Goals as goal
 
 pub returns : goal.returns
 unfolding closed_by
-returns c = rw (c.in_ok-bid.was, c.build_quotes.ensures, to_z-of_z c.ranges.mid, to_z-of_z c.ranges.least)
+returns c = rw (c.in_ok-bid.was, c.build_quotes.ensures)
 
 pub returns-in_err-bid : goal.returns-in_err-bid
 unfolding closed_by

@@ -3,4 +3,4 @@ use Rattle.quote.proofs.quotes.exact_of.Goals as goal
 
 pub returns : goal.returns
 returns c =
-    rw (c.from_answer.ensures, c.float_entry-r.ensures, c.run_input.ensures, to_z-of_z c.ranges.mid, to_z-of_z c.ranges.least, to_z-of_z c.ranges.q)
+    rw (c.from_answer.ensures, c.float_entry-r.ensures, c.run_input.ensures, to_z-of_z c.ranges.q)

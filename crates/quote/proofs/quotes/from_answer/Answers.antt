@@ -1,11 +1,10 @@
-use Rattle.std.proofs.Common.{to_z-of_z}
 use Rattle.quote.specs.Quotes.{exact_by}
 use Rattle.quote.proofs.quotes.from_answer.Goals as goal
 
 pub returns-in-Distances : goal.returns-in-Distances
 unfolding exact_by
 returns-in-Distances c =
-    rw (c.in-Distances.is, c.with_steps.ensures, c.build_quotes.ensures, to_z-of_z c.ranges.mid, to_z-of_z c.ranges.least)
+    rw (c.in-Distances.is, c.with_steps.ensures, c.build_quotes.ensures)
 
 pub returns-in-OverCap : goal.returns-in-OverCap
 unfolding exact_by
