@@ -18,6 +18,7 @@ use elementary::Refusal;
 use model::{GLFTConfig, Model};
 pub use places::TABLE_ROOM;
 use quote::{ExactQuotes, quotes_by};
+use rows::Table;
 use vector::RunInput;
 use writing::Kept;
 
@@ -82,8 +83,9 @@ fn model_quotes(table: &mut [u64], mid: i64, least: i64, m: Model, q: i64, tau: 
     ensures table_after { table.new ≡ (used_with (Ok (m, q)) mid least tau table.old).table }
 {
     let input = model::run_input(m, tau);
-    match rows::find(table, input) {
-        Some(r) => quotes_by(mid, least, rows::answer_of_row(table, r, m, q)),
+    let lent = Table { numbers: table };
+    match rows::find(lent, input) {
+        Some(r) => quotes_by(mid, least, rows::answer_of_row(lent.row(r), m, q)),
         None => made_quotes(table, mid, least, m, q, input),
     }
 }
