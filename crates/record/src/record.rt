@@ -1,5 +1,5 @@
 // Reads a record: eleven numbers in groups of seven bits.
-ghost use Rattle.std.specs.Prelude.{◌≡◌, ◌≤◌, length, drop, T};
+ghost use Rattle.std.specs.Prelude.{◌≡◌, length, drop, T};
 ghost use Rattle.record.specs.Record.{numbers, numbers_answer, numbers_left, config_of, holding, as_held, record_of, record_ok, record_by, read_as, read_record};
 ghost use Rattle.record.specs.Inner.{NumberIs, Stored};
 
@@ -47,24 +47,22 @@ pub enum RecordAnswer {
     Refused(Refusal),
 }
 
-// The number at a place, and the place after it.
-fn read_number(s: &[u8], at: usize) -> Result<(u64, usize), Refusal>
-    requires { at ≤ length s.now }
-    ensures { NumberIs s.now at result }
+// The number at the head of some bytes, and the bytes after it.
+fn read_number(s: &[u8]) -> Result<(u64, &[u8]), Refusal>
+    ensures { NumberIs s.now result }
 {
     let mut value: u64 = 0;
     let mut unit: u64 = 1;
     for groups in 0..MOST_GROUPS {
-        let i = at + groups;
-        if i >= s.len() {
+        if groups >= s.len() {
             return Err(CUT_SHORT);
         }
-        let b = s[i];
+        let b = s[groups];
         if b < 128 {
             if (groups > 0) & (b == 0) {
                 return Err(MALFORMED);
             }
-            return Ok((value + u64::from(b) * unit, i + 1));
+            return Ok((value + u64::from(b) * unit, &s[groups + 1..]));
         }
         value += u64::from(b % 128) * unit;
         unit *= 128;
@@ -72,40 +70,38 @@ fn read_number(s: &[u8], at: usize) -> Result<(u64, usize), Refusal>
     Err(MALFORMED)
 }
 
-// A place within some bytes: past their end no byte is left.
-fn place_in(s: &[u8], at: usize) -> usize
-    ensures { (result ≤ length s.now) × (drop result s.now ≡ drop at s.now) }
+// The bytes from a place on: past their end no byte is left.
+fn bytes_from(s: &[u8], at: usize) -> &[u8]
+    ensures { result.now ≡ drop at s.now }
 {
-    at.min(s.len())
+    &s[at.min(s.len())..]
 }
 
 // The place after n numbers. Apart from `take_numbers`, which stores them: one loop for both would hand each
 // number to a closure, which would count its places by hand and test that one is left.
 fn place_after(s: &[u8], at: usize, n: usize) -> Result<usize, Refusal>
-    requires { at ≤ length s.now }
     ensures { result ≡ numbers_answer (length s.now) (numbers n (drop at s.now)) }
 {
-    let mut next = at;
+    let mut rest = bytes_from(s, at);
     for _ in 0..n {
-        let (_, place) = read_number(s, next)?;
-        next = place;
+        let (_, after) = read_number(rest)?;
+        rest = after;
     }
-    Ok(next)
+    Ok(s.len() - rest.len())
 }
 
 // Stores the numbers from a place on as they are read: before a refusal some may be stored.
 fn take_numbers(s: &[u8], at: usize, out: &mut [u64]) -> Result<usize, Refusal>
-    requires { at ≤ length s.now }
     ensures value { result ≡ numbers_answer (length s.now) (numbers (length out.old) (drop at s.now)) }
     ensures stored { Stored (numbers (length out.old) (drop at s.now)) out.new }
 {
-    let mut next = at;
+    let mut rest = bytes_from(s, at);
     for slot in out.iter_mut() {
-        let (value, place) = read_number(s, next)?;
+        let (value, after) = read_number(rest)?;
         *slot = value;
-        next = place;
+        rest = after;
     }
-    Ok(next)
+    Ok(s.len() - rest.len())
 }
 
 // Reads as many numbers as a slice has places, from a place of some bytes on, and answers the place after
@@ -114,9 +110,8 @@ pub fn read_numbers(s: &[u8], at: usize, out: &mut [u64]) -> Result<usize, Refus
     ensures value { result ≡ numbers_answer (length s.now) (numbers (length out.old) (drop at s.now)) }
     ensures out_after { out.new ≡ numbers_left (numbers (length out.old) (drop at s.now)) out.old }
 {
-    let start = place_in(s, at);
-    place_after(s, start, out.len())?;
-    take_numbers(s, start, out)
+    place_after(s, at, out.len())?;
+    take_numbers(s, at, out)
 }
 
 // Whether every number is within its limit. A stored holding is about twice its size.
@@ -208,8 +203,7 @@ pub fn read_as(sheet: &[u8], at: usize, flat: bool) -> RecordAnswer
     ensures { result ≡ read_as flat sheet.now at }
 {
     let mut found: [u64; FIELDS] = [0; FIELDS];
-    let start = place_in(sheet, at);
-    match take_numbers(sheet, start, &mut found) {
+    match take_numbers(sheet, at, &mut found) {
         Ok(next) => record_of_numbers(numbers_of(found, flat), next),
         Err(refusal) => RecordAnswer::Refused(refusal),
     }
