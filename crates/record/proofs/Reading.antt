@@ -2,13 +2,13 @@
 use Rattle.std.specs.Prelude.{Ok, Err}
 use mathlib.Core.Path.{◌≡◌, refl, sym, ap, ◌∙◌}
 use Prim.Native.Nat.{ℕ, zero, suc, ◌+◌, ◌-◌, ◌*◌, ◌%◌, ◌^◌, ◌<◌, ◌≤◌}
-use native.Mathlib.Nat.{zero-add, suc-add, mul-le-mul_right, pow-suc, pow-le-pow_right}
+use native.Mathlib.Nat.{add-zero, zero-add, add-suc, suc-add, mul-le-mul_right, pow-suc, pow-le-pow_right}
 use native.Mathlib.Numerals.{add-one}
 use native.Mathlib.Omega.{arith}
 use mathlib.Core.Bool.{true, false, ◌&&◌}
 use mathlib.Core.List.{List, [], ◌∷◌, ◌++◌}
 use borrow.Author.Tests.{lt-ltb, le-ltb}
-use lib.ListN.{length, get_or, drop, drop_of_length-le}
+use lib.ListN.{length, get_or, drop, drop_of_length-le, length-drop}
 use lib.Seq.{drop-cons}
 use lib.Dec.{ltb, eqb, lit<}
 use Rattle.record.specs.Refusals.{cut_short, malformed}
@@ -23,24 +23,24 @@ scaled a u (taken n r) = taken (a + u * n) r
 scaled a u (refused k) = refused k
 
 -- ---- a number whose first k groups make a value, the next being worth a unit
-pub record Grouped (s : List ℕ) (value unit k : ℕ) : Type 0 where
+pub record Grouped (s : List ℕ) (at value unit k : ℕ) : Type 0 where
   pub few : k ≤ most_groups
   pub small : value < unit
   pub worth : unit ≡ 128 ^ k
-  pub so_far : number s ≡ scaled value unit (groups (most_groups - k) (ltb 0 k) (drop k s))
+  pub so_far : number (drop at s) ≡ scaled value unit (groups (most_groups - k) (ltb 0 k) (drop (at + k) s))
 
 scaled_all : (x : Read ℕ) → x ≡ scaled 0 1 x
 unfolding scaled
 scaled_all (taken n r) = ap (λ (m : ℕ). taken m r) (omega arith)
 scaled_all (refused k) = refl
 
-pub grouped_none : (s : List ℕ) → Grouped s 0 1 0
+pub grouped_none : (s : List ℕ) (at : ℕ) → Grouped s at 0 1 0
 unfolding number
-grouped_none s = record {
+grouped_none s at = record {
   few = omega arith;
   small = omega arith;
   worth = refl;
-  so_far = scaled_all (groups most_groups false s);
+  so_far = rw (add-zero at) (scaled_all (groups most_groups false (drop at s)));
 }
 
 scaled_under : (a u g : ℕ) (x : Read ℕ) → scaled a u (x then λ n r. taken (g + 128 * n) r) ≡ scaled (a + g * u) (u * 128) x
@@ -51,7 +51,7 @@ scaled_under a u g (refused k) = refl
 low_bits : (b : ℕ) → b % 128 ≤ 127
 low_bits b = omega arith
 
-module _ (s : List ℕ) (value unit k : ℕ) (g : Grouped s value unit k) (more : k < most_groups) where
+module _ (s : List ℕ) (at value unit k : ℕ) (g : Grouped s at value unit k) (more : k < most_groups) where
   left : most_groups - k ≡ suc (most_groups - suc k)
   left = omega arith
 
@@ -63,53 +63,54 @@ module _ (s : List ℕ) (value unit k : ℕ) (g : Grouped s value unit k) (more 
   group_fits x h = omega (arith, unit_fits, g.small, mul-le-mul_right unit h)
 
   -- no byte is left
-  pub group_cut : length s ≤ k → number s ≡ refused cut_short
+  pub group_cut : length s ≤ at + k → number (drop at s) ≡ refused cut_short
   unfolding groups scaled
   group_cut h = g.so_far ∙ rw (left, drop_of_length-le s h)
 
   -- the byte b comes next
-  module _ (b : ℕ) (there : k < length s) (is : b ≡ get_or s k 0) where
-    next : number s
-        ≡ scaled value unit (group (ltb b 128) (ltb 0 k && eqb b 0) b (drop (suc k) s) (groups (most_groups - suc k) true (drop (suc k) s) then λ n r. taken (b % 128 + 128 * n) r))
+  module _ (b : ℕ) (there : at + k < length s) (is : b ≡ get_or s (at + k) 0) where
+    next : number (drop at s)
+        ≡ scaled value unit (group (ltb b 128) (ltb 0 k && eqb b 0) b (drop (suc (at + k)) s) (groups (most_groups - suc k) true (drop (suc (at + k)) s) then λ n r. taken (b % 128 + 128 * n) r))
     unfolding groups
-    next = g.so_far ∙ rw (left, drop-cons s k 0 there, is)
+    next = g.so_far ∙ rw (left, drop-cons s (at + k) 0 there, is)
 
-    pub group_zero : b < 128 → (ltb 0 k && eqb b 0) ≡ true → number s ≡ refused malformed
+    pub group_zero : b < 128 → (ltb 0 k && eqb b 0) ≡ true → number (drop at s) ≡ refused malformed
     unfolding group scaled
     group_zero h e = next ∙ rw (lt-ltb b 128 h, e)
 
-    pub group_last : b < 128 → (ltb 0 k && eqb b 0) ≡ false → number s ≡ taken (value + b * unit) (drop (k + 1) s)
+    pub group_last : b < 128 → (ltb 0 k && eqb b 0) ≡ false → number (drop at s) ≡ taken (value + b * unit) (drop (at + k + 1) s)
     unfolding group scaled
-    group_last h e = next ∙ rw (lt-ltb b 128 h, e, add-one k) (ap (λ (m : ℕ). taken m (drop (suc k) s)) (omega arith))
+    group_last h e = next ∙ rw (lt-ltb b 128 h, e, add-one (at + k)) (ap (λ (m : ℕ). taken m (drop (suc (at + k)) s)) (omega arith))
 
-    pub group_more : 128 ≤ b → Grouped s (value + b % 128 * unit) (unit * 128) (k + 1)
+    pub group_more : 128 ≤ b → Grouped s at (value + b % 128 * unit) (unit * 128) (k + 1)
     unfolding group
     group_more h = record {
       few = omega arith;
       small = omega (arith, mul-le-mul_right unit (low_bits b));
       worth = rw (add-one k, pow-suc 128 k) (ap (λ (m : ℕ). m * 128) g.worth);
-      so_far = next ∙ rw (le-ltb b 128 h, scaled_under value unit (b % 128) (groups (most_groups - suc k) true (drop (suc k) s)), add-one k, lt-ltb 0 (suc k) (omega arith));
+      so_far = next ∙ rw (le-ltb b 128 h, scaled_under value unit (b % 128) (groups (most_groups - suc k) true (drop (suc (at + k)) s)), add-one k, lt-ltb 0 (suc k) (omega arith), add-suc at k);
     }
 
 -- all that may come had their top bit set
-pub group_ninth : (s : List ℕ) (value unit k : ℕ) → Grouped s value unit k → most_groups ≤ k → number s ≡ refused malformed
+pub group_ninth : (s : List ℕ) (at value unit k : ℕ) → Grouped s at value unit k → most_groups ≤ k → number (drop at s) ≡ refused malformed
 unfolding groups scaled
-group_ninth s value unit k g h = g.so_far ∙ let e : most_groups - k ≡ 0 = omega arith in rw e
+group_ninth s at value unit k g h = g.so_far ∙ let e : most_groups - k ≡ 0 = omega arith in rw e
 
 -- ---- bytes of which i numbers of n are read
-pub record Passed (s : List ℕ) (n : ℕ) (values rest : List ℕ) (i : ℕ) : Type 0 where
+pub record Passed (s : List ℕ) (at n : ℕ) (values : List ℕ) (next i : ℕ) : Type 0 where
   pub few : i ≤ n
-  pub within : length rest ≤ length s
-  pub so_far : numbers i s ≡ taken values rest
+  pub within : next ≤ length s
+  pub so_far : numbers i (drop at s) ≡ taken values (drop next s)
 
-pub passed_none : (s : List ℕ) (n : ℕ) → Passed s n [] s 0
+-- none, from a place within the bytes
+pub passed_none : (s : List ℕ) (at n start : ℕ) → (start ≤ length s) × (drop start s ≡ drop at s) → Passed s at n [] start 0
 unfolding numbers
-passed_none s n = record { few = omega arith; within = omega arith; so_far = refl }
+passed_none s at n start h = record { few = omega arith; within = h.0; so_far = ap (λ (r : List ℕ). taken [] r) (sym h.1) }
 
-pub passed_more : (s : List ℕ) (n : ℕ) (values rest : List ℕ) (i x : ℕ) (r : List ℕ) → Passed s n values rest i → i < n → number rest ≡ taken x r → length r ≤ length rest
-    → Passed s n (values ++ (x ∷ [])) r (i + 1)
+pub passed_more : (s : List ℕ) (at n : ℕ) (values : List ℕ) (next i x m : ℕ) → Passed s at n values next i → i < n → number (drop next s) ≡ taken x (drop m s) → m ≤ length s
+    → Passed s at n (values ++ (x ∷ [])) m (i + 1)
 unfolding numbers ◌then◌
-passed_more s n values rest i x r p h e w = record { few = omega arith; within = omega (arith, p.within); so_far = rw (add-one i, p.so_far, e) }
+passed_more s at n values next i x m p h e w = record { few = omega arith; within = w; so_far = rw (add-one i, p.so_far, e) }
 
 -- a refusal ends the reading
 stays : (d i k : ℕ) (l : List ℕ) → numbers i l ≡ refused k → numbers (d + i) l ≡ refused k
@@ -125,21 +126,23 @@ number_refused n i l v r k h d e =
     rw m at (stays (n - suc i) (suc i) k l s)
 
 -- ---- the answer, at the first refusal and at the end
-module _ (s : List ℕ) (n : ℕ) (values rest : List ℕ) (i : ℕ) (p : Passed s n values rest i) where
-  pub passed_refused : (k : ℕ) → i < n → number rest ≡ refused k → numbers n s ≡ refused k
-  passed_refused k h e = number_refused n i s values rest k h p.so_far e
+next_is : (s : List ℕ) (n : ℕ) → n ≤ length s → length s - length (drop n s) ≡ n
+next_is s n h = rw (length-drop n s) (omega arith)
 
-  pub passed_all : n ≤ i → numbers n s ≡ taken values rest
+module _ (s : List ℕ) (at n : ℕ) (values : List ℕ) (next i : ℕ) (p : Passed s at n values next i) where
+  pub passed_refused : (k : ℕ) → i < n → number (drop next s) ≡ refused k → numbers n (drop at s) ≡ refused k
+  passed_refused k h e = number_refused n i (drop at s) values (drop next s) k h p.so_far e
+
+  pub passed_all : n ≤ i → numbers n (drop at s) ≡ taken values (drop next s)
   passed_all h = let e : i ≡ n = omega (arith, p.few) in rw e at p.so_far
 
-  -- of m bytes in all
-  pub answer_refused : (m : ℕ) (r : Refusal) → i < n → number rest ≡ refused r.0 → Err r ≡ numbers_answer m (numbers n s)
+  pub answer_refused : (r : Refusal) → i < n → number (drop next s) ≡ refused r.0 → Err r ≡ numbers_answer (length s) (numbers n (drop at s))
   unfolding numbers_answer
-  answer_refused m r h e = rw (passed_refused r.0 h e)
+  answer_refused r h e = rw (passed_refused r.0 h e)
 
-  pub answer_taken : (m : ℕ) → n ≤ i → Ok (m - length rest) ≡ numbers_answer m (numbers n s)
+  pub answer_taken : n ≤ i → Ok next ≡ numbers_answer (length s) (numbers n (drop at s))
   unfolding numbers_answer
-  answer_taken m h = rw (passed_all h)
+  answer_taken h = rw (passed_all h, next_is s next p.within)
 
 -- ---- what was read, from the answer
 pub taken_parts : (n : ℕ) (x : Read (List ℕ)) (m : ℕ) (out : List ℕ) → Ok m ≡ numbers_answer n x → Stored x out → (r : List ℕ) × (x ≡ taken out r) × (m ≡ n - length r)

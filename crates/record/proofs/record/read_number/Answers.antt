@@ -1,65 +1,60 @@
 use mathlib.Core.Path.{refl}
-use Prim.Native.Nat.{◌+◌, ◌-◌, ◌*◌, ◌^◌, ◌<◌, ◌≤◌}
+use Prim.Native.Nat.{◌+◌, ◌*◌, ◌^◌, ◌<◌}
 use native.Mathlib.Omega.{arith}
-use lib.ListN.{length, drop, length-drop}
-use lib.Seq.{take_all}
 use Rattle.record.specs.Record.{most_groups}
 use Rattle.record.specs.Inner.{NumberIs}
 use Rattle.record.proofs.Reading.{grouped_none, unit_fits, group_fits, group_cut, group_zero, group_last, group_more, group_ninth}
 use Rattle.record.proofs.record.read_number.Goals as goal
 
 pub loop-groups-init : goal.loop-groups-init
-loop-groups-init c = grouped_none _
+loop-groups-init c = grouped_none _ _
 
-pub returns-then-groups-s : goal.returns-then-groups-s
+pub returns-then-i-s : goal.returns-then-i-s
 unfolding NumberIs
-returns-then-groups-s c =
+returns-then-i-s c =
     let l = c.loop-groups in
-    group_cut _ _ _ _ l.invariant c.loop-groups-test.true c.if-groups-s.true
+    (group_cut _ _ _ _ _ l.invariant c.loop-groups-test.true c.if-i-s.true, omega arith)
 
 pub returns-then-groups-b : goal.returns-then-groups-b
 unfolding NumberIs
 returns-then-groups-b c =
-    group_zero _ _ _ _ c.loop-groups.invariant c.loop-groups-test.true _ c.if-groups-s.false refl c.if-b-lt128.true c.if-groups-b.true
+    (group_zero _ _ _ _ _ c.loop-groups.invariant c.loop-groups-test.true _ c.if-i-s.false refl c.if-b-lt128.true c.if-groups-b.true, omega arith)
 
 pub overflow_mul-result : goal.overflow_mul-result
 overflow_mul-result c =
-    let last_fits : c.loop-groups.value + c.from.result * c.loop-groups.unit < 128 ^ most_groups = rw c.from.ensures (group_fits _ _ _ _ c.loop-groups.invariant c.loop-groups-test.true _ (omega (arith, c.if-b-lt128.true))) in
+    let last_fits : c.loop-groups.value + c.from.result * c.loop-groups.unit < 128 ^ most_groups = rw c.from.ensures (group_fits _ _ _ _ _ c.loop-groups.invariant c.loop-groups-test.true _ (omega (arith, c.if-b-lt128.true))) in
     record { fits = omega (arith, last_fits) }
 
 pub overflow_add-result : goal.overflow_add-result
 overflow_add-result c =
-    let last_fits : c.loop-groups.value + c.from.result * c.loop-groups.unit < 128 ^ most_groups = rw c.from.ensures (group_fits _ _ _ _ c.loop-groups.invariant c.loop-groups-test.true _ (omega (arith, c.if-b-lt128.true))) in
+    let last_fits : c.loop-groups.value + c.from.result * c.loop-groups.unit < 128 ^ most_groups = rw c.from.ensures (group_fits _ _ _ _ _ c.loop-groups.invariant c.loop-groups-test.true _ (omega (arith, c.if-b-lt128.true))) in
     record { fits = omega (arith, last_fits) }
 
 pub returns-then-b-lt128 : goal.returns-then-b-lt128
 unfolding NumberIs
 returns-then-b-lt128 c =
-    let l = c.loop-groups in
-    let s = c.args.s.now in
-    let whole : length (drop (l.groups + 1) s) ≤ length s - (l.groups + 1) = simp length-drop (omega arith) in
-    rw (c.from.ensures, take_all _ (drop (l.groups + 1) s) whole)
-    (group_last _ _ _ _ l.invariant c.loop-groups-test.true _ c.if-groups-s.false refl c.if-b-lt128.true c.if-groups-b.false, simp length-drop (omega arith))
+    rw c.from.ensures
+    (group_last _ _ _ _ _ c.loop-groups.invariant c.loop-groups-test.true _ c.if-i-s.false refl c.if-b-lt128.true c.if-groups-b.false, omega arith)
 
 pub overflow_mul-value : goal.overflow_mul-value
 overflow_mul-value c =
-    let more-fits : c.loop-groups.value + c.from-in-loop-groups.result * c.loop-groups.unit < 128 ^ most_groups = rw c.from-in-loop-groups.ensures (group_fits _ _ _ _ c.loop-groups.invariant c.loop-groups-test.true _ (omega arith)) in
+    let more-fits : c.loop-groups.value + c.from-in-loop-groups.result * c.loop-groups.unit < 128 ^ most_groups = rw c.from-in-loop-groups.ensures (group_fits _ _ _ _ _ c.loop-groups.invariant c.loop-groups-test.true _ (omega arith)) in
     record { fits = omega (arith, more-fits) }
 
 pub overflow_add-value : goal.overflow_add-value
 overflow_add-value c =
-    let more-fits : c.loop-groups.value + c.from-in-loop-groups.result * c.loop-groups.unit < 128 ^ most_groups = rw c.from-in-loop-groups.ensures (group_fits _ _ _ _ c.loop-groups.invariant c.loop-groups-test.true _ (omega arith)) in
+    let more-fits : c.loop-groups.value + c.from-in-loop-groups.result * c.loop-groups.unit < 128 ^ most_groups = rw c.from-in-loop-groups.ensures (group_fits _ _ _ _ _ c.loop-groups.invariant c.loop-groups-test.true _ (omega arith)) in
     record { fits = omega (arith, more-fits) }
 
 pub overflow_mul-unit : goal.overflow_mul-unit
 overflow_mul-unit c =
-    omega (arith, unit_fits _ _ _ _ c.loop-groups.invariant c.loop-groups-test.true)
+    omega (arith, unit_fits _ _ _ _ _ c.loop-groups.invariant c.loop-groups-test.true)
 
 pub loop-groups-preserved : goal.loop-groups-preserved
 loop-groups-preserved c =
     rw c.from-in-loop-groups.ensures
-    (group_more _ _ _ _ c.loop-groups.invariant c.loop-groups-test.true _ c.if-groups-s.false refl c.if-b-lt128.false)
+    (group_more _ _ _ _ _ c.loop-groups.invariant c.loop-groups-test.true _ c.if-i-s.false refl c.if-b-lt128.false)
 
 pub returns : goal.returns
 unfolding NumberIs
-returns c = group_ninth _ _ _ _ c.loop-groups.invariant c.loop-groups-test.false
+returns c = (group_ninth _ _ _ _ _ c.loop-groups.invariant c.loop-groups-test.false, omega arith)

@@ -3,4 +3,4 @@ use Rattle.record.proofs.Reading.{Grouped}
 use Rattle.record.proofs.record.read_number.Given as goal
 
 abbrev pub invariant-loop-groups : goal.invariant-loop-groups
-invariant-loop-groups l = Grouped l.s l.value l.unit l.groups
+invariant-loop-groups l = Grouped l.s l.at l.value l.unit l.groups
