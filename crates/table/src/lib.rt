@@ -35,6 +35,7 @@ pub fn clear_table(table: &mut [u64]) -> Result<(), Refusal>
 }
 
 // The quotes from a vector that is made, which is kept where there are quotes.
+// The table's length stays a clause, as at `add_row`.
 fn made_quotes(
     table: &mut [u64],
     mid: i64,
@@ -77,6 +78,7 @@ fn made_quotes(
 }
 
 // The quotes of a model at q lots: from the first row that agrees, or from a vector that is made.
+// The table's length stays a clause, as at `add_row`.
 fn model_quotes(table: &mut [u64], mid: i64, least: i64, m: Model, q: i64, tau: f64) -> ExactQuotes
     requires { (table_room ≤ length table.old) × (table_ok table.old ≡ true) }
     ensures value { result ≡ (used_with (Ok (m, q)) mid least tau table.old).reply }

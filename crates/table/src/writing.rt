@@ -74,6 +74,8 @@ fn row_after(next: u64) -> u64
 }
 
 // Puts a vector into the next row, which is the oldest where all are filled.
+// That the table is long enough stays a clause where it is written: of a struct round the `&mut` with that fact
+// the check lets no part be lent.
 pub(crate) fn add_row(table: &mut [u64], kept: Kept<'_>)
     requires { (table_room ≤ length table.old) × (next table.old ≤ 3) }
     ensures { table.new ≡ with_row kept.entry.input kept.entry.steps (lent kept.entry.n kept.entry.w.now kept.entry.log_offset.now) table.old }
