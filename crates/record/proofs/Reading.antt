@@ -102,9 +102,10 @@ pub record Passed (s : List ℕ) (at n : ℕ) (values : List ℕ) (next i : ℕ)
   pub within : next ≤ length s
   pub so_far : numbers i (drop at s) ≡ taken values (drop next s)
 
-pub passed_none : (s : List ℕ) (at n : ℕ) → at ≤ length s → Passed s at n [] at 0
+-- none, from a place within the bytes
+pub passed_none : (s : List ℕ) (at n start : ℕ) → (start ≤ length s) × (drop start s ≡ drop at s) → Passed s at n [] start 0
 unfolding numbers
-passed_none s at n h = record { few = omega arith; within = h; so_far = refl }
+passed_none s at n start h = record { few = omega arith; within = h.0; so_far = ap (λ (r : List ℕ). taken [] r) (sym h.1) }
 
 pub passed_more : (s : List ℕ) (at n : ℕ) (values : List ℕ) (next i x m : ℕ) → Passed s at n values next i → i < n → number (drop next s) ≡ taken x (drop m s) → m ≤ length s
     → Passed s at n (values ++ (x ∷ [])) m (i + 1)

@@ -18,6 +18,7 @@ use elementary::Refusal;
 use model::{GLFTConfig, Model};
 pub use places::TABLE_ROOM;
 use quote::{ExactQuotes, quotes_by};
+use rows::Table;
 use vector::RunInput;
 use writing::Kept;
 
@@ -34,6 +35,7 @@ pub fn clear_table(table: &mut [u64]) -> Result<(), Refusal>
 }
 
 // The quotes from a vector that is made, which is kept where there are quotes.
+// The table's length stays a clause, as at `add_row`.
 fn made_quotes(
     table: &mut [u64],
     mid: i64,
@@ -76,14 +78,16 @@ fn made_quotes(
 }
 
 // The quotes of a model at q lots: from the first row that agrees, or from a vector that is made.
+// The table's length stays a clause, as at `add_row`.
 fn model_quotes(table: &mut [u64], mid: i64, least: i64, m: Model, q: i64, tau: f64) -> ExactQuotes
     requires { (table_room ≤ length table.old) × (table_ok table.old ≡ true) }
     ensures value { result ≡ (used_with (Ok (m, q)) mid least tau table.old).reply }
     ensures table_after { table.new ≡ (used_with (Ok (m, q)) mid least tau table.old).table }
 {
     let input = model::run_input(m, tau);
-    match rows::find(table, input) {
-        Some(r) => quotes_by(mid, least, rows::answer_of_row(table, r, m, q)),
+    let lent = Table { numbers: table };
+    match rows::find(lent, input) {
+        Some(r) => quotes_by(mid, least, rows::answer_of_row(lent.row(r), m, q)),
         None => made_quotes(table, mid, least, m, q, input),
     }
 }

@@ -16,6 +16,31 @@ use elementary::{Refusal, bits_of};
 use model::Model;
 use vector::{MAX_EXPM_STEPS, MAX_INVENTORY_LOTS, RunInput};
 
+// A table that is long enough, as it stands.
+#[derive(Clone, Copy)]
+pub(crate) struct Table<'a> {
+    pub(crate) numbers: &'a [u64],
+    ghost room: { table_room ≤ length numbers.now },
+}
+
+// One of its four rows.
+#[derive(Clone, Copy)]
+pub(crate) struct Row<'a> {
+    table: Table<'a>,
+    r: usize,
+    ghost few: { r ≤ 3 },
+}
+
+impl<'a> Table<'a> {
+    // A row by its place among the four.
+    pub(crate) fn row(self, r: usize) -> Row<'a>
+        requires { r ≤ 3 }
+        ensures { (result.table.numbers.now ≡ self.entry.numbers.now) × (result.r ≡ r) }
+    {
+        Row { table: self, r }
+    }
+}
+
 // Whether the two counts are such as calls leave them.
 fn counts_fit(filled: u64, next: u64) -> bool
     ensures { result ≡ counts_ok filled next }
@@ -24,11 +49,11 @@ fn counts_fit(filled: u64, next: u64) -> bool
 }
 
 // Whether a row's steps, bound and length are.
-fn row_fits(table: &[u64], r: usize) -> bool
-    requires { (table_room ≤ length table.now) × (r ≤ 3) }
-    ensures { result ≡ row_ok table.now r }
+fn row_fits(row: Row<'_>) -> bool
+    ensures { result ≡ row_ok row.entry.table.numbers.now row.entry.r }
 {
-    let at = row_at(r);
+    let table = row.table.numbers;
+    let at = row_at(row.r);
     let bound = table[at + BOUND];
     if u64::from(MAX_INVENTORY_LOTS) < bound {
         return false;
@@ -38,20 +63,19 @@ fn row_fits(table: &[u64], r: usize) -> bool
 }
 
 // Whether those of the first n rows are.
-fn rows_fit(table: &[u64], n: usize) -> bool
-    requires { (table_room ≤ length table.now) × (n ≤ rows_kept) }
-    ensures { result ≡ every n (row_ok table.now) }
+fn rows_fit(table: Table<'_>, n: usize) -> bool
+    requires { n ≤ rows_kept }
+    ensures { result ≡ every n (row_ok table.entry.numbers.now) }
 {
-    (0..n).all(|r| row_fits(table, r))
+    (0..n).all(|r| row_fits(table.row(r)))
 }
 
 // Whether a table passes the check of 24: an unfilled row is not looked at, and no float.
-fn table_fits(table: &[u64]) -> bool
-    requires { table_room ≤ length table.now }
-    ensures { result ≡ table_ok table.now }
+fn table_fits(table: Table<'_>) -> bool
+    ensures { result ≡ table_ok table.entry.numbers.now }
 {
-    let filled = table[FILLED];
-    if counts_fit(filled, table[NEXT]) {
+    let filled = table.numbers[FILLED];
+    if counts_fit(filled, table.numbers[NEXT]) {
         return rows_fit(table, filled as usize);
     }
     false
@@ -62,7 +86,7 @@ pub(crate) fn check_table(table: &[u64]) -> Result<(), Refusal>
     ensures { result ≡ check_of (first_failing (table_checks table.now)) }
 {
     if TABLE_ROOM <= table.len() {
-        if table_fits(table) {
+        if table_fits(Table { numbers: table }) {
             return Ok(());
         }
         return Err(BAD_TABLE);
@@ -71,11 +95,11 @@ pub(crate) fn check_table(table: &[u64]) -> Result<(), Refusal>
 }
 
 // Whether a row's vector was made from this input: the bound agrees, and each float bit for bit.
-fn row_agrees(table: &[u64], r: usize, input: RunInput) -> bool
-    requires { (table_room ≤ length table.now) × (r ≤ 3) }
-    ensures { result ≡ agrees table.now input r }
+fn row_agrees(row: Row<'_>, input: RunInput) -> bool
+    ensures { result ≡ agrees row.entry.table.numbers.now input row.entry.r }
 {
-    let at = row_at(r);
+    let table = row.table.numbers;
+    let at = row_at(row.r);
     (table[at + BOUND] == u64::from(input.bound))
         & (table[at + ALPHA] == bits_of(input.alpha))
         & (table[at + BETA] == bits_of(input.beta))
@@ -84,13 +108,13 @@ fn row_agrees(table: &[u64], r: usize, input: RunInput) -> bool
 }
 
 // The first filled row that agrees, if one does.
-pub(crate) fn find(table: &[u64], input: RunInput) -> Option<usize>
-    requires { (table_room ≤ length table.now) × (filled table.now ≤ rows_kept) }
-    ensures { result ≡ found table.now input }
+pub(crate) fn find(table: Table<'_>, input: RunInput) -> Option<usize>
+    requires { filled table.numbers.now ≤ rows_kept }
+    ensures { result ≡ found table.entry.numbers.now input }
 {
-    let rows = table[FILLED] as usize;
+    let rows = table.numbers[FILLED] as usize;
     for r in 0..rows {
-        if row_agrees(table, r, input) {
+        if row_agrees(table.row(r), input) {
             return Some(r);
         }
     }
@@ -98,11 +122,12 @@ pub(crate) fn find(table: &[u64], input: RunInput) -> Option<usize>
 }
 
 // The answer at q lots from a row as it stands, whose weights and offsets are lent: none is copied.
-pub(crate) fn answer_of_row(table: &[u64], r: usize, m: Model, q: i64) -> Answer
-    requires { (table_room ≤ length table.now) × (r ≤ 3) × (row_ok table.now r ≡ true) }
-    ensures { result ≡ answer_from (row_vector table.now r) m.k m.base q }
+pub(crate) fn answer_of_row(row: Row<'_>, m: Model, q: i64) -> Answer
+    requires { row_ok row.table.numbers.now row.r ≡ true }
+    ensures { result ≡ answer_from (row_vector row.entry.table.numbers.now row.entry.r) m.k m.base q }
 {
-    let at = row_at(r);
+    let table = row.table.numbers;
+    let at = row_at(row.r);
     distances::answer_in_bits(
         table[at + STEPS] as u32,
         &table[at + WEIGHTS..at + OFFSETS],

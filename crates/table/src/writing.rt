@@ -37,11 +37,13 @@ pub(crate) struct Kept<'a> {
     pub(crate) n: usize,
     pub(crate) w: &'a [f64],
     pub(crate) log_offset: &'a [f64],
+    ghost weights: { length w.now ≡ room },
+    ghost offsets: { length log_offset.now ≡ room },
 }
 
 // The numbers of a row: the steps, the vector's length, what it was made from, weights and offsets.
 fn write_row(row: &mut [u64], kept: Kept<'_>)
-    requires { (length row.old ≡ row_size) × (length kept.w.now ≡ room) × (length kept.log_offset.now ≡ room) }
+    requires { length row.old ≡ row_size }
     ensures { row.new ≡ row_numbers kept.entry.input kept.entry.steps (lent kept.entry.n kept.entry.w.now kept.entry.log_offset.now) }
 {
     let input = kept.input;
@@ -72,8 +74,10 @@ fn row_after(next: u64) -> u64
 }
 
 // Puts a vector into the next row, which is the oldest where all are filled.
+// That the table is long enough stays a clause where it is written: of a struct round the `&mut` with that fact
+// the check lets no part be lent.
 pub(crate) fn add_row(table: &mut [u64], kept: Kept<'_>)
-    requires { (table_room ≤ length table.old) × (next table.old ≤ 3) × (length kept.w.now ≡ room) × (length kept.log_offset.now ≡ room) }
+    requires { (table_room ≤ length table.old) × (next table.old ≤ 3) }
     ensures { table.new ≡ with_row kept.entry.input kept.entry.steps (lent kept.entry.n kept.entry.w.now kept.entry.log_offset.now) table.old }
 {
     let next = table[NEXT];

@@ -6,13 +6,10 @@ use Rattle.distances.specs.Reading.{answer_from}
 use Rattle.quote.specs.Quotes.{quotes_by_answer}
 use Rattle.table.specs.Table.{kept_in}
 use Rattle.table.proofs.Checked.{table_passed}
-use Rattle.vector.proofs.Arrays.{full_arrays}
 use Rattle.table.proofs.made_quotes.Goals as goal
 
 pub add_row-requires : goal.add_row-requires
-add_row-requires c =
-    let f = full_arrays c.args.input in
-    (c.requires.0, (table_passed c.args.table.now c.requires.1).within, rw c.value_vector-a.ensures f.weights, rw c.value_vector-a.ensures f.offsets)
+add_row-requires c = (c.requires.0, (table_passed c.args.table.now c.requires.1).within)
 
 pub returns-in-Quotes : goal.returns-in-Quotes
 unfolding kept_in answer_from

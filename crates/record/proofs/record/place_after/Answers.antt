@@ -5,7 +5,7 @@ use Rattle.elementary.proofs.Results.{handed_on}
 use mathlib.Core.Path.{◌∙◌}
 
 pub loop-init : goal.loop-init
-loop-init c = (_, passed_none _ _ _ c.requires)
+loop-init c = (_, passed_none _ _ _ _ c.place_in-next.ensures)
 
 pub returns-in_err-place : goal.returns-in_err-place
 unfolding NumberIs

@@ -14,14 +14,10 @@ read_taken flat s at v r next e k = rw (e, k)
 
 pub returns-in-Ok : goal.returns-in-Ok
 returns-in-Ok c =
-    let parts : let a = c.args in let v = c.take_numbers.new.out in (r : List ℕ) × (numbers fields (drop a.at a.sheet.now) ≡ taken v r) × (c.in-Ok.next ≡ length a.sheet.now - length r) = let d = c.place_in-start.ensures.1 in
-    let e = rw d at c.take_numbers.ensures in
-    taken_parts _ _ _ _ (sym c.in-Ok.is ∙ e.value) e.stored in
+    let parts : let a = c.args in let v = c.take_numbers.new.out in (r : List ℕ) × (numbers fields (drop a.at a.sheet.now) ≡ taken v r) × (c.in-Ok.next ≡ length a.sheet.now - length r) = taken_parts _ _ _ _ (sym c.in-Ok.is ∙ c.take_numbers.ensures.value) c.take_numbers.ensures.stored in
     let p = parts in
     rw (read_taken _ _ _ _ _ _ p.1 p.2, ← c.numbers_of.ensures, c.record_of_numbers.ensures)
 
 pub returns-in-Err : goal.returns-in-Err
 unfolding read_as record_from held_as
-returns-in-Err c =
-    let d = c.place_in-start.ensures.1 in
-    rw (refused_parts _ _ _ (sym c.in-Err.is ∙ rw d at c.take_numbers.ensures.value))
+returns-in-Err c = rw (refused_parts _ _ _ (sym c.in-Err.is ∙ c.take_numbers.ensures.value))

@@ -21,14 +21,12 @@ left_refused n x r out₀ e = rw (refused_parts n x r e)
 
 pub returns : goal.returns
 returns c =
-    let d = c.place_in-start.ensures.1 in
-    let e = rw d at c.take_numbers.ensures in
-    record { value = e.value; out_after = left-taken _ _ _ _ _ (sym c.in_ok-place_after.was ∙ rw d at c.place_after.ensures) e.stored }
+    let e = c.take_numbers.ensures in
+    record { value = e.value; out_after = left-taken _ _ _ _ _ (sym c.in_ok-place_after.was ∙ c.place_after.ensures) e.stored }
 
 pub returns-in_err-place_after : goal.returns-in_err-place_after
 returns-in_err-place_after c =
-    let d = c.place_in-start.ensures.1 in
-    let e = sym c.in_err-place_after.was ∙ rw d at c.place_after.ensures in
+    let e = sym c.in_err-place_after.was ∙ c.place_after.ensures in
     record {
       value = handed_on c.from_residual.result c.in_err-place_after.field-0.0 c.from_residual.ensures.1 ∙ e;
       out_after = left_refused _ _ _ _ e;

@@ -10,7 +10,7 @@ use Rattle.record.proofs.record.take_numbers.Goals as goal
 use Rattle.elementary.proofs.Results.{handed_on}
 
 pub loop-slot-init : goal.loop-slot-init
-loop-slot-init c = passed_none _ _ _ c.requires
+loop-slot-init c = passed_none _ _ _ _ c.place_in-next.ensures
 
 pub returns-in_err-value : goal.returns-in_err-value
 unfolding NumberIs Stored

@@ -7,10 +7,12 @@ use Rattle.table.proofs.rows.answer_of_row.Goals as goal
 
 pub overflow_cast-table : goal.overflow_cast-table
 overflow_cast-table c =
-    let t = c.args.table.now in
-    rw (first_is t c.args.r _ c.row_at-at.ensures c.requires.0 c.requires.1) (omega (arith, (row_passed t c.args.r c.requires.2).steps))
+    let w = c.args.row in
+    let t = w.table.numbers.now in
+    rw (first_is t w.r _ c.row_at-at.ensures w.table.room w.few) (omega (arith, (row_passed t w.r c.requires).steps))
 
 pub returns : goal.returns
 returns c =
     let a = c.args in
-    rw (c.answer_in_bits.ensures, to_z-of_z c.ranges.q) (row_read a.table.now a.r _ c.row_at-at.ensures c.requires.0 c.requires.1 a.m.k a.m.base a.q)
+    let w = a.row in
+    rw (c.answer_in_bits.ensures, to_z-of_z c.ranges.q) (row_read w.table.numbers.now w.r _ c.row_at-at.ensures w.table.room w.few a.m.k a.m.base a.q)

@@ -4,4 +4,4 @@ use Rattle.table.specs.Table.{agrees, first_from, found}
 use Rattle.table.proofs.rows.find.Given as goal
 
 abbrev pub invariant-loop-r : goal.invariant-loop-r
-invariant-loop-r l = found l.table l.input ≡ first_from l.r (l.rows - l.r) (agrees l.table l.input)
+invariant-loop-r l = found l.table.numbers.now l.input ≡ first_from l.r (l.rows - l.r) (agrees l.table.numbers.now l.input)

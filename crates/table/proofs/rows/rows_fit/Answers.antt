@@ -13,6 +13,6 @@ range_every p i (suc n) = rw add-one (ap (λ (b : Bool). p i && b) (range_every 
 
 pub returns : goal.returns
 returns c =
-    let rows = row_ok c.args.table.now in
+    let rows = row_ok c.args.table.numbers.now in
     all_from_yields_List rows _ _ _ c.all.ensures.ran (YieldsList-from_range 0 c.args.n c.args.n (cc) (omega arith)) (λ x b q h. search rules)
     ∙ range_every rows 0 c.args.n

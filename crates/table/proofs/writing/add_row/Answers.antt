@@ -18,4 +18,4 @@ shape_of-table c = c.table-1.given.1 ∙ simp length-set
 pub returns : goal.returns
 returns c =
     let w = c.write_row in
-    row_put c.args.kept.input c.args.kept.steps (lent c.args.kept.n c.args.kept.w.now c.args.kept.log_offset.now) c.args.table.now w.new.row _ _ _ c.row_at-at.ensures c.one_more.ensures c.row_after.ensures c.requires.2 c.requires.3 w.ensures
+    row_put c.args.kept.input c.args.kept.steps (lent c.args.kept.n c.args.kept.w.now c.args.kept.log_offset.now) c.args.table.now w.new.row _ _ _ c.row_at-at.ensures c.one_more.ensures c.row_after.ensures c.args.kept.weights c.args.kept.offsets w.ensures

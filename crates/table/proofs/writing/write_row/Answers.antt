@@ -26,4 +26,4 @@ shape_of-row c = c.row-2-1.given.1 ∙ c.row-1.given.1 ∙ simp length-set
 pub returns : goal.returns
 returns c =
     rw (c.from.ensures, c.from-2.ensures)
-    (row_made c.args.kept.input c.args.kept.steps c.args.kept.n c.args.kept.w.now c.args.kept.log_offset.now c.args.row.now c.write_bits.new.out c.write_bits-2.new.out _ _ _ _ c.requires.0 c.requires.1 c.write_bits.ensures c.write_bits-2.ensures c.bits_of.ensures c.bits_of-2.ensures c.bits_of-3.ensures c.bits_of-4.ensures)
+    (row_made c.args.kept.input c.args.kept.steps c.args.kept.n c.args.kept.w.now c.args.kept.log_offset.now c.args.row.now c.write_bits.new.out c.write_bits-2.new.out _ _ _ _ c.requires c.args.kept.weights c.write_bits.ensures c.write_bits-2.ensures c.bits_of.ensures c.bits_of-2.ensures c.bits_of-3.ensures c.bits_of-4.ensures)
