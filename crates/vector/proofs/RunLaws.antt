@@ -29,7 +29,7 @@ use Rattle.series.proofs.Extremes.{smallest_floor}
 use Rattle.plan.proofs.Plans.{planned_some}
 use Rattle.elementary.specs.Checks.{by}
 
-never : {A : Type 0} → ◌≡◌ {A = ℕ} 0 1 → A
+pub never : {A : Type 0} → ◌≡◌ {A = ℕ} 0 1 → A
 never e = absurd (omega arith)
 
 -- ---- the diagonal that the code makes for a plan that keeps the budget

@@ -2,6 +2,7 @@
 // rebalancing. Every slice has an entry for each row, or, where `half` is true, for each row up to the
 // centre: the others mirror them.
 ghost use Rattle.std.specs.Prelude.{◌≡◌, ◌+◌, ◌-◌, ◌≤◌, length, true, false, not, ◌&&◌};
+ghost use Rattle.std.specs.Bool.{then_some};
 ghost use Rattle.std.specs.Float.{inf};
 ghost use Rattle.std.specs.Float.Ieee.{lt};
 ghost use Rattle.elementary.specs.Float.{◌⊕◌, ◌⊘◌, 0ᶠ, 1ᶠ, finite, positive};
@@ -114,28 +115,18 @@ fn end_of(pace: Pace) -> Outcome
     stop
 }
 
-// The largest weight, from 0.0, and whether every weight is finite and positive.
-#[derive(Clone, Copy)]
-struct Top {
-    weight: f64,
-    positive: bool,
-}
-
-// The largest weight, and whether all are positive, which those above zero are where it is finite.
-fn top_of(weight: f64, above: bool) -> Top
-    ensures { (result.weight ≡ weight) × (result.positive ≡ (above && finite weight)) }
+// The largest weight, where all are above zero and it is finite, as then all are.
+fn top_of(weight: f64, above: bool) -> Option<f64>
+    ensures { result ≡ then_some (above && finite weight) weight }
 {
-    Top {
-        weight,
-        positive: above & elementary::is_finite(weight),
-    }
+    (above & elementary::is_finite(weight)).then_some(weight)
 }
 
-// Both in one pass, by the even and the odd places apart: neither waits for the other.
-fn largest(w: &[f64]) -> Top
+// The largest weight, where all are finite and positive. In one pass, by the even and the odd places
+// apart: neither waits for the other.
+fn largest(w: &[f64]) -> Option<f64>
     requires { Fit w.now }
-    ensures weight_value { result.weight ≡ fold larger 0ᶠ w.now }
-    ensures positive_value { result.positive ≡ every (length w.now) (λ i. positive (at w.now i)) }
+    ensures { result ≡ then_some (every (length w.now) (λ i. positive (at w.now i))) (fold larger 0ᶠ w.now) }
 {
     let mut even = 0.0;
     let mut odd = 0.0;
@@ -194,15 +185,16 @@ fn after_step(w: &mut [f64], o: &mut [f64], pace: Pace, settled: bool) -> Pace
     requires { Fit w.old × (length o.old ≡ length w.old) × (1 ≤ pace.steps) × (1 ≤ pace.budget) × (pace.budget ≤ cap) }
     ensures { AfterIs (settled && every (length w.old) (λ i. positive (at w.old i))) (length w.old) pace (divided (length w.old) w.old) o.old result w.new o.new }
 {
-    let top = largest(w);
-    let good = settled & top.positive;
-    if !good {
+    if !settled {
         return refused();
     }
+    let Some(max) = largest(w) else {
+        return refused();
+    };
     let steps = pace.steps - 1;
     let budget = pace.budget - 1;
     let remaining = pace.remaining - pace.dt;
-    if divide(w, top.weight, steps) {
+    if divide(w, max, steps) {
         return paced(steps, budget, remaining, pace.dt);
     }
     if rebalance(w, o) {
