@@ -12,7 +12,7 @@ ghost use Rattle.plan.specs.Plan.{bound_ok, cap, begin};
 ghost use Rattle.vector.specs.Run.{run, run_on, divided, rebalances};
 ghost use Rattle.operator.specs.Operator.{rows};
 ghost use Rattle.vector.specs.Values.{blank_vector, vector_of, refused_vector, vector_by};
-ghost use Rattle.vector.specs.Inner.{paced_of, asked_of, stopped_of, refused_pace, told, Sound, SoundPace, AfterIs, PlanSpent, NextIs, weight, EndIs};
+ghost use Rattle.vector.specs.Inner.{paced_of, stopped_of, refused_pace, told, Sound, SoundPace, AfterIs, PlanSpent, NextIs, weight, EndIs};
 ghost use Rattle.series.specs.Slices.{Sizes, Fit};
 ghost use Rattle.series.specs.Half.{filled_out, full_size, full_factors, full, Centred};
 ghost use Rattle.vector.specs.Half.{full_fixed, RowsStand};
@@ -22,7 +22,7 @@ use crate::{MAX_DIM, MAX_EXPM_STEPS, Outcome, RunInput, ValueVector, VectorAnswe
 use elementary::Refusal;
 use plan::Planned;
 
-// The steps planned that are still to make, with budget left for one at least; the time left, and the
+// The steps of a plan that are still to make, with budget left for at least one; the time left, and the
 // time of a step.
 #[derive(Clone, Copy)]
 pub(crate) struct Steps {
@@ -63,13 +63,6 @@ fn paced(steps: u32, budget: u32, remaining: f64, dt: f64) -> Pace
         remaining,
         dt,
     })
-}
-
-// A run that asks for a plan.
-fn asking(budget: u32, remaining: f64) -> Pace
-    ensures { result ≡ asked_of budget remaining }
-{
-    Pace::Behind(Next::Plan(budget, remaining))
 }
 
 // A run that is over.
@@ -188,7 +181,7 @@ fn after_step(w: &mut [f64], o: &mut [f64], going: Steps, settled: bool) -> Pace
         return paced(steps, budget, remaining, going.dt);
     }
     if rebalance(w, o) {
-        return asking(budget, remaining);
+        return Pace::Behind(Next::Plan(budget, remaining));
     }
     refused()
 }

@@ -35,7 +35,7 @@ returns-then-rebalance c =
     let d = c.divide in
     let top = some_top _ _ _ _ _ c.if-not-settled.false c.largest.ensures c.in-Some.is in
     let f = c.rebalance.ensures in
-    after_asked _ _ _ _ _ _ _ _ _ top.1 d.ensures.w_after top.0 d.ensures.value _ _ _ d.auto.w f.value c.if-divide.false c.if-rebalance.true f.w_after f.o_after c.asking.ensures
+    after_asked _ _ _ _ _ _ _ _ _ top.1 d.ensures.w_after top.0 d.ensures.value _ _ _ d.auto.w f.value c.if-divide.false c.if-rebalance.true f.w_after f.o_after refl
 
 pub returns : goal.returns
 returns c =
