@@ -27,6 +27,7 @@ struct TwoRows {
 }
 
 // A series so far: its last term, the sum with it, and whether it has converged.
+// A flag and no enum, which is no plainer: `taylor_pair` hands on the term and the sum either way.
 #[derive(Clone, Copy)]
 struct Partial {
     term: Pair,

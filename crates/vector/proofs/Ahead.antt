@@ -21,7 +21,6 @@ use Rattle.plan.specs.declared.FirstPlan.{FirstPlan}
 use Rattle.plan.proofs.Plans.{planned_some, planned_within, planned_same}
 use Rattle.plan.proofs.Ahead.{begun, first_begins, first_when}
 use Rattle.vector.proofs.RunLaws.{on_ended}
-use Rattle.elementary.specs.Checks.{by}
 
 module _ (x : RunInput) where
   abbrev p : Fixed

@@ -6,7 +6,7 @@ use native.Mathlib.Omega.{arith}
 use lib.ListN.{length, length-append, length-replicate}
 use lib.Ieee.{Float}
 use Rattle.elementary.specs.Float.{0ᶠ}
-use Rattle.elementary.specs.Checks.{Verdict, passes, refused, first_failing, by}
+use Rattle.elementary.specs.Checks.{Verdict, passes, refused, first_failing}
 use Rattle.operator.specs.Vectors.{fill}
 use Rattle.operator.specs.Operator.{rows}
 use Rattle.plan.specs.Plan.{Ended, vector, over_cap, failed, cap, room}

@@ -28,6 +28,7 @@ use Rattle.vector.specs.declared.Outcome.{Outcome}
 use Rattle.plan.specs.declared.plan.Planned.{Planned}
 use Rattle.plan.specs.Slices.{plan_from, diagonal_for}
 use Rattle.plan.proofs.Plans.{planned_over}
+use Rattle.vector.specs.declared.run.Steps.{Steps}
 use Rattle.vector.specs.declared.run.Pace.{Pace}
 use Rattle.operator.proofs.Lists.{length_tab, tab_ext}
 use Rattle.operator.proofs.Loops.{drop_fill}
@@ -105,7 +106,7 @@ module _ (h : Bool) (n b : ℕ) (rest : Float) (o left₀ right₀ d diag₀ : L
       go false t e = not_begun_full h n b rest o left right d eta two fits (both_fine n left right) lefts rights refl a diag t (ea ∙ ap (told b rest) e)
 
 -- ---- after a step, v being its sum
-module _ (h : Bool) (n : ℕ) (some : 1 ≤ n) (a : Pace) (v o : List Float) (r : Pace) (w' o' : List Float) (long : length v ≡ n) (f : Fit v) where
+module _ (h : Bool) (n : ℕ) (some : 1 ≤ n) (a : Steps) (v o : List Float) (r : Pace) (w' o' : List Float) (long : length v ≡ n) (f : Fit v) where
   abbrev divided_rows : full h n (divided n v) ≡ divided (full_size h n) (full h n v)
   divided_rows = divided_full h n some v long f
 

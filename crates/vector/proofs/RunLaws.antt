@@ -5,7 +5,7 @@ use native.Mathlib.Nat.{le_trans}
 use native.Mathlib.Omega.{arith}
 use mathlib.Core.Bool.{Bool, true, false, not, ◌&&◌}
 use mathlib.Core.List.{List}
-use borrow.Author.Tests.{ltb-true, ltb-false, lt-ltb, not-true, not-false}
+use borrow.Author.Tests.{not-true, not-false}
 use lib.Dec.{ltb}
 use lib.ListN.{length}
 use lib.Ieee.{Float, inf, lt, to_unsigned}
@@ -18,18 +18,20 @@ use Rattle.series.specs.Series.{taylor_step, operator_over}
 use Rattle.plan.specs.Plan.{Ended, vector, over_cap, failed, Fixed, Going, going, ended, cap, start, begin, fixed_over, fixed, first_if, plan_by, plan_of}
 use Rattle.vector.specs.Run.{divided, floor, rebalances, rebalance, next, stepped, step_operator, turn, run_on, run, run_from}
 use Rattle.vector.specs.Values.{padded, vector_of, vector_by}
-use Rattle.vector.specs.Inner.{going_over, paced_of, asked_of, stopped_of, told, end_by, AfterBy, AfterIs, Standing, weight_by, weight, BegunIs, PlanSpent, Between, EndIs}
+use Rattle.vector.specs.Inner.{going_over, paced_of, asked_of, stopped_of, told, Sound, SoundPace, AfterBy, AfterIs, NextIs, Standing, weight, pace_weight, BegunIs, PlanSpent, EndIs}
 use Rattle.series.specs.Half.{StepIs}
 use Rattle.plan.specs.declared.RunInput.{RunInput}
 use Rattle.vector.specs.declared.Outcome.{Outcome}
 use Rattle.plan.specs.declared.plan.Planned.{Planned}
+use Rattle.vector.specs.declared.run.Steps.{Steps}
+use Rattle.vector.specs.declared.run.Next.{Next}
 use Rattle.vector.specs.declared.run.Pace.{Pace}
 use Rattle.operator.proofs.Lists.{every_true}
 use Rattle.series.proofs.Extremes.{smallest_floor}
 use Rattle.plan.proofs.Plans.{planned_some}
 use Rattle.elementary.specs.Checks.{by}
 
-never : {A : Type 0} → ◌≡◌ {A = ℕ} 0 1 → A
+pub never : {A : Type 0} → ◌≡◌ {A = ℕ} 0 1 → A
 never e = absurd (omega arith)
 
 -- ---- the diagonal that the code makes for a plan that keeps the budget
@@ -45,18 +47,32 @@ on_ended p zero r = refl
 on_ended p (suc b) r = refl
 
 module _ (p : Fixed) (r : Ended) (w o left right diag : List Float) where
-  -- over
-  over : (x : Outcome) → EndIs r x w o → Standing p r w o left right diag (stopped_of x)
-  over x h = record { within = omega arith; scaled = λ k. absurd (omega arith); goes = λ k. absurd (omega arith); asks = λ e. never (cc e); stops = λ _ _. h }
-
   failed_over : (b s : ℕ) → run_on b p (ended (failed s)) ≡ r → Standing p r w o left right diag (stopped_of (Outcome.Refused (by 11)))
   unfolding EndIs
-  failed_over b s e = over (Outcome.Refused (by 11)) (rw (← e, on_ended p b (failed s)) refl)
+  failed_over b s e = rw (← e, on_ended p b (failed s)) refl
 
   -- with steps to go, or done
-  paced_on : (s b : ℕ) (rest dt : Float) → b ≤ cap → diag ≡ tab p.n (λ i. at p.diagonal i ⊗ dt) → (1 ≤ s → run_on b p (going (going_over w o left right dt rest s)) ≡ r) → (s ≡ 0 → EndIs r (Outcome.Done (cap - b)) w o)
+  paced_on : (s b : ℕ) (rest dt : Float) → diag ≡ tab p.n (λ i. at p.diagonal i ⊗ dt) → (1 ≤ s → run_on b p (going (going_over w o left right dt rest s)) ≡ r) → (s ≡ 0 → EndIs r (Outcome.Done (cap - b)) w o)
       → Standing p r w o left right diag (paced_of s b rest dt)
-  paced_on s b rest dt k d h z = record { within = k; scaled = λ _. d; goes = h; asks = λ e. never (cc e); stops = λ e _. z e }
+  unfolding run_on EndIs
+  paced_on zero b rest dt d h z = z refl
+  paced_on (suc s) zero rest dt d h z = rw (← h (omega arith)) refl
+  paced_on (suc s) (suc b) rest dt d h z = (d, h (omega arith))
+
+paced_sound : (s b : ℕ) (rest dt : Float) → b ≤ cap → SoundPace (paced_of s b rest dt)
+paced_sound zero b rest dt k = tt
+paced_sound (suc s) zero rest dt k = tt
+paced_sound (suc s) (suc b) rest dt k = (omega arith, omega arith, k)
+
+-- the budget of steps to make
+abbrev pub left : Pace → ℕ
+left (Pace.Going a) = a.budget
+left (Pace.Behind q) = 0
+
+paced_less : (s b : ℕ) (rest dt : Float) → (left (paced_of s b rest dt) ≤ b) × (pace_weight (paced_of s b rest dt) ≤ b)
+paced_less zero b rest dt = (omega arith, omega arith)
+paced_less (suc s) zero rest dt = (omega arith, omega arith)
+paced_less (suc s) (suc b) rest dt = (omega arith, omega arith)
 
 -- ---- a plan, b being the budget left
 module _ (p : Fixed) (b : ℕ) (rest : Float) (o left right diag : List Float) (fits : b ≤ cap) where
@@ -64,35 +80,40 @@ module _ (p : Fixed) (b : ℕ) (rest : Float) (o left right diag : List Float) (
       → Standing p (run_on b p (start f c b (fill p.n 1ᶠ) o left right rest need)) (fill p.n 1ᶠ) o left right diag (told b rest q)
   unfolding EndIs start plan_by
   by_plan false c need q some e d = rw e (failed_over p _ _ o left right diag b _ refl)
-  by_plan true false need q some e d = rw e (over p _ _ o left right diag _ (rw (on_ended p b (over_cap need b)) refl))
+  by_plan true false need q some e d = rw (e, on_ended p b (over_cap need b)) refl
   by_plan true true need (Planned.Steps s dt) some e d =
       let es : s ≡ to_unsigned 32 need = cc in
       let ed : dt ≡ rest ⊘ need = cc in
       let k = some refl in
-      paced_on p _ _ o left right diag s b rest dt fits d (λ _. rw (es, ed) refl) (λ z. absurd (omega (arith, k)))
+      paced_on p _ _ o left right diag s b rest dt d (λ _. rw (es, ed) refl) (λ z. absurd (omega (arith, k)))
   by_plan true true need (Planned.OverCap x) some e d = never (cc)
   by_plan true true need Planned.Refused some e d = never (cc)
 
-  told_less : (q : Planned) → weight (told b rest q) ≤ b
-  told_less (Planned.Steps s dt) = omega arith
+  told_less : (q : Planned) → pace_weight (told b rest q) ≤ b
+  told_less (Planned.Steps s dt) = (paced_less s b rest dt).1
   told_less (Planned.OverCap need) = omega arith
   told_less Planned.Refused = omega arith
+
+  told_sound : (q : Planned) → SoundPace (told b rest q)
+  told_sound (Planned.Steps s dt) = paced_sound s b rest dt fits
+  told_sound (Planned.OverCap need) = tt
+  told_sound Planned.Refused = tt
 
   module _ (good : Bool) (el : left ≡ tab p.n (left_at o)) (er : right ≡ tab p.n (right_at p.n o)) (eg : good ≡ every p.n (λ i. finite (at left i) && finite (at right i))) (a : Pace) where
     pub begun : good ≡ true → (q : Planned) → q ≡ plan_of p b left right rest → Scaled p diag q → a ≡ told b rest q → BegunIs p b rest o left right diag a
     unfolding begin plan_of
-    begun h q e d ea = record { stands = rw (ea, ← el, ← er, ← eg, h) (by_plan _ _ _ q (planned_some _ b) e d); less = rw ea (told_less q) }
+    begun h q e d ea = record { stands = rw (ea, ← el, ← er, ← eg, h) (by_plan _ _ _ q (planned_some _ b) e d); sound = rw ea (told_sound q); less = rw ea (told_less q) }
 
     pub not_begun : good ≡ false → a ≡ stopped_of (Outcome.Refused (by 11)) → BegunIs p b rest o left right diag a
     unfolding begin start
-    not_begun h ea = record { stands = rw (ea, ← el, ← er, ← eg, h) (failed_over p _ _ o left right diag b _ refl); less = rw ea (omega arith) }
+    not_begun h ea = record { stands = rw (ea, ← el, ← er, ← eg, h) (failed_over p _ _ o left right diag b _ refl); sound = rw ea tt; less = rw ea (omega arith) }
 
 -- ---- a step, and what follows it
 no_rebalance : (x : Float) (s : ℕ) → s ≡ 0 → rebalances x s ≡ false
 unfolding rebalances
 no_rebalance x s e = rw e refl
 
-module _ (p : Fixed) (r : Ended) (w o left right diag : List Float) (a : Pace) (q : Pace) (w' o' : List Float) (fits : a.budget ≤ cap) (d : diag ≡ tab p.n (λ i. at p.diagonal i ⊗ a.dt)) where
+module _ (p : Fixed) (r : Ended) (w o left right diag : List Float) (a : Steps) (q : Pace) (w' o' : List Float) (fits : a.budget ≤ cap) (d : diag ≡ tab p.n (λ i. at p.diagonal i ⊗ a.dt)) where
   abbrev b : ℕ
   b = a.budget - 1
 
@@ -104,12 +125,12 @@ module _ (p : Fixed) (r : Ended) (w o left right diag : List Float) (a : Pace) (
   unfolding AfterBy EndIs next rebalance
   next_by zero true e v es ez ee h k = never (cc (ez refl))
   next_by zero false e v es ez ee h k =
-      rw (h.0, h.1, h.2, es) (paced_on p r v o left right diag 0 b _ _ (omega arith) d (λ x. absurd (omega arith)) (λ _. rw (← k, on_ended) (refl, refl, refl)))
+      rw (h.0, h.1, h.2, es, ← k, on_ended) (refl, refl, refl)
   next_by (suc s) false e v es ez ee h k =
-      rw (h.0, h.1, h.2, es) (paced_on p r v o left right diag (suc s) b _ _ (omega arith) d (λ _. k) (λ x. absurd (omega arith)))
+      rw (h.0, h.1, h.2, es) (paced_on p r v o left right diag (suc s) b _ _ d (λ _. k) (λ x. absurd (omega arith)))
   next_by (suc s) true false v es ez ee h k = rw h (failed_over p r w' o' left right diag b (cap - b) (rw (← ee) at k))
   next_by (suc s) true true v es ez ee h k =
-      rw h.0 (record { within = omega arith; scaled = λ x. absurd (omega arith); goes = λ x. absurd (omega arith); asks = λ _. (h.1, rw h.2 (rw (← ee) at k)); stops = λ _ f. never (cc f) })
+      rw h.0 (omega arith, h.1, rw h.2 (rw (← ee) at k))
 
   stepped_by_lem : (good : Bool) (v : List Float) (s : Reply (List Float)) → StepIs good v s → AfterIs good p.n a (divided p.n v) o q w' o' → run_on b p (stepped p b g s) ≡ r → Standing p r w' o' left right diag q
   unfolding StepIs AfterBy stepped
@@ -133,11 +154,11 @@ calm_is n f s = go (ltb 0 s)
     go false = every_true n
 
 -- what the code does after a step: v its sum, w that divided, calm where no weight calls for rebalancing
-pub after_refused : (n : ℕ) (a : Pace) (w o : List Float) (good : Bool) (r : Pace) (w' o' : List Float) → good ≡ false → r ≡ stopped_of (Outcome.Refused (by 11)) → AfterIs good n a w o r w' o'
+pub after_refused : (n : ℕ) (a : Steps) (w o : List Float) (good : Bool) (r : Pace) (w' o' : List Float) → good ≡ false → r ≡ stopped_of (Outcome.Refused (by 11)) → AfterIs good n a w o r w' o'
 unfolding AfterBy
 after_refused n a w o good r w' o' eg e = rw eg e
 
-module _ (n : ℕ) (a : Pace) (v o : List Float) (m : Float) (w : List Float) (good calm : Bool) (r : Pace) (em : m ≡ fold larger 0ᶠ v) (ew : w ≡ tab n (λ i. at v i ⊘ m))
+module _ (n : ℕ) (a : Steps) (v o : List Float) (m : Float) (w : List Float) (good calm : Bool) (r : Pace) (em : m ≡ fold larger 0ᶠ v) (ew : w ≡ tab n (λ i. at v i ⊘ m))
     (eg : good ≡ true) (ec : calm ≡ not (rebalances (fold smaller (inf false) w) (a.steps - 1))) where
   is_divided : divided n v ≡ w
   unfolding divided
@@ -162,69 +183,33 @@ module _ (n : ℕ) (a : Pace) (v o : List Float) (m : Float) (w : List Float) (g
     after_failed t e = rw (is_divided, eg, called, ← k, ← ef, t) e
 
 -- a run that goes on takes a turn
-pub stands_on : (p : Fixed) (r : Ended) (w o left right diag : List Float) (a : Pace) (q : Pace) (w' o' : List Float) (good : Bool) (v : List Float) → 1 ≤ a.steps → 1 ≤ a.budget
-    → StepIs good v (taylor_step (operator_over p.n diag left right) (p.eta ⊗ a.dt) w) → AfterIs good p.n a (divided p.n v) o q w' o' → Standing p r w o left right diag a
+pub stands_on : (p : Fixed) (r : Ended) (w o left right diag : List Float) (a : Steps) (q : Pace) (w' o' : List Float) (good : Bool) (v : List Float) → Sound a
+    → StepIs good v (taylor_step (operator_over p.n diag left right) (p.eta ⊗ a.dt) w) → AfterIs good p.n a (divided p.n v) o q w' o' → Standing p r w o left right diag (Pace.Going a)
     → Standing p r w' o' left right diag q
 unfolding run_on
-stands_on p r w o left right diag a q w' o' good v h k t f s =
-    let z : a.budget ≡ suc (a.budget - 1) = omega arith in
-    turned p r w o left right diag a q w' o' s.within (s.scaled h) good v t f (sym (ap (λ (b : ℕ). run_on b p (going (going_over w o left right a.dt a.remaining a.steps))) z) ∙ s.goes h)
+stands_on p r w o left right diag a q w' o' good v k t f s =
+    let z : a.budget ≡ suc (a.budget - 1) = omega (arith, k.1) in
+    turned p r w o left right diag a q w' o' k.2 s.0 good v t f (sym (ap (λ (b : ℕ). run_on b p (going (going_over w o left right a.dt a.remaining a.steps))) z) ∙ s.1)
 
 -- and spends a step of the budget
-module _ (n : ℕ) (a : Pace) (w o : List Float) (r : Pace) (w' o' : List Float) (some : 1 ≤ a.budget) where
-  pub after_less : (good c e : Bool) → AfterBy good c e n a w o r w' o' → (r.budget < a.budget) × (weight r ≤ a.budget)
+module _ (n : ℕ) (a : Steps) (w o : List Float) (r : Pace) (w' o' : List Float) (k : Sound a) where
+  pub after_less : (good c e : Bool) → AfterBy good c e n a w o r w' o' → (left r < a.budget) × (pace_weight r ≤ a.budget) × SoundPace r
   unfolding AfterBy
-  after_less false c e h = rw h (omega arith, omega arith)
-  after_less true false e h = rw h.0 (omega arith, omega arith)
-  after_less true true false h = rw h (omega arith, omega arith)
-  after_less true true true h = rw h.0 (omega arith, omega arith)
-
-pub weighs : (a : Pace) → a.budget ≤ weight a
-weighs a = go a.ask
-  where
-    go : (b : Bool) → a.budget ≤ weight_by b a.budget
-    go true = omega arith
-    go false = omega arith
-
--- whether a step can be taken
-pub both_some : (x y : ℕ) → (ltb 0 x && ltb 0 y) ≡ true → (1 ≤ x) × (1 ≤ y)
-both_some x y = go (ltb 0 x) (ltb 0 y) (ltb-true 0 x) (ltb-true 0 y)
-  where
-    go : (a b : Bool) → (a ≡ true → 0 < x) → (b ≡ true → 0 < y) → (a && b) ≡ true → (1 ≤ x) × (1 ≤ y)
-    go true true f g h = (f refl, g refl)
-    go true false f g h = never (cc)
-    go false b f g h = never (cc)
-
-pub one_none : (x y : ℕ) → (ltb 0 x && ltb 0 y) ≡ false → 1 ≤ x → y ≡ 0
-one_none x y h k = let z : y ≤ 0 = ltb-false 0 y (rw (lt-ltb 0 x k) at h) in omega arith
-
--- where no plan is asked for and no step can be taken, it is over
-pub ends : (p : Fixed) (r : Ended) (w o left right diag : List Float) (a : Pace) → Standing p r w o left right diag a → a.ask ≡ false → (1 ≤ a.steps → a.budget ≡ 0) → EndIs r (end_by a.steps a.stop) w o
-unfolding run_on EndIs end_by
-ends p r w o left right diag a s f h = go a.steps (λ k. s.goes k) h (λ z. s.stops z f)
-  where
-    go : (x : ℕ) → (1 ≤ x → run_on a.budget p (going (going_over w o left right a.dt a.remaining x)) ≡ r) → (1 ≤ x → a.budget ≡ 0) → (x ≡ 0 → EndIs r a.stop w o) → EndIs r (end_by x a.stop) w o
-    go zero k h z = z refl
-    go (suc x) k h z = rw (← k (omega arith), h (omega arith)) refl
+  after_less false c e h = rw h (omega (arith, k.1), omega arith, tt)
+  after_less true false e h =
+      let l = paced_less (a.steps - 1) (a.budget - 1) (a.remaining ⊖ a.dt) a.dt in
+      rw h.0 (omega (arith, k.1, l.0), omega (arith, l.1), paced_sound (a.steps - 1) (a.budget - 1) _ _ (omega (arith, k.2)))
+  after_less true true false h = rw h (omega (arith, k.1), omega arith, tt)
+  after_less true true true h = rw h.0 (omega (arith, k.1), omega (arith, k.1), tt)
 
 -- ---- plan after plan
-pub between_first : (p : Fixed) (w o : List Float) (a : Pace) (tau : Float) → a ≡ asked_of cap tau → w ≡ fill p.n 1ᶠ → Between p (run_on cap p (begin p cap (fill p.n 1ᶠ) o tau)) w o a
-between_first p w o a tau e ew = rw e (record { within = omega arith; asks = λ _. (ew, refl); over = λ f. never (cc f) })
-
 -- a plan and its steps
-pub planned : (n : ℕ) (d : List Float) (eta : Float) (b : ℕ) (rest : Float) (w o left right diag w' o' : List Float) (q a : Pace) → w ≡ fill n 1ᶠ → BegunIs (fixed_over n d eta) b rest o left right diag q
-    → PlanSpent n eta w o left right diag q w' o' a
-    → Between (fixed_over n d eta) (run_on b (fixed_over n d eta) (begin (fixed_over n d eta) b (fill n 1ᶠ) o rest)) w' o' a × (weight a ≤ b)
-planned n d eta b rest w o left right diag w' o' q a e g t =
+pub planned : (n : ℕ) (d : List Float) (eta : Float) (b : ℕ) (rest : Float) (w o left right diag w' o' : List Float) (a : Pace) (q : Next) → w ≡ fill n 1ᶠ → BegunIs (fixed_over n d eta) b rest o left right diag a
+    → PlanSpent n eta w o left right diag a w' o' q
+    → NextIs (fixed_over n d eta) (run_on b (fixed_over n d eta) (begin (fixed_over n d eta) b (fill n 1ᶠ) o rest)) w' o' q × (weight q ≤ b)
+planned n d eta b rest w o left right diag w' o' a q e g t =
     let p = fixed_over n d eta in
-    let r = run_on b p (begin p b (fill n 1ᶠ) o rest) in
-    let s : Standing p r w' o' left right diag a = t.keeps d r (rw e g.stands) in
-    (record { within = s.within; asks = s.asks; over = λ f. ends p r w' o' left right diag a s f t.spent }, le_trans t.less g.less)
-
--- the next one, as the last asked for
-pub between_next : (p : Fixed) (r : Ended) (w o w' o' : List Float) (a q : Pace) → Between p r w o a → a.ask ≡ true
-    → Between p (run_on a.budget p (begin p a.budget (fill p.n 1ᶠ) o a.remaining)) w' o' q × (weight q ≤ a.budget) → Between p r w' o' q × (weight q < weight a)
-between_next p r w o w' o' a q s e g = (rw (s.asks e).1 at g.0, rw e (omega (arith, g.1)))
+    (t.keeps d (run_on b p (begin p b (fill n 1ᶠ) o rest)) (rw e g.stands), le_trans t.less g.less)
 
 -- ---- the whole run, and the answer that its end gives
 module _ (x : RunInput) where

@@ -2,6 +2,7 @@
 // rebalancing. Every slice has an entry for each row, or, where `half` is true, for each row up to the
 // centre: the others mirror them.
 ghost use Rattle.std.specs.Prelude.{◌≡◌, ◌+◌, ◌-◌, ◌≤◌, length, true, false, not, ◌&&◌};
+ghost use Rattle.std.specs.Bool.{then_some};
 ghost use Rattle.std.specs.Float.{inf};
 ghost use Rattle.std.specs.Float.Ieee.{lt};
 ghost use Rattle.elementary.specs.Float.{◌⊕◌, ◌⊘◌, 0ᶠ, 1ᶠ, finite, positive};
@@ -11,7 +12,7 @@ ghost use Rattle.plan.specs.Plan.{bound_ok, cap, begin};
 ghost use Rattle.vector.specs.Run.{run, run_on, divided, rebalances};
 ghost use Rattle.operator.specs.Operator.{rows};
 ghost use Rattle.vector.specs.Values.{blank_vector, vector_of, refused_vector, vector_by};
-ghost use Rattle.vector.specs.Inner.{paced_of, asked_of, stopped_of, refused_pace, end_by, told, AfterIs, PlanSpent, Between, weight, EndIs};
+ghost use Rattle.vector.specs.Inner.{paced_of, stopped_of, refused_pace, told, Sound, SoundPace, AfterIs, PlanSpent, NextIs, weight, EndIs};
 ghost use Rattle.series.specs.Slices.{Sizes, Fit};
 ghost use Rattle.series.specs.Half.{filled_out, full_size, full_factors, full, Centred};
 ghost use Rattle.vector.specs.Half.{full_fixed, RowsStand};
@@ -21,59 +22,54 @@ use crate::{MAX_DIM, MAX_EXPM_STEPS, Outcome, RunInput, ValueVector, VectorAnswe
 use elementary::Refusal;
 use plan::Planned;
 
-// Where a run stands: the steps planned, the budget left, the time left and the time of a step;
-// whether it asks for a plan; and how it ends where no steps are planned.
+// The steps of a plan that are still to make, with budget left for at least one; the time left, and the
+// time of a step.
 #[derive(Clone, Copy)]
-pub(crate) struct Pace {
+pub(crate) struct Steps {
     pub(crate) steps: u32,
     pub(crate) budget: u32,
     pub(crate) remaining: f64,
     pub(crate) dt: f64,
-    pub(crate) ask: bool,
-    pub(crate) stop: Outcome,
 }
 
-// The steps of a plan; with none left the run is done.
+// What follows the steps of a plan: another plan, with the budget and the time left, or the end.
+#[derive(Clone, Copy)]
+pub(crate) enum Next {
+    Plan(u32, f64),
+    Over(Outcome),
+}
+
+// Where a run stands: it goes on with steps of a plan, or they are behind it.
+#[derive(Clone, Copy)]
+pub(crate) enum Pace {
+    Going(Steps),
+    Behind(Next),
+}
+
+// The steps of a plan; with none left the run is done, and with no budget left it is refused.
 fn paced(steps: u32, budget: u32, remaining: f64, dt: f64) -> Pace
     requires { budget ≤ cap }
     ensures { result ≡ paced_of steps budget remaining dt }
 {
-    Pace {
+    if steps == 0 {
+        return stopped(Outcome::Done(MAX_EXPM_STEPS - budget));
+    }
+    if budget == 0 {
+        return refused();
+    }
+    Pace::Going(Steps {
         steps,
         budget,
         remaining,
         dt,
-        ask: false,
-        stop: Outcome::Done(MAX_EXPM_STEPS - budget),
-    }
-}
-
-// A run that asks for a plan.
-fn asking(budget: u32, remaining: f64) -> Pace
-    ensures { result ≡ asked_of budget remaining }
-{
-    Pace {
-        steps: 0,
-        budget,
-        remaining,
-        dt: 0.0,
-        ask: true,
-        stop: Outcome::Refused(NUMERICAL),
-    }
+    })
 }
 
 // A run that is over.
 fn stopped(stop: Outcome) -> Pace
     ensures { result ≡ stopped_of stop }
 {
-    Pace {
-        steps: 0,
-        budget: 0,
-        remaining: 0.0,
-        dt: 0.0,
-        ask: false,
-        stop,
-    }
+    Pace::Behind(Next::Over(stop))
 }
 
 fn refused() -> Pace
@@ -102,40 +98,18 @@ fn pace_of(plan: Planned, budget: u32, rest: f64) -> Pace
     }
 }
 
-// How a run ends: with steps planned, its budget is spent.
-fn end_of(pace: Pace) -> Outcome
-    ensures { result ≡ end_by pace.steps pace.stop }
+// The largest weight, where all are above zero and it is finite, as then all are.
+fn top_of(weight: f64, above: bool) -> Option<f64>
+    ensures { result ≡ then_some (above && finite weight) weight }
 {
-    let steps = pace.steps;
-    let stop = pace.stop;
-    if 0 < steps {
-        return Outcome::Refused(NUMERICAL);
-    }
-    stop
+    (above & elementary::is_finite(weight)).then_some(weight)
 }
 
-// The largest weight, from 0.0, and whether every weight is finite and positive.
-#[derive(Clone, Copy)]
-struct Top {
-    weight: f64,
-    positive: bool,
-}
-
-// The largest weight, and whether all are positive, which those above zero are where it is finite.
-fn top_of(weight: f64, above: bool) -> Top
-    ensures { (result.weight ≡ weight) × (result.positive ≡ (above && finite weight)) }
-{
-    Top {
-        weight,
-        positive: above & elementary::is_finite(weight),
-    }
-}
-
-// Both in one pass, by the even and the odd places apart: neither waits for the other.
-fn largest(w: &[f64]) -> Top
+// The largest weight, where all are finite and positive. In one pass, by the even and the odd places
+// apart: neither waits for the other.
+fn largest(w: &[f64]) -> Option<f64>
     requires { Fit w.now }
-    ensures weight_value { result.weight ≡ fold larger 0ᶠ w.now }
-    ensures positive_value { result.positive ≡ every (length w.now) (λ i. positive (at w.now i)) }
+    ensures { result ≡ then_some (every (length w.now) (λ i. positive (at w.now i))) (fold larger 0ᶠ w.now) }
 {
     let mut even = 0.0;
     let mut odd = 0.0;
@@ -190,23 +164,24 @@ fn rebalance(w: &mut [f64], o: &mut [f64]) -> bool
 }
 
 // After a Taylor step that has settled or not: the next of the plan, or a plan to ask for, or the end.
-fn after_step(w: &mut [f64], o: &mut [f64], pace: Pace, settled: bool) -> Pace
-    requires { Fit w.old × (length o.old ≡ length w.old) × (1 ≤ pace.steps) × (1 ≤ pace.budget) × (pace.budget ≤ cap) }
-    ensures { AfterIs (settled && every (length w.old) (λ i. positive (at w.old i))) (length w.old) pace (divided (length w.old) w.old) o.old result w.new o.new }
+fn after_step(w: &mut [f64], o: &mut [f64], going: Steps, settled: bool) -> Pace
+    requires { Fit w.old × (length o.old ≡ length w.old) × Sound going }
+    ensures { AfterIs (settled && every (length w.old) (λ i. positive (at w.old i))) (length w.old) going (divided (length w.old) w.old) o.old result w.new o.new }
 {
-    let top = largest(w);
-    let good = settled & top.positive;
-    if !good {
+    if !settled {
         return refused();
     }
-    let steps = pace.steps - 1;
-    let budget = pace.budget - 1;
-    let remaining = pace.remaining - pace.dt;
-    if divide(w, top.weight, steps) {
-        return paced(steps, budget, remaining, pace.dt);
+    let Some(max) = largest(w) else {
+        return refused();
+    };
+    let steps = going.steps - 1;
+    let budget = going.budget - 1;
+    let remaining = going.remaining - going.dt;
+    if divide(w, max, steps) {
+        return paced(steps, budget, remaining, going.dt);
     }
     if rebalance(w, o) {
-        return asking(budget, remaining);
+        return Pace::Behind(Next::Plan(budget, remaining));
     }
     refused()
 }
@@ -223,8 +198,8 @@ fn plan_steps(
     eta: f64,
     first: Pace,
     half: bool,
-) -> Pace
-    requires start { (2 ≤ length w.old) × (length o.old ≡ length w.old) × (first.budget ≤ cap) × Centred half (length w.old) left.now right.now }
+) -> Next
+    requires start { (2 ≤ length w.old) × (length o.old ≡ length w.old) × SoundPace first × Centred half (length w.old) left.now right.now }
     requires sizes { Sizes (length w.old) diag.now left.now right.now term.old }
     ensures { PlanSpent (full_size half (length w.old)) eta (full half (length w.old) w.old) (full half (length w.old) o.old)
         (full_factors half (length w.old) left.now right.now) (full_factors half (length w.old) right.now left.now) (full half (length w.old) diag.now)
@@ -232,12 +207,16 @@ fn plan_steps(
 {
     let plain = operator::all_ones(left, right);
     let mut pace = first;
-    while (0 < pace.steps) & (0 < pace.budget) {
-        let eta_dt = eta * pace.dt;
-        let settled = series::taylor_step(w, diag, eta_dt, left, right, half, plain, term);
-        pace = after_step(w, o, pace, settled);
+    loop {
+        match pace {
+            Pace::Going(going) => {
+                let eta_dt = eta * going.dt;
+                let settled = series::taylor_step(w, diag, eta_dt, left, right, half, plain, term);
+                pace = after_step(w, o, going, settled);
+            }
+            Pace::Behind(next) => return next,
+        }
     }
-    pace
 }
 
 // What stays through a run: the diagonal a second, by its rows, and eta.
@@ -250,10 +229,10 @@ struct Fixed<'a> {
 
 // A plan for the rest of the time, from weights of 1.0, and its steps, with room for what they work
 // on.
-fn run_plan(w: &mut [f64], o: &mut [f64], fixed: Fixed<'_>, rest: f64, budget: u32) -> Pace
+fn run_plan(w: &mut [f64], o: &mut [f64], fixed: Fixed<'_>, rest: f64, budget: u32) -> Next
     requires { let n = length fixed.diag_s.now in (2 ≤ n) × (n ≤ 401) × (length w.old ≡ n) × (length o.old ≡ n) × (budget ≤ cap) × (full fixed.half n w.old ≡ fill (full_size fixed.half n) 1ᶠ) }
     ensures { let f = fixed.entry in let n = length f.diag_s.now in let p = full_fixed f.half n f.diag_s.now f.eta in
-        Between p (run_on budget p (begin p budget (fill (full_size f.half n) 1ᶠ) (full f.half n o.old) rest))
+        NextIs p (run_on budget p (begin p budget (fill (full_size f.half n) 1ᶠ) (full f.half n o.old) rest))
         (full f.half n w.new) (full f.half n o.new) result × (weight result ≤ budget) }
 {
     let n = fixed.diag_s.len();
@@ -293,11 +272,13 @@ fn run_plans(w: &mut [f64], o: &mut [f64], fixed: Fixed<'_>, tau: f64) -> Outcom
         EndIs (run_on cap p (begin p cap (fill (full_size f.half n) 1ᶠ) (full f.half n o.old) tau))
         result (full f.half n w.new) (full f.half n o.new) }
 {
-    let mut pace = asking(MAX_EXPM_STEPS, tau);
-    while pace.ask {
-        pace = run_plan(w, o, fixed, pace.remaining, pace.budget);
+    let mut next = Next::Plan(MAX_EXPM_STEPS, tau);
+    loop {
+        match next {
+            Next::Plan(budget, rest) => next = run_plan(w, o, fixed, rest, budget),
+            Next::Over(outcome) => return outcome,
+        }
     }
-    end_of(pace)
 }
 
 // A vector of no entries: every place is 0.0.

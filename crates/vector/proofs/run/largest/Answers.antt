@@ -1,4 +1,4 @@
-use mathlib.Core.Path.{◌≡◌, refl, sym, ap, ap₂, ◌∙◌}
+use mathlib.Core.Path.{◌≡◌, refl, sym, ap, ◌∙◌}
 use Prim.Native.Nat.{ℕ, ◌+◌, ◌*◌, ◌-◌}
 use native.Mathlib.Omega.{arith}
 use mathlib.Core.Bool.{Bool, true, false, ◌&&◌}
@@ -6,6 +6,7 @@ use mathlib.Core.List.{List}
 use lib.ListN.{length, take}
 use lib.Seq.{take_all}
 use lib.Ieee.{Float, binary64, lt}
+use Rattle.std.specs.Bool.{then_some}
 use Rattle.elementary.specs.Float.{0ᶠ, finite, positive}
 use Rattle.operator.specs.Vectors.{at, every, fold, larger}
 use Rattle.series.specs.Slices.{Fit}
@@ -21,11 +22,11 @@ two-more true false true y = refl
 two-more true false false y = refl
 two-more false b x y = refl
 
--- every weight is positive just where all are above zero and the largest is finite
-all_positive : (w : List Float) → Fit w → (m : Float) (t p : Bool) → m ≡ fold larger 0ᶠ w → t ≡ every (length w) (λ i. lt 0ᶠ (at w i)) → p ≡ (t && finite m)
-    → p ≡ every (length w) (λ i. positive (at w i))
-all_positive w f m t p em et ep =
-    ep ∙ ap₂ (λ (a : Bool) (x : Float). a && finite x) et (em ∙ ap (fold larger 0ᶠ) (tab_own (length w) w refl)) ∙ positive_all (at w) f (length w)
+-- the largest is finite, and all are above zero, just where every weight is positive
+top_is : (w : List Float) → Fit w → (m : Float) (t : Bool) → m ≡ fold larger 0ᶠ w → t ≡ every (length w) (λ i. lt 0ᶠ (at w i))
+    → then_some (t && finite m) m ≡ then_some (every (length w) (λ i. positive (at w i))) (fold larger 0ᶠ w)
+top_is w f m t em et =
+    rw (em, et) (ap (λ (b : Bool). then_some b (fold larger 0ᶠ w)) (ap (λ (l : List Float). every (length w) (λ i. lt 0ᶠ (at w i)) && finite (fold larger 0ᶠ l)) (tab_own (length w) w refl) ∙ positive_all (at w) f (length w)))
 
 pub loop-k-init : goal.loop-k-init
 unfolding fold
@@ -64,7 +65,7 @@ returns-then-w-eq1 c =
     c.larger_of.ensures ∙ rw (both, last) (sym (fold_take larger 0ᶠ w k (omega arith)) ∙ ap (fold larger 0ᶠ) (take_all (k + 1) w (omega arith))) in
     let flags : ((c.loop-k.first && c.loop-k.second) && lt 0ᶠ (at w (length w - 1))) ≡ every (length w) (λ j. lt 0ᶠ (at w j)) =
     rw last (ap (λ (b : Bool). b && lt 0ᶠ (at w k)) c.loop-k.invariant.3 ∙ every_suc k (λ j. lt 0ᶠ (at w j)) ∙ every_at (k + 1) (length w) (λ j. lt 0ᶠ (at w j)) (omega arith)) in
-    record { weight_value = c.top_of.ensures.0 ∙ max; positive_value = all_positive w c.requires _ _ _ max flags c.top_of.ensures.1 }
+    c.top_of.ensures ∙ top_is w c.requires _ _ max flags
 
 pub returns : goal.returns
 returns c =
@@ -72,4 +73,4 @@ returns c =
     let k = 2 * c.loop-k.k in
     let max : c.larger_of-both.result ≡ fold larger 0ᶠ w = c.larger_of-both.ensures ∙ c.loop-k.invariant.2 ∙ ap (fold larger 0ᶠ) (take_all k w (omega arith)) in
     let flags : (c.loop-k.first && c.loop-k.second) ≡ every (length w) (λ j. lt 0ᶠ (at w j)) = c.loop-k.invariant.3 ∙ every_at k (length w) (λ j. lt 0ᶠ (at w j)) (omega arith) in
-    record { weight_value = c.top_of-2.ensures.0 ∙ max; positive_value = all_positive w c.requires _ _ _ max flags c.top_of-2.ensures.1 }
+    c.top_of-2.ensures ∙ top_is w c.requires _ _ max flags

@@ -4,8 +4,9 @@ use mathlib.Core.List.{List}
 use Prim.Native.Nat.{ℕ, ◌≤◌}
 use lib.ListN.{length}
 use lib.Ieee.{Float}
-use Rattle.plan.specs.Plan.{Ended, cap, fixed_over}
-use Rattle.vector.specs.Inner.{Standing, weight}
+use Rattle.plan.specs.Plan.{Ended, fixed_over}
+use Rattle.vector.specs.Inner.{SoundPace, Standing, pace_weight}
+use Rattle.vector.proofs.RunLaws.{left}
 use Rattle.series.specs.Half.{full_size, full_factors, full}
 use Rattle.vector.specs.declared.run.Pace.{Pace}
 use Rattle.vector.proofs.run.plan_steps.Given as goal
@@ -17,8 +18,8 @@ stands half n eta left right diag d r w o a =
 
 abbrev pub invariant-loop-pace : goal.invariant-loop-pace
 invariant-loop-pace l =
-    (length l.w ≡ length l.initial.w) × (length l.o ≡ length l.initial.o) × (length l.term ≡ length l.initial.term) × (l.pace.budget ≤ cap) × (weight l.pace ≤ weight l.initial.pace)
+    (length l.w ≡ length l.initial.w) × (length l.o ≡ length l.initial.o) × (length l.term ≡ length l.initial.term) × SoundPace l.pace × (pace_weight l.pace ≤ pace_weight l.initial.pace)
     × ((d : List Float) (r : Ended) → stands l.half (length l.initial.w) l.eta l.left l.right l.diag d r l.initial.w l.initial.o l.initial.pace → stands l.half (length l.initial.w) l.eta l.left l.right l.diag d r l.w l.o l.pace)
 
 abbrev pub decreases-loop-pace : goal.decreases-loop-pace
-decreases-loop-pace l = l.pace.budget
+decreases-loop-pace l = left l.pace

@@ -34,7 +34,7 @@ plan_steps-requires c =
     centred_slices _ _ _ _ _ _ _ _ _ _ p.0 p.4 p.3 refl l.1 l.2 l.0 _ _ _ _ s.left_after s.right_after s.diag_after s.value in
     let p = c.requires in
     rw p.2 (record {
-      start = (p.0, p.3, (begun _ c.pace_of-first.ensures).stands.within, rw (left_is, right_is) centred);
+      start = (p.0, p.3, (begun _ c.pace_of-first.ensures).sound, rw (left_is, right_is) centred);
       sizes = record {
         diag_n = ap length diag-is ∙ diag-back;
         left_n = ap length left_is ∙ left_back;

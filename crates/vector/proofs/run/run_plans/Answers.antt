@@ -2,21 +2,26 @@
 use mathlib.Core.Path.{refl, ap, ◌∙◌}
 use lib.ListN.{length}
 use native.Mathlib.Omega.{arith}
+use native.Mathlib.Nat.{le_refl}
 use Rattle.elementary.specs.Float.{1ᶠ}
+use Rattle.plan.specs.Plan.{cap}
 use Rattle.series.specs.Half.{full}
 use Rattle.series.proofs.Full.{full_fill}
-use Rattle.vector.proofs.RunLaws.{between_first, between_next}
 use Rattle.vector.proofs.run.run_plans.Goals as goal
 
-pub loop-pace-init : goal.loop-pace-init
-loop-pace-init c =
-    (refl, refl, between_first _ _ _ _ _ c.asking-pace.ensures (ap (full c.args.fixed.half (length c.args.fixed.diag_s.now)) c.requires.2 ∙ full_fill c.args.fixed.half (length c.args.fixed.diag_s.now) (omega (arith, c.requires.0)) 1ᶠ))
+pub loop-next-init : goal.loop-next-init
+loop-next-init c =
+    let f = c.args.fixed in
+    (refl, refl, (le_refl cap, ap (full f.half (length f.diag_s.now)) c.requires.2 ∙ full_fill f.half (length f.diag_s.now) (omega (arith, c.requires.0)) 1ᶠ, refl))
 
-pub loop-pace-preserved : goal.loop-pace-preserved
-loop-pace-preserved c =
-    let i = c.loop-pace.invariant in
-    let t = c.run_plan-pace in
-    (t.auto.w ∙ i.0, t.auto.o ∙ i.1, (between_next _ _ _ _ _ _ c.loop-pace.pace _ i.2 c.loop-pace-test.true t.ensures).0)
+pub loop-next-smaller : goal.loop-next-smaller
+loop-next-smaller c = rw c.in-Plan.is (omega (arith, c.run_plan-next.ensures.1))
 
-pub returns : goal.returns
-returns c = rw c.end_of.ensures (c.loop-pace.invariant.2.over c.loop-pace-test.false)
+pub loop-next-preserved : goal.loop-next-preserved
+loop-next-preserved c =
+    let i = c.loop-next.invariant in
+    let t = c.run_plan-next in
+    (t.auto.w ∙ i.0, t.auto.o ∙ i.1, rw (rw c.in-Plan.is at i.2).2 at t.ensures.0)
+
+pub returns-in-Over : goal.returns-in-Over
+returns-in-Over c = rw c.in-Over.is at c.loop-next.invariant.2
