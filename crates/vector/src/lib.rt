@@ -1,7 +1,6 @@
 // The float layer: the run that gives the value vector.
 #![tactic(auto)]
 
-mod reals;
 pub mod refusals;
 mod run;
 

@@ -157,7 +157,7 @@ fn rebalance(w: &mut [f64], o: &mut [f64]) -> bool
     for i in 0..w.len() {
         let x = w[i];
         all = all & elementary::is_positive_finite(x);
-        o[i] = o[i] + crate::reals::ln_or_nan(x);
+        o[i] = o[i] + elementary::or_nan(elementary::ln(x));
         w[i] = 1.0;
     }
     all

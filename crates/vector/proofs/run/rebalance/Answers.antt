@@ -19,7 +19,7 @@ loop-i-preserved c =
     let w-old : at c.loop-i.w i ≡ at x.w.now i = ap (λ (l : List Float). at l i) inv.0 ∙ at_filled _ _ i i (le_refl i) in
     let o-old : at c.loop-i.o i ≡ at x.o.now i = ap (λ (l : List Float). at l i) inv.1 ∙ at_filled _ _ i i (le_refl i) in (
       stored _ _ _ i _ (omega arith) inv.0 refl,
-      stored _ _ _ i _ (omega arith) inv.1 (rw (c.ln_or_nan.ensures, w-old, o-old)),
+      stored _ _ _ i _ (omega arith) inv.1 (rw (c.or_nan.ensures, c.ln.ensures, w-old, o-old)),
       rw (inv.2, c.is_positive_finite-all.ensures, w-old) (every_suc i _),
     )
 
