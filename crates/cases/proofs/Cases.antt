@@ -3,7 +3,7 @@ use mathlib.Core.Path.{refl}
 use lib.Ieee.{sub, mul, div, le, of_int, of_bits, to_signed, to_unsigned}
 use Rattle.elementary.specs.Float.{finite, positive, count}
 use Rattle.elementary.specs.Reply.{given}
-use Rattle.elementary.specs.Checks.{verdict, first_of, first_failing, by}
+use Rattle.elementary.specs.Checks.{verdict, first_of, first_failing}
 use Rattle.elementary.specs.Elementary.{horner, mantissa, exponent, odds, ln_sum, ln_series, ln_join, ln_parts, ln_halved, ln_of, LN, ln1p_of, LN1P, factorials, exp_sum, exp_n, exp_rest, exp_by, exp_of, EXP, ceil_of, CEIL, or_nan}
 use Rattle.operator.specs.Vectors.{from, every_from, fold, larger, abs}
 use Rattle.operator.specs.Operator.{diagonal_at, left_at, right_at}

@@ -9,7 +9,6 @@ use Rattle.plan.specs.declared.RunInput.{RunInput}
 use Rattle.distances.specs.FloatEntry.{float_entry}
 use Rattle.vector.specs.declared.ValueVector.{ValueVector}
 use Rattle.distances.specs.declared.Answer.{Answer}
-use Rattle.distances.specs.declared.Answer.TheVariants as Answer
 use Rattle.distances.specs.declared.FloatAnswer.{FloatAnswer}
 use Rattle.model.specs.Model.{new_model, input_of}
 use Rattle.amounts.specs.Amounts.{tau_of, billion}
@@ -17,7 +16,6 @@ use Rattle.model.specs.Configuration.{new_config}
 use Rattle.quote.specs.Quotes.{exact_quotes, optimal_quotes, closed_form_quotes}
 use Rattle.model.specs.declared.GLFTConfig.{GLFTConfig}
 use Rattle.quote.specs.declared.ExactQuotes.{ExactQuotes}
-use Rattle.quote.specs.declared.ExactQuotes.TheVariants as ExactQuotes
 use Rattle.elementary.specs.declared.Refusal.{Refusal}
 use Rattle.prices.specs.declared.GlftQuotes.{GlftQuotes}
 use Rattle.model.specs.declared.Model.{Model}

@@ -6,7 +6,7 @@ use native.Mathlib.Omega.{arith}
 use mathlib.Core.Bool.{Bool, true, false, ◌&&◌, and-eq-true_iff}
 use lib.IntN.{ℤ}
 use lib.Ieee.{Float}
-use Rattle.elementary.specs.Checks.{Verdict, passes, refused, first_failing, by}
+use Rattle.elementary.specs.Checks.{Verdict, passes, refused, first_failing}
 use Rattle.vector.specs.Run.{run}
 use Rattle.plan.specs.declared.RunInput.{RunInput}
 use Rattle.vector.specs.declared.ValueVector.{ValueVector}

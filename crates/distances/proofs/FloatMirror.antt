@@ -10,7 +10,7 @@ use lib.IntN.{ℤ, pos, negsuc, neg_ℤ, nat_abs}
 use lib.Dec.{ltb}
 use lib.ListN.{length, get_or-append}
 use lib.Ieee.{Float, nan}
-use Rattle.elementary.specs.Checks.{Verdict, passes, refused, first_failing, by}
+use Rattle.elementary.specs.Checks.{Verdict, passes, refused, first_failing}
 use Rattle.elementary.proofs.Signs.{finite_neg}
 use Rattle.operator.specs.Vectors.{at, Mirror}
 use Rattle.vector.specs.Run.{Ended, vector, over_cap, failed, bound_ok, run, spent}

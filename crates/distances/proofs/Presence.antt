@@ -10,7 +10,7 @@ use borrow.Author.Tests.{ltb-false, leb-true, le-ltb}
 use lib.IntN.{ℤ, pos, neg_ℤ, nat_abs, ◌+ℤ◌, ◌-ℤ◌, +ℤ_invl, +ℤ-neg_ℤ_cancel}
 use lib.Dec.{ltb}
 use lib.Ieee.{Float}
-use Rattle.elementary.specs.Checks.{Verdict, passes, refused, first_failing, by}
+use Rattle.elementary.specs.Checks.{Verdict, passes, refused, first_failing}
 use Rattle.vector.specs.Run.{Ended, vector, over_cap, failed, run}
 use Rattle.operator.specs.Operator.{rows}
 use Rattle.vector.specs.Values.{vector_of}

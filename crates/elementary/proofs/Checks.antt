@@ -1,6 +1,6 @@
 -- The first check that fails is the one that refuses. Assumes nothing.
 use Rattle.std.specs.Prelude.{Result, Ok, Err}
-use Rattle.std.proofs.Common.{◌≡◌, ℕ, Bool, true, false, List, [], ◌∷◌, refl, sym, ap, arith}
+use Rattle.std.proofs.Common.{◌≡◌, ℕ, Bool, true, false, List, [], ◌∷◌, refl, ap, arith}
 use Rattle.elementary.specs.declared.Refusal.{Refusal}
 use Rattle.elementary.specs.Checks.{Verdict, passes, refused, verdict, first_of, first_failing, check_of, Refuses, here, later, FirstFailing, Passes, none, each, NoneFailing, FailingJoined, by}
 

@@ -10,13 +10,11 @@ use lib.Ieee.{Float, binary64, to_bits}
 use Rattle.quote.specs.Replies.{PriceKept, ReplyKept}
 use Rattle.prices.specs.declared.GlftQuotes.{GlftQuotes}
 use Rattle.quote.specs.declared.ExactQuotes.{ExactQuotes}
-use Rattle.quote.specs.declared.ExactQuotes.TheVariants as ExactQuotes
 use Rattle.lines.specs.Lines.{digits, count, price, signed, side, hex, joined, quotes_line, cap_line, refusal_line, answer_line, plan_line, least_room}
 use Rattle.lines.specs.Promises.{PriceHeld, AnswerHeld, PlanHeld, AnswersFit, PlansFit}
 use Rattle.lines.specs.Inner.{most_side}
 use Rattle.plan.specs.declared.FirstPlan.TheVariants as FirstPlan
 use Rattle.lines.proofs.Digits.{places_most, length_digits, length_count}
-use Rattle.elementary.specs.Checks.{by}
 
 -- ---- fields
 pub length_price : (n : ℕ) → length (price n) ≡ length (count (n / 1_000_000_000)) + 10

@@ -5,9 +5,7 @@ use Rattle.std.specs.Float.Ieee.{to_bits}
 use Rattle.amounts.specs.Amounts.{billion}
 use Rattle.prices.specs.declared.GlftQuotes.{GlftQuotes}
 use Rattle.quote.specs.declared.ExactQuotes.{ExactQuotes}
-use Rattle.quote.specs.declared.ExactQuotes.TheVariants as ExactQuotes
 use Rattle.plan.specs.declared.FirstPlan.{FirstPlan}
-use Rattle.plan.specs.declared.FirstPlan.TheVariants as FirstPlan
 use Rattle.buffers.specs.Over.{over}
 use Rattle.lines.specs.Refusals.{small_buffer}
 use Rattle.elementary.specs.declared.Refusal.{Refusal}

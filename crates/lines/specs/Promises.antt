@@ -1,9 +1,7 @@
 -- How long a line is, and when none is written, as named statements. Each is proved once, in proofs/. Definitions only.
 use Rattle.std.specs.Prelude.{◌≡◌, ◌↔◌, ℕ, ◌^◌, ◌<◌, ◌≤◌, List, nat_abs, length, Option, Some, None, Err, ℤ}
 use Rattle.plan.specs.declared.FirstPlan.{FirstPlan}
-use Rattle.plan.specs.declared.FirstPlan.TheVariants as FirstPlan
 use Rattle.quote.specs.declared.ExactQuotes.{ExactQuotes}
-use Rattle.quote.specs.declared.ExactQuotes.TheVariants as ExactQuotes
 use Rattle.lines.specs.Refusals.{small_buffer}
 use Rattle.lines.specs.Lines.{answer_line, plan_line, least_room, line_for, wrote, text_left}
 use Rattle.elementary.specs.Checks.{by}

@@ -14,12 +14,11 @@ use lib.Dec.{T, leb, ltb→lt}
 use lib.Ieee.{Float}
 use lib.Ieee.Bits.{is_true}
 use Rattle.elementary.specs.Elementary.{outside}
-use Rattle.elementary.specs.Checks.{verdict, first_of, first_failing, Passes, none, each, by}
+use Rattle.elementary.specs.Checks.{verdict, first_of, first_failing, Passes, none, each}
 use Rattle.elementary.proofs.Checks.{none_failing, check_passes}
 use Rattle.vector.specs.Values.{refused_vector, value_vector}
 use Rattle.vector.specs.declared.ValueVector.{ValueVector}
 use Rattle.vector.specs.declared.Outcome.{Outcome}
-use Rattle.vector.specs.declared.Outcome.TheVariants as Outcome
 use Rattle.vector.specs.declared.VectorAnswer.{VectorAnswer}
 use Rattle.distances.specs.FloatEntry.{float_entry}
 use Rattle.distances.specs.Reading.{read_by, answer_from}

@@ -15,7 +15,6 @@ use Rattle.elementary.proofs.Checks.{first_failing_lem, none_failing, check_refu
 use Rattle.vector.specs.Refusals.{configuration}
 use Rattle.vector.specs.declared.ValueVector.{ValueVector}
 use Rattle.vector.specs.declared.Outcome.{Outcome}
-use Rattle.vector.specs.declared.Outcome.TheVariants as Outcome
 use Rattle.distances.specs.Refusals.{holding}
 use Rattle.distances.specs.Distances.{exact_distances}
 use Rattle.distances.specs.Reading.{sides_with, read_by, answer_from}

@@ -6,7 +6,6 @@ use Rattle.elementary.specs.Checks.{Verdict, passes, refused, first_failing, Ref
 use Rattle.vector.specs.Refusals.{configuration}
 use Rattle.vector.specs.Values.{refused_vector, value_vector}
 use Rattle.vector.specs.declared.Outcome.{Outcome}
-use Rattle.vector.specs.declared.Outcome.TheVariants as Outcome
 use Rattle.vector.specs.declared.VectorAnswer.{VectorAnswer}
 use Rattle.distances.specs.Promises.{exchanged}
 use Rattle.distances.specs.declared.Answer.TheVariants as Answer
@@ -24,7 +23,6 @@ use Rattle.model.specs.declared.GLFTConfig.{GLFTConfig}
 use Rattle.model.specs.declared.Model.{Model}
 use Rattle.prices.specs.declared.GlftQuotes.{GlftQuotes}
 use Rattle.quote.specs.declared.ExactQuotes.{ExactQuotes}
-use Rattle.quote.specs.declared.ExactQuotes.TheVariants as ExactQuotes
 use Rattle.lots.specs.declared.Reckoning.{Reckoning}
 
 -- ---- the reckoning

@@ -1,5 +1,5 @@
 -- A check's verdict, as the code says it, and the first of two. Definitions only.
-use Rattle.std.specs.Prelude.{ℕ, Bool, Result, Ok, Err}
+use Rattle.std.specs.Prelude.{Bool, Result, Ok, Err}
 use Rattle.elementary.specs.Checks.{Verdict, passes, refused, verdict, first_of, check_of}
 use Rattle.elementary.specs.declared.Refusal.{Refusal}
 

@@ -1,6 +1,6 @@
 -- Prices of two distances and of the same two exchanged: those that face each other add up to twice the mid, widened or not. Assumes nothing.
 use Rattle.std.specs.Prelude.{Option, Some, None, Ok, Float}
-use mathlib.Core.Path.{◌≡◌, refl, sym}
+use mathlib.Core.Path.{◌≡◌, refl}
 use native.Mathlib.Omega.{arith}
 use Prim.Native.Nat.{ℕ}
 use mathlib.Core.Bool.{Bool, true, false, ◌&&◌}
@@ -11,7 +11,7 @@ use Rattle.distances.specs.Distances.{fine}
 use Rattle.amounts.specs.Amounts.{amount_ok}
 use Rattle.amounts.proofs.Signed.{around}
 use Rattle.prices.specs.Prices.{each, side, rounded_if, rounded, widening, bid_price, ask_price, widened, judge_if, judge, quotes_by, build_quotes}
-use Rattle.prices.specs.Facing.{Facing, Pair, BuiltFacing}
+use Rattle.prices.specs.Facing.{Facing, BuiltFacing}
 use Rattle.prices.specs.declared.GlftQuotes.{GlftQuotes}
 use Rattle.elementary.proofs.Results.{ok_pair}
 

@@ -7,9 +7,7 @@ use native.Mathlib.Omega.{arith}
 use mathlib.Core.Bool.{Bool, true, false, ◌&&◌}
 use lib.IntN.{ℤ}
 use Rattle.distances.specs.Distances.{fine}
-use Rattle.amounts.specs.Refusals.{beyond}
 use Rattle.amounts.specs.Amounts.{amount_ok, above0}
-use Rattle.prices.specs.Refusals.{crossed}
 use Rattle.prices.specs.Prices as Prices
 use Rattle.prices.specs.Prices.{each, side, rounded_if, rounded, widened, widen_if, widen, price_sides, in_order, judge_if, judge, quotes_by, build_quotes}
 use Rattle.prices.specs.Refusing.{RoundingRefused, rounded_11, rounded_13, RoundingRefusals, SidesRefused, sides_2, sides_13, WideningRefusals, PricingRefusals, JudgedRefused, judged_13, judged_14, JudgedRefusals, Within, Ordered, Priced, by_13, by_14, PricesRefused}

@@ -9,12 +9,10 @@ use Rattle.plan.specs.Plan.{bound_ok, diagonal_finite, fixed}
 use Rattle.plan.specs.Count.{first_size, FirstIs, no_time, not_finite, fails, over, kept, FirstGoes}
 use Rattle.plan.specs.declared.RunInput.{RunInput}
 use Rattle.plan.specs.declared.FirstPlan.{FirstPlan}
-use Rattle.plan.specs.declared.FirstPlan.TheVariants as FirstPlan
 use Rattle.distances.specs.Distances.{within}
 use Rattle.distances.specs.FloatEntry.{floats_ok}
 use Rattle.distances.specs.Count.{step_count, CountIs, at_5, at_1, at_4, counted}
 use Rattle.distances.specs.declared.Answer.{Answer}
-use Rattle.distances.specs.declared.Answer.TheVariants as Answer
 use Rattle.distances.proofs.Refusing.{never}
 use Rattle.distances.proofs.Count.{step_counts, count_is_first_plan}
 use Rattle.amounts.specs.Amounts.{tau_of}

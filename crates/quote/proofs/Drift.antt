@@ -4,12 +4,10 @@ use Rattle.std.proofs.Common.{◌≡◌, ℕ, Bool, true, false, ◌&&◌, T, �
 use mathlib.Core.Bool.{and-true}
 use lib.Ieee.{Float, binary64, eq}
 use Rattle.elementary.specs.Float.{0ᶠ, finite, positive}
-use Rattle.elementary.specs.Checks.{verdict, first_of, first_failing, by}
+use Rattle.elementary.specs.Checks.{verdict, first_of, first_failing}
 use Rattle.elementary.proofs.Zeros.{Zero, zero_equal, zero_finite}
 use Rattle.plan.specs.declared.FirstPlan.{FirstPlan}
-use Rattle.plan.specs.declared.FirstPlan.TheVariants as FirstPlan
 use Rattle.distances.specs.declared.Answer.{Answer}
-use Rattle.distances.specs.declared.Answer.TheVariants as Answer
 use Rattle.distances.specs.declared.FloatAnswer.{FloatAnswer}
 use Rattle.distances.proofs.Drift.{drift_zero_entry}
 use Rattle.amounts.specs.Amounts.{amount_ok, tau_of}

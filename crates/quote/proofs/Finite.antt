@@ -5,15 +5,13 @@ use lib.Ieee.{Float}
 use Rattle.elementary.specs.Float.{positive}
 use Rattle.distances.specs.Promises.{Finite}
 use Rattle.distances.specs.declared.Answer.{Answer}
-use Rattle.distances.specs.declared.Answer.TheVariants as Answer
 use Rattle.distances.proofs.Finite.{sides_fine, finite_distances}
-use Rattle.amounts.specs.Amounts.{time_ok, tau_of}
-use Rattle.model.specs.Model.{new_model, input_of, exact_model}
+use Rattle.amounts.specs.Amounts.{tau_of}
+use Rattle.model.specs.Model.{input_of, exact_model}
 use Rattle.quote.specs.ClosedForm.{slope, bid_form, ask_form, form_if, closed_form_distances}
 use Rattle.quote.specs.Quotes.{exact_from, exact_answer, closed_from}
 use Rattle.model.specs.declared.GLFTConfig.{GLFTConfig}
 use Rattle.elementary.specs.declared.Refusal.{Refusal}
-use Rattle.elementary.specs.Checks.{by}
 use Rattle.model.specs.declared.Model.{Model}
 
 from_finite : (m : Result (Model × ℤ) Refusal) (tau : Float) (b a : Option Float) (s : ℕ) → exact_from m tau ≡ Answer.Distances b a s → Finite b a

@@ -2,7 +2,6 @@
 use Rattle.std.specs.Prelude.{Option, Result, Ok, Err, Float}
 use Rattle.std.proofs.Common.{◌≡◌, ℕ, ℤ, refl, ap, arith}
 use Rattle.distances.specs.declared.Answer.{Answer}
-use Rattle.distances.specs.declared.Answer.TheVariants as Answer
 use Rattle.prices.specs.Prices.{build_quotes}
 use Rattle.quote.specs.Quotes.{exact_answer, without_report, optimal_answer, exact_by, exact_quotes, optimal_quotes, closed_answer, closed_by, closed_form_quotes}
 use Rattle.prices.specs.Outward.{Outside}
@@ -13,7 +12,6 @@ use Rattle.quote.specs.declared.ExactQuotes.TheVariants as Exact
 use Rattle.prices.proofs.Outward.{built_outside}
 use Rattle.quote.proofs.Pairs.{with_steps_is, wrapped_is}
 use Rattle.elementary.specs.declared.Refusal.{Refusal}
-use Rattle.elementary.specs.Checks.{by}
 
 -- ---- quotes of an answer
 pub exact_outside : (mid least : ℤ) (r : Answer) (q : GlftQuotes) (s : ℕ) → exact_by mid least r ≡ Exact.Quotes q s → OutsideOf mid r q s

@@ -3,7 +3,6 @@ use Rattle.std.specs.Prelude.{Option, Result, Ok, Err, Float}
 use Rattle.std.proofs.Common.{◌≡◌, ℕ, ℤ, sym, ◌∙◌, arith}
 use Rattle.distances.specs.Promises.{Counted, exchanged, exchanged_sides}
 use Rattle.distances.specs.declared.Answer.{Answer}
-use Rattle.distances.specs.declared.Answer.TheVariants as Answer
 use Rattle.prices.specs.Prices.{build_quotes}
 use Rattle.quote.specs.Quotes.{with_steps, exact_by, exact_answer, exact_quotes, wrapped, optimal_quotes, closed_by, closed_answer, closed_form_quotes, exact_steps}
 use Rattle.prices.specs.Facing.{Pair}
@@ -14,7 +13,6 @@ use Rattle.quote.specs.declared.ExactQuotes.TheVariants as Exact
 use Rattle.prices.proofs.Facing.{built_facing}
 use Rattle.quote.proofs.Mirrors.{exact_mirror, exact_counted, closed_mirror}
 use Rattle.elementary.specs.declared.Refusal.{Refusal}
-use Rattle.elementary.specs.Checks.{by}
 use Rattle.elementary.proofs.Results.{ok_pair}
 
 -- ---- exact quotes

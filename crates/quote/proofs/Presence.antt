@@ -8,7 +8,6 @@ use lib.Ieee.{Float}
 use Rattle.elementary.specs.Float.{whole, positive}
 use Rattle.distances.specs.Promises.{Withheld}
 use Rattle.distances.specs.declared.Answer.{Answer}
-use Rattle.distances.specs.declared.Answer.TheVariants as Answer
 use Rattle.distances.proofs.Presence.{float_presence, sides_are}
 use Rattle.amounts.specs.Amounts.{tau_of}
 use Rattle.model.specs.Model.{lots, model_of, model_from, model_by, input_of, exact_checks, exact_model, closed_checks, closed_model}
@@ -25,7 +24,6 @@ use Rattle.model.proofs.Passed.{stopped, passed, lots_passed, Made, made, closed
 use Rattle.prices.proofs.Facing.{built_is}
 use Rattle.quote.proofs.Pairs.{with_steps_is, wrapped_is}
 use Rattle.elementary.specs.declared.Refusal.{Refusal}
-use Rattle.elementary.specs.Checks.{by}
 
 -- ---- a price is absent where its distance is
 bid_absent : (mid w : ℤ) (b : Option Float) → (bid_price mid w (side b) ≡ None) ↔ (b ≡ None)

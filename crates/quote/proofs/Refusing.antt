@@ -12,7 +12,6 @@ use Rattle.distances.specs.Distances.{within, fine, sides}
 use Rattle.distances.specs.FloatEntry.{floats_ok, float_entry}
 use Rattle.distances.specs.Refusing.{EntryFails, FloatRefused, at_5, at_1, at_4, at_11}
 use Rattle.distances.specs.declared.Answer.{Answer}
-use Rattle.distances.specs.declared.Answer.TheVariants as Answer
 use Rattle.distances.proofs.Refusing.{never, float_refusals}
 use Rattle.quote.specs.Refusals.{capped}
 use Rattle.amounts.specs.Amounts.{tau_of}

@@ -10,7 +10,6 @@ use Rattle.plan.specs.declared.RunInput.{RunInput}
 use Rattle.distances.specs.FloatEntry.{float_entry}
 use Rattle.distances.specs.Promises.{Counted}
 use Rattle.distances.specs.declared.Answer.{Answer}
-use Rattle.distances.specs.declared.Answer.TheVariants as Answer
 use Rattle.distances.proofs.Refusing.{float_reports}
 use Rattle.prices.specs.Refusals.{crossed}
 use Rattle.amounts.specs.Amounts.{amount_limit, amount_ok, above0, tau_of}
@@ -24,7 +23,7 @@ use Rattle.prices.specs.declared.GlftQuotes.{GlftQuotes}
 use Rattle.quote.specs.declared.ExactQuotes.TheVariants as Exact
 use Rattle.quote.proofs.Mirrors.{exact_counted}
 use Rattle.quote.proofs.Refusing.{exact_refusals}
-use Rattle.distances.specs.Distances.{fine, distance}
+use Rattle.distances.specs.Distances.{fine}
 use Rattle.elementary.specs.declared.Refusal.{Refusal}
 use Rattle.model.specs.declared.Model.{Model}
 

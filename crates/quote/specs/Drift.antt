@@ -2,13 +2,11 @@
 use Rattle.std.specs.Prelude.{◌≡◌, ℕ, Bool, ◌&&◌, List, [], ◌∷◌, ◌++◌, ℤ, pos, Result, Ok, Err}
 use Rattle.elementary.specs.Float.{positive}
 use Rattle.elementary.specs.Elementary.{outside}
-use Rattle.elementary.specs.Checks.{first_failing, check_of, by}
+use Rattle.elementary.specs.Checks.{first_failing, check_of}
 use Rattle.plan.specs.declared.FirstPlan.{FirstPlan}
-use Rattle.plan.specs.declared.FirstPlan.TheVariants as FirstPlan
 use Rattle.distances.specs.Drift.{driftless_entry, driftless_steps as entry_steps, driftless_count}
 use Rattle.distances.specs.Refusals.{holding}
 use Rattle.distances.specs.declared.Answer.{Answer}
-use Rattle.distances.specs.declared.Answer.TheVariants as Answer
 use Rattle.amounts.specs.Amounts.{amount_ok, time_ok, tau_of}
 use Rattle.model.specs.Configuration.{number_checks, config_if, new_config}
 use Rattle.model.specs.Model.{lots, holding_ok, model_of, model_limits, market_checks, model_if, new_model, check_call}

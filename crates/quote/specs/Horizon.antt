@@ -7,7 +7,6 @@ use Rattle.vector.specs.Refusals.{numerical}
 use Rattle.plan.specs.Plan.{diagonal_finite, fixed}
 use Rattle.plan.specs.Count.{first_size, FirstGoes}
 use Rattle.plan.specs.declared.FirstPlan.{FirstPlan}
-use Rattle.plan.specs.declared.FirstPlan.TheVariants as FirstPlan
 use Rattle.distances.specs.Count.{step_count}
 use Rattle.amounts.specs.Amounts.{tau_of}
 use Rattle.model.specs.Model.{model_of, input_of, exact_checks, exact_model}

@@ -1,7 +1,6 @@
 -- Change request 5: no price lies inside its reckoned distance. Proved once, in proofs/. Definitions only.
 use Rattle.std.specs.Prelude.{◌≡◌, ℕ, ℤ, Option, Ok, Float}
 use Rattle.distances.specs.declared.Answer.{Answer}
-use Rattle.distances.specs.declared.Answer.TheVariants as Answer
 use Rattle.quote.specs.Quotes.{exact_answer, optimal_answer, closed_answer, exact_quotes, optimal_quotes, closed_form_quotes}
 use Rattle.model.specs.declared.GLFTConfig.{GLFTConfig}
 use Rattle.prices.specs.declared.GlftQuotes.{GlftQuotes}

@@ -8,7 +8,6 @@ use Rattle.distances.specs.Distances.{fine}
 use Rattle.distances.specs.Refusing.{EntryFails}
 use Rattle.distances.specs.Promises.{exchanged, exchanged_sides}
 use Rattle.distances.specs.declared.Answer.{Answer}
-use Rattle.distances.specs.declared.Answer.TheVariants as Answer
 use Rattle.quote.specs.Refusals.{capped}
 use Rattle.amounts.specs.Amounts.{tau_of}
 use Rattle.model.specs.Configuration.{turned}

@@ -2,7 +2,6 @@
 use Rattle.std.specs.Prelude.{ℕ, Bool, true, false, ◌&&◌, ℤ, Float, Option, Result, Ok, Err}
 use Rattle.distances.specs.FloatEntry.{float_entry, float_steps}
 use Rattle.distances.specs.declared.Answer.{Answer}
-use Rattle.distances.specs.declared.Answer.TheVariants as Answer
 use Rattle.amounts.specs.Refusals.{limits}
 use Rattle.quote.specs.Refusals.{capped}
 use Rattle.amounts.specs.Amounts.{amount_ok, tau_of}
@@ -11,7 +10,6 @@ use Rattle.quote.specs.ClosedForm.{closed_form_distances}
 use Rattle.model.specs.declared.GLFTConfig.{GLFTConfig}
 use Rattle.model.specs.declared.Model.{Model}
 use Rattle.quote.specs.declared.ExactQuotes.{ExactQuotes}
-use Rattle.quote.specs.declared.ExactQuotes.TheVariants as ExactQuotes
 use Rattle.prices.specs.Prices.{build_quotes}
 use Rattle.elementary.specs.declared.Refusal.{Refusal}
 use Rattle.elementary.specs.Checks.{by}

@@ -10,7 +10,6 @@ use Rattle.record.specs.Record.{Read, taken, refused, numbers, fields, record_of
 use Rattle.record.specs.Refusing.{RecordRefusals, RecordSkips}
 use Rattle.record.specs.declared.record.Record.{Record}
 use Rattle.record.specs.declared.record.RecordAnswer.{RecordAnswer}
-use Rattle.record.specs.declared.record.RecordAnswer.TheVariants as RecordAnswer
 use Rattle.record.proofs.Numbers.{numbers_stopped}
 use Rattle.elementary.specs.Checks.{by}
 use Rattle.elementary.proofs.Checks.{same_number}

@@ -7,7 +7,6 @@ use Rattle.model.specs.declared.GLFTConfig.{GLFTConfig}
 use Rattle.record.specs.Refusals.{cut_short, malformed}
 use Rattle.record.specs.declared.record.Record.{Record}
 use Rattle.record.specs.declared.record.RecordAnswer.{RecordAnswer}
-use Rattle.record.specs.declared.record.RecordAnswer.TheVariants as RecordAnswer
 use Rattle.elementary.specs.declared.Refusal.{Refusal}
 use Rattle.elementary.specs.Checks.{by}
 

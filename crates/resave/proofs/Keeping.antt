@@ -17,7 +17,6 @@ use Rattle.record.specs.Save.{record_bytes, record_room}
 use Rattle.record.specs.Promises.{Bytes}
 use Rattle.record.specs.Refusing.{all_top, Stopped, by_6, at_once}
 use Rattle.record.specs.declared.record.RecordAnswer.{RecordAnswer}
-use Rattle.record.specs.declared.record.RecordAnswer.TheVariants as RecordAnswer
 use Rattle.buffers.proofs.Texts.{Wrote, wrote_none, wrote_length, wrote_part}
 use Rattle.record.proofs.Refusing.{record_refusals}
 use Rattle.record.proofs.Saved.{records_move, taken_moves, taken_bytes}

@@ -6,7 +6,6 @@ use Rattle.record.specs.Save.{record_bytes}
 use Rattle.record.specs.Promises.{Bytes}
 use Rattle.record.specs.declared.record.Record.{Record}
 use Rattle.record.specs.declared.record.RecordAnswer.{RecordAnswer}
-use Rattle.record.specs.declared.record.RecordAnswer.TheVariants as RecordAnswer
 use Rattle.elementary.specs.Checks.{by}
 
 -- ---- what is kept of what the reader answers, and the place where it goes on, in a sheet of n bytes

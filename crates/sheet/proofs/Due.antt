@@ -14,13 +14,11 @@ use Rattle.sheet.specs.Refusals.{long_sheet}
 use Rattle.record.specs.Record.{Read, taken, refused, numbers, fields, record_of, record_ok, record_if, record_from, as_held, held_as, read_as}
 use Rattle.lines.specs.Lines.{refusal_line, Text, text, refusal}
 use Rattle.record.specs.declared.record.RecordAnswer.{RecordAnswer}
-use Rattle.record.specs.declared.record.RecordAnswer.TheVariants as RecordAnswer
 use Rattle.sheet.specs.Sheet.{most_bytes, Step, line, end, refuse, step_by, step_of, step_at}
 use Rattle.record.specs.declared.record.Record.{Record}
 use Rattle.sheet.proofs.Steps.{step_end, step_long, step_read}
 use Rattle.record.proofs.Left.{next_moves}
 use Rattle.record.proofs.Numbers.{numbers_stopped, stopped_number}
-use Rattle.elementary.specs.Checks.{by}
 
 -- P is what holds of every record's text that is written, and of every refusal's line
 module _ (f : Record → Text) (flat : Bool) (P : List ℕ → Type 0) (texts : (r : Record) (t : List ℕ) → f r ≡ text t → P t) (lines : (k : ℕ) → k < 256 → P (refusal_line k)) (s : List ℕ) (at : ℕ) where

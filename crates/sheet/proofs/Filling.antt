@@ -1,12 +1,11 @@
 -- Filling a buffer text by text: the definition's turns, and a fill of which some texts are in. Assumes nothing.
-use Rattle.std.specs.Prelude.{Ok, Err, Some, Result, Option, None}
-use mathlib.Core.Path.{◌≡◌, refl, sym, ap, ◌∙◌, subst}
-use mathlib.Core.Logic.{⊎_elim}
+use Rattle.std.specs.Prelude.{Ok, Err, Some, Result, Option}
+use mathlib.Core.Path.{◌≡◌, refl, sym, ap, ◌∙◌}
 use Prim.Native.Nat.{ℕ, zero, suc, ◌+◌, ◌-◌, ◌<◌, ◌≤◌}
 use native.Mathlib.Nat.{le_refl, le_trans, sub-zero}
 use native.Mathlib.Omega.{arith}
 use mathlib.Core.Bool.{Bool, true, false}
-use mathlib.Core.List.{List, [], ◌∷◌, ◌++◌, append_assoc, append-nil}
+use mathlib.Core.List.{List, [], ◌++◌, append_assoc, append-nil}
 use lib.ListN.{length}
 use lib.Dec.{leb}
 use borrow.Author.Tests.{le-leb, lt-leb}
@@ -14,7 +13,7 @@ use borrow.Rule.Slice.PartMut.{mid_of, put_mid, mid_len, put_same}
 use Rattle.buffers.specs.Over.{over}
 use Rattle.buffers.proofs.Texts.{Wrote, wrote_none, wrote_length, wrote_part}
 use Rattle.lines.specs.Refusals.{small_buffer}
-use Rattle.lines.specs.Lines.{least_room, has_room, refusal}
+use Rattle.lines.specs.Lines.{least_room, has_room}
 use Rattle.ladders.specs.Refusals.{small_ladder_buffer}
 use Rattle.sheet.specs.Sheet.{Step, line, end, answered, left, refuse}
 use Rattle.sheet.specs.Kinds.{room_of, text_at}

@@ -1,5 +1,5 @@
 -- What refuses the ladder at a place of a sheet: 8, then 21 in just the situation named. Assumes nothing.
-use Rattle.std.specs.Prelude.{Err, Result, Option, Ok, Some, None}
+use Rattle.std.specs.Prelude.{Err}
 use mathlib.Core.Path.{◌≡◌, refl, sym, ap, ◌∙◌}
 use mathlib.Core.Logic.{◌⊎◌, inl, inr, ⊎_elim}
 use Prim.Native.Nat.{ℕ, ◌<◌, ◌≤◌}
@@ -13,7 +13,6 @@ use Rattle.lots.specs.Reckoning.{Early}
 use Rattle.record.specs.Record.{config_of, read_as}
 use Rattle.record.specs.declared.record.Record.{Record}
 use Rattle.record.specs.declared.record.RecordAnswer.{RecordAnswer}
-use Rattle.record.specs.declared.record.RecordAnswer.TheVariants as RecordAnswer
 use Rattle.lines.specs.Refusals.{small_buffer}
 use Rattle.lines.specs.Lines.{least_room, has_room, Text, text, refusal}
 use Rattle.ladders.specs.Refusals.{small_ladder_buffer}

@@ -18,7 +18,6 @@ use Rattle.quote.specs.Quotes.{exact_quotes}
 use Rattle.prices.specs.Refusing.{Priced, by_13, by_14}
 use Rattle.quote.specs.Promises.{ExactRefused}
 use Rattle.quote.specs.declared.ExactQuotes.{ExactQuotes}
-use Rattle.quote.specs.declared.ExactQuotes.TheVariants as ExactQuotes
 use Rattle.quote.proofs.Refusing.{exact_refusals}
 use Rattle.record.specs.Refusals.{cut_short, malformed}
 use Rattle.sheet.specs.Refusals.{long_sheet}
@@ -29,7 +28,6 @@ use Rattle.record.specs.Refusing.{Stopped, Beyond}
 use Rattle.sheet.specs.Refusing.{LongLine, Readable, StoppedLine, SkippedLine, LineRefusals}
 use Rattle.record.specs.declared.record.Record.{Record}
 use Rattle.record.specs.declared.record.RecordAnswer.{RecordAnswer}
-use Rattle.record.specs.declared.record.RecordAnswer.TheVariants as RecordAnswer
 use Rattle.lines.proofs.Digits.{back, back_count}
 use Rattle.sheet.proofs.Steps.{line_long, line_read}
 use Rattle.record.proofs.Numbers.{stopped_number}

@@ -5,10 +5,8 @@ use native.Mathlib.Omega.{arith}
 use lib.ListN.{length}
 use lib.Ieee.{Float}
 use Rattle.plan.specs.declared.FirstPlan.{FirstPlan}
-use Rattle.plan.specs.declared.FirstPlan.TheVariants as FirstPlan
 use Rattle.quote.specs.Replies.{ReplyKept}
 use Rattle.quote.specs.declared.ExactQuotes.{ExactQuotes}
-use Rattle.quote.specs.declared.ExactQuotes.TheVariants as ExactQuotes
 use Rattle.quote.specs.Quotes.{exact_quotes}
 use Rattle.quote.proofs.Replies.{replies_kept}
 use Rattle.quote.proofs.DeskPlan.{desk_plan_is_first}

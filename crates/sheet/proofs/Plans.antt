@@ -8,11 +8,9 @@ use borrow.Author.Tests.{leb-true, leb-false}
 use lib.ListN.{length}
 use lib.Dec.{leb}
 use Rattle.plan.specs.declared.FirstPlan.{FirstPlan}
-use Rattle.plan.specs.declared.FirstPlan.TheVariants as FirstPlan
 use Rattle.record.specs.Record.{read_record}
 use Rattle.record.specs.declared.record.Record.{Record}
 use Rattle.record.specs.declared.record.RecordAnswer.{RecordAnswer}
-use Rattle.record.specs.declared.record.RecordAnswer.TheVariants as RecordAnswer
 use Rattle.sheet.specs.Sheet.{most_bytes, record_line, line, step_of, line_at, line_text, step_by}
 use Rattle.sheet.specs.Horizon.{plan_of, record_plan, plan_at, HorizonLines, plan_text}
 use Rattle.sheet.specs.declared.text.Kind.TheVariants as Kind
@@ -20,7 +18,6 @@ use Rattle.sheet.proofs.Steps.{step_long, step_read, line_long, line_read}
 use Rattle.sheet.proofs.PlanLines.{over_line, refused_line}
 use Rattle.sheet.proofs.Texts.{texts_stand, texts_fit, texts_move, text_before, text_written}
 use Rattle.sheet.proofs.Refusing.{step_refusals}
-use Rattle.elementary.specs.Checks.{by}
 
 module _ (s : List ℕ) (at : ℕ) where
   -- the line that `next_line` writes there, or that of a plan with steps

@@ -1,5 +1,5 @@
 -- Each refusal of this layer is the reply in just the situation that the paper names. Assumes nothing.
-use Rattle.std.specs.Prelude.{Err, Result, Option, Ok, Some, None}
+use Rattle.std.specs.Prelude.{Err}
 use mathlib.Core.Path.{◌≡◌, refl, sym}
 use mathlib.Core.Logic.{◌⊎◌, inl, inr, ⊎_elim, ◌↔◌}
 use Prim.Native.Nat.{ℕ, ◌<◌}

@@ -1,5 +1,5 @@
 -- The line at a place of a sheet, by where the place is and what is read there. Assumes nothing.
-use Rattle.std.specs.Prelude.{Result, Err, Ok, None, Option, Some}
+use Rattle.std.specs.Prelude.{Result, Err, Ok, None}
 use mathlib.Core.Path.{◌≡◌, refl, ap, ◌∙◌}
 use native.Mathlib.Omega.{arith}
 use mathlib.Core.Bool.{Bool, true, false}
@@ -12,7 +12,6 @@ use Rattle.record.specs.Record.{read_record}
 use Rattle.lines.specs.Refusals.{small_buffer}
 use Rattle.lines.specs.Lines.{refusal_line, least_room, has_room, Text, text, refusal, line_for, wrote, text_left}
 use Rattle.lines.proofs.Written.{line_is}
-use Rattle.record.specs.declared.record.RecordAnswer.TheVariants as RecordAnswer
 use Rattle.sheet.specs.Inner.{stepped_by}
 use Rattle.sheet.specs.Sheet.{most_bytes, line_text, Step, line, end, refuse, step_by, step_of, step_if, step_at, line_at, answered, left}
 use Rattle.record.specs.declared.record.Record.{Record}

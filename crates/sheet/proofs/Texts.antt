@@ -11,7 +11,6 @@ use Rattle.record.specs.Record.{config_of, read_as}
 use Rattle.record.proofs.Flat.{as_it_is}
 use Rattle.record.specs.declared.record.Record.{Record}
 use Rattle.record.specs.declared.record.RecordAnswer.{RecordAnswer}
-use Rattle.record.specs.declared.record.RecordAnswer.TheVariants as RecordAnswer
 use Rattle.lines.specs.Lines.{refusal_line, least_room, Text, text}
 use Rattle.lines.proofs.Widths.{reply_most, refusal_most}
 use Rattle.ladders.specs.Ladder.{most_ladder}
@@ -23,12 +22,10 @@ use Rattle.sheet.specs.Kinds.{is_flat, room_of, text_of, whole_text, text_at, pr
 use Rattle.sheet.specs.Inner.{record_text, text_in}
 use Rattle.sheet.specs.Promises.{LinesFit, LinesMove, TextsStand, TextsFit, TextsMove, TextsDue}
 use Rattle.sheet.specs.declared.text.Kind.{Kind}
-use Rattle.sheet.specs.declared.text.Kind.TheVariants as Kind
 use Rattle.sheet.proofs.Steps.{step_end, step_long, step_read, step_written}
 use Rattle.sheet.proofs.Due.{step_due, step_before, step_kept}
 use Rattle.sheet.proofs.Ladders.{record_whole, whole_most}
 use Rattle.sheet.proofs.PlanLines.{plan_most}
-use Rattle.elementary.specs.Checks.{by}
 
 step_same : (f g : Record → Text) → ((r : Record) → f r ≡ g r) → (n : ℕ) (a : RecordAnswer) → step_of f n a ≡ step_of g n a
 unfolding step_of

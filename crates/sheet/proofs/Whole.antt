@@ -20,7 +20,6 @@ use Rattle.sheet.specs.Promises.{Followed, StepsMakeTheWhole, PrintedBounded}
 use Rattle.sheet.specs.Promises as Promises
 use Rattle.sheet.specs.declared.text.Kind.{Kind}
 use Rattle.sheet.proofs.Texts.{number_most, text_end, text_long, text_read, texts_fit, texts_move}
-use Rattle.elementary.specs.Checks.{by}
 
 -- ---- a record's text, or the line of refusal 2
 text_if : Kind → Bool → Record → List ℕ

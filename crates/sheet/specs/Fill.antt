@@ -7,7 +7,6 @@ use Rattle.lines.specs.Lines.{has_room}
 use Rattle.sheet.specs.Sheet.{Step, line, end, refuse}
 use Rattle.sheet.specs.Kinds.{room_of, text_at}
 use Rattle.sheet.specs.declared.text.Kind.{Kind}
-use Rattle.sheet.specs.declared.text.Kind.TheVariants as Kind
 use Rattle.elementary.specs.declared.Refusal.{Refusal}
 use Rattle.elementary.specs.Checks.{by}
 

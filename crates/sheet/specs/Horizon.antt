@@ -1,7 +1,6 @@
 -- Change request 6 for a sheet: is a record's horizon too long? Each statement is proved once, in proofs/. Definitions only.
-use Rattle.std.specs.Prelude.{◌≡◌, ◌⊎◌, ◌↔◌, ℕ, ◌<◌, ◌≤◌, List, length, Float, Err, Result, Option, Ok, Some, None}
+use Rattle.std.specs.Prelude.{◌≡◌, ◌⊎◌, ◌↔◌, ℕ, ◌<◌, ◌≤◌, List, length, Float, Err}
 use Rattle.plan.specs.declared.FirstPlan.{FirstPlan}
-use Rattle.plan.specs.declared.FirstPlan.TheVariants as FirstPlan
 use Rattle.quote.specs.Horizon.{desk_plan}
 use Rattle.lines.specs.Refusals.{small_buffer}
 use Rattle.record.specs.Record.{config_of, read_record}

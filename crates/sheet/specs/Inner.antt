@@ -1,5 +1,5 @@
 -- What the crate's own functions hand each other. No public contract cites this file. Definitions only.
-use Rattle.std.specs.Prelude.{ℕ, List, Result, Ok, Err, Option, Some, None}
+use Rattle.std.specs.Prelude.{ℕ, List, Result, Ok, Err, Option, Some}
 use Rattle.record.specs.Record.{read_as}
 use Rattle.lines.specs.Lines.{Text}
 use Rattle.sheet.specs.Sheet.{line_text, Step, step_at}
@@ -8,9 +8,7 @@ use Rattle.sheet.specs.Horizon.{plan_text}
 use Rattle.sheet.specs.Kinds.{is_flat}
 use Rattle.record.specs.declared.record.Record.{Record}
 use Rattle.sheet.specs.declared.text.Kind.{Kind}
-use Rattle.sheet.specs.declared.text.Kind.TheVariants as Kind
 use Rattle.elementary.specs.declared.Refusal.{Refusal}
-use Rattle.elementary.specs.Checks.{by}
 
 -- a record's line, its ladder or its plan, for a buffer of so many bytes
 unfoldable pub record_text : Kind → ℕ → Record → Text

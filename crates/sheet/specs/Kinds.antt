@@ -8,7 +8,6 @@ use Rattle.sheet.specs.Sheet.{record_line, Step, step_at, printed_by}
 use Rattle.sheet.specs.Ladders.{whole_ladder}
 use Rattle.sheet.specs.Horizon.{record_plan}
 use Rattle.sheet.specs.declared.text.Kind.{Kind}
-use Rattle.sheet.specs.declared.text.Kind.TheVariants as Kind
 
 -- is a record read without its holding: for its ladder alone
 abbrev pub is_flat : Kind → Bool

@@ -8,7 +8,6 @@ use Rattle.lines.specs.Lines.{refusal_line, Text, text, refusal}
 use Rattle.sheet.specs.Sheet.{Step, step_at}
 use Rattle.record.specs.declared.record.Record.{Record}
 use Rattle.elementary.specs.declared.Refusal.{Refusal}
-use Rattle.elementary.specs.Checks.{by}
 
 -- ---- a record's ladder, its holding left aside: what refuses it as a whole has a line, but for the buffer's own 21
 unfoldable pub refused_by : Bool → ℕ → Text

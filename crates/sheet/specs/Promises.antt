@@ -8,7 +8,6 @@ use Rattle.sheet.specs.Horizon.{plan_at}
 use Rattle.sheet.specs.Kinds.{room_of, text_at, printed_as}
 use Rattle.sheet.specs.Fill.{filled_as, left_as}
 use Rattle.sheet.specs.declared.text.Kind.{Kind}
-use Rattle.sheet.specs.declared.text.Kind.TheVariants as Kind
 
 -- ---- a line fits the least line buffer, whatever the sheet and the place
 abbrev pub LinesFit : Type 0

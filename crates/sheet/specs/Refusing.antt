@@ -1,5 +1,5 @@
 -- Document 01 and change request 4: each of 8, 9 and 21, and the line of each of 6, 7 and 2, is the reply of this layer in just the situation named. Named statements, each proved once, in proofs/. Definitions only.
-use Rattle.std.specs.Prelude.{◌≡◌, ◌⊎◌, ◌↔◌, ℕ, ◌<◌, ◌≤◌, true, List, length, drop, Err, Result, Option, Ok, Some, None}
+use Rattle.std.specs.Prelude.{◌≡◌, ◌⊎◌, ◌↔◌, ℕ, ◌<◌, ◌≤◌, true, List, length, drop, Err}
 use Rattle.amounts.specs.Refusals.{limits}
 use Rattle.record.specs.Refusals.{cut_short, malformed}
 use Rattle.record.specs.Record.{config_of, read_as}

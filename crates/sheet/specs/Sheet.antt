@@ -9,7 +9,6 @@ use Rattle.lines.specs.Lines.{answer_line, refusal_line, Text, text, refusal}
 use Rattle.buffers.specs.Over.{over}
 use Rattle.record.specs.declared.record.Record.{Record}
 use Rattle.record.specs.declared.record.RecordAnswer.{RecordAnswer}
-use Rattle.record.specs.declared.record.RecordAnswer.TheVariants as RecordAnswer
 use Rattle.elementary.specs.Checks.{by}
 use Rattle.elementary.specs.declared.Refusal.{Refusal}
 

@@ -11,7 +11,6 @@ use Rattle.model.specs.declared.GLFTConfig.{GLFTConfig}
 use Rattle.quote.specs.Quotes.{exact_answer, exact_by, exact_quotes}
 use Rattle.quote.proofs.Mirrors.{exact_mirror}
 use Rattle.quote.proofs.Pairs.{exact_pairs}
-use Rattle.quote.specs.declared.ExactQuotes.{ExactQuotes}
 use Rattle.table.specs.Places.{table_room}
 use Rattle.table.specs.Table.{Used, table_used, table_answer, cleared}
 use Rattle.table.specs.Promises.{Call, clear, quote, after_call, after_all, replies, alone, TableAnswers, TablePriced, TableMirror}

@@ -1,11 +1,9 @@
 -- How a call goes, one of four ways: refused by the table's checks, refused by those of `exact_quotes`, from a row that agrees, or from a vector that is made. Assumes nothing.
 use Rattle.std.specs.Prelude.{Option, Some, None, Ok, Result}
-use mathlib.Core.Path.{◌≡◌, refl, sym, ap, ◌∙◌, subst}
+use mathlib.Core.Path.{◌≡◌, refl}
 use Prim.Native.Nat.{ℕ}
-use mathlib.Core.Bool.{Bool, true}
 use mathlib.Core.List.{List}
 use lib.IntN.{ℤ}
-use lib.Ieee.{Float}
 use lib.Ieee.Bits.{is_true}
 use Rattle.elementary.specs.Checks.{Verdict, passes, refused, first_failing, Refuses, Passes, by}
 use Rattle.elementary.proofs.Checks.{first_failing_lem, none_failing}
@@ -14,14 +12,12 @@ use Rattle.vector.specs.Values.{value_vector}
 use Rattle.distances.specs.Reading.{answer_from}
 use Rattle.distances.proofs.Reading.{entry_reads}
 use Rattle.distances.specs.declared.Answer.{Answer}
-use Rattle.distances.specs.declared.Answer.TheVariants as Answer
 use Rattle.amounts.specs.Amounts.{amount_ok, tau_of}
-use Rattle.model.specs.Model.{lots, model_of, model_if, model_from, model_by, input_of, exact_checks, exact_model}
+use Rattle.model.specs.Model.{lots, model_of, model_from, model_by, exact_checks, exact_model}
 use Rattle.model.specs.declared.GLFTConfig.{GLFTConfig}
 use Rattle.model.proofs.Passed.{Made, stopped, passed, made as made_by, exact_passed, bound_passed, lots_passed, tau_passed, floats_passed, goes_on, exact_amounts}
 use Rattle.quote.specs.Quotes.{exact_from, exact_answer, exact_by, exact_quotes, from_if, quotes_by_answer}
 use Rattle.quote.specs.declared.ExactQuotes.{ExactQuotes}
-use Rattle.quote.specs.declared.ExactQuotes.TheVariants as ExactQuotes
 use Rattle.table.specs.Table.{table_checks, found, vector_in, kept_in, Used, answer_with, used_with, used_if, answer_if, table_used, table_answer}
 use Rattle.table.specs.Promises.{input_for, row_answer}
 use Rattle.model.specs.declared.Model.{Model}

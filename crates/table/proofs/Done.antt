@@ -6,7 +6,6 @@ use native.Mathlib.Omega.{arith}
 use lib.IntN.{ℤ}
 use lib.Ieee.{Float}
 use Rattle.vector.specs.declared.Outcome.{Outcome}
-use Rattle.vector.specs.declared.Outcome.TheVariants as Outcome
 use Rattle.vector.specs.declared.ValueVector.{ValueVector}
 use Rattle.vector.specs.declared.VectorAnswer.{VectorAnswer}
 use Rattle.distances.specs.Distances.{exact_distances}
@@ -17,7 +16,6 @@ use Rattle.quote.specs.Quotes.{exact_by}
 use Rattle.quote.proofs.Pairs.{with_steps_is}
 use Rattle.quote.specs.declared.ExactQuotes.TheVariants as ExactQuotes
 use Rattle.elementary.specs.declared.Refusal.{Refusal}
-use Rattle.elementary.specs.Checks.{by}
 
 module _ (mid least : ℤ) (g : GlftQuotes) (s : ℕ) where
   sides_done : (n : ℕ) (d : Result (Option Float × Option Float) Refusal) → exact_by mid least (sides_with n d) ≡ ExactQuotes.Quotes g s → n ≡ s

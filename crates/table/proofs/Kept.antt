@@ -17,10 +17,7 @@ use Rattle.plan.specs.Plan.{room}
 use Rattle.plan.specs.declared.RunInput.{RunInput}
 use Rattle.vector.specs.declared.ValueVector.{ValueVector}
 use Rattle.vector.specs.declared.Outcome.{Outcome}
-use Rattle.vector.specs.declared.Outcome.TheVariants as Outcome
-use Rattle.vector.specs.declared.VectorAnswer.{VectorAnswer}
-use Rattle.distances.specs.Distances.{lent}
-use Rattle.table.specs.Places.{table_room, row_size, row_at, steps_at, length_at, bound_at, alpha_at, beta_at, eta_at, tau_at, weight_at, offset_at}
+use Rattle.table.specs.Places.{table_room, row_size, row_at, steps_at, weight_at, offset_at}
 use Rattle.table.specs.Table.{number, next, row_vector, row_ok, bits, row_numbers, with_row}
 use Rattle.table.specs.Promises.{Same, RowHolds, Added}
 use Rattle.vector.proofs.Arrays.{Full}

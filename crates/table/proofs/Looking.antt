@@ -1,6 +1,6 @@
 -- What the code learns of a table, test by test: of a row, of the whole, and of the first row that agrees. Assumes nothing.
 use Rattle.std.specs.Prelude.{Some, None, Ok, Err}
-use mathlib.Core.Path.{◌≡◌, refl, sym, ◌∙◌}
+use mathlib.Core.Path.{◌≡◌, sym}
 use Prim.Native.Nat.{ℕ, suc, ◌+◌, ◌*◌, ◌-◌, ◌<◌, ◌≤◌}
 use native.Mathlib.Nat.{add-zero, sub-zero}
 use native.Mathlib.Numerals.{add-one}

@@ -1,32 +1,29 @@
 -- 23, 24 and the numbers after them: each is the reply in just the situation that the change request names. Assumes nothing.
 use Rattle.std.specs.Prelude.{Err}
-use mathlib.Core.Path.{◌≡◌, refl, sym, ap, ◌∙◌, subst}
+use mathlib.Core.Path.{◌≡◌, refl, sym, ◌∙◌, subst}
 use mathlib.Core.Logic.{◌↔◌, ◌⊎◌, inl, inr}
-use Prim.Native.Nat.{ℕ, zero, suc, ◌+◌, ◌*◌, ◌/◌, ◌<◌, ◌≤◌}
+use Prim.Native.Nat.{ℕ, ◌/◌, ◌<◌, ◌≤◌}
 use native.Mathlib.Omega.{arith}
-use mathlib.Core.Bool.{Bool, true, false, ◌&&◌, ◌||◌}
-use mathlib.Core.List.{List, [], ◌∷◌}
-use borrow.Author.Tests.{leb-true, leb-false, eqb-true, eqb-false, le-leb, lt-leb, eq-eqb}
+use mathlib.Core.Bool.{Bool, true, false, ◌&&◌}
+use mathlib.Core.List.{List, []}
+use borrow.Author.Tests.{leb-true, leb-false, eqb-false, le-leb, lt-leb, eq-eqb}
 use lib.ListN.{length}
 use lib.Dec.{T, leb, eqb}
-use lib.IntN.{ℤ, nat_abs}
+use lib.IntN.{ℤ}
 use lib.Ieee.{Float}
 use Rattle.elementary.specs.Checks.{verdict, first_of, first_failing, check_of, Refuses, here, later, Passes, by}
 use Rattle.elementary.specs.Float.{positive}
-use Rattle.elementary.proofs.Checks.{none_failing, first_failing_lem, same_number, same_err}
+use Rattle.elementary.proofs.Checks.{same_number, same_err}
 use Rattle.operator.specs.Vectors.{every}
 use Rattle.operator.specs.Operator.{rows}
 use Rattle.operator.proofs.Lists.{never_true, failing_one}
-use Rattle.plan.specs.Plan.{cap, largest_bound, bound_ok}
+use Rattle.plan.specs.Plan.{cap, largest_bound}
 use Rattle.plan.specs.declared.RunInput.{RunInput}
 use Rattle.vector.specs.Refusals.{numerical}
 use Rattle.vector.specs.declared.ValueVector.{ValueVector}
-use Rattle.vector.specs.declared.Outcome.TheVariants as Outcome
 use Rattle.distances.specs.Distances.{within, place, length_ok, exact_distances}
-use Rattle.distances.specs.Reading.{sides_with, read_by, answer_from}
 use Rattle.distances.specs.Refusing.{ReadFails, DistancesRefused, by_5, by_1, by_4, by_11}
 use Rattle.distances.specs.declared.Answer.{Answer}
-use Rattle.distances.specs.declared.Answer.TheVariants as Answer
 use Rattle.distances.proofs.Reading.{read_refusals}
 use Rattle.distances.proofs.Refusing.{distances_refusals}
 use Rattle.distances.proofs.Finite.{finite_distances}
@@ -43,12 +40,11 @@ use Rattle.quote.specs.Replies.{ReplyKept}
 use Rattle.quote.proofs.Refusing.{exact_by_lem}
 use Rattle.quote.proofs.Replies.{replies_kept}
 use Rattle.quote.specs.declared.ExactQuotes.{ExactQuotes}
-use Rattle.quote.specs.declared.ExactQuotes.TheVariants as ExactQuotes
 use Rattle.table.specs.Refusals.{small_table, bad_table}
 use Rattle.table.specs.Places.{table_room, rows_kept, steps_at, length_at, bound_at}
-use Rattle.table.specs.Table.{number, filled, next, row_vector, counts_ok, row_ok, table_ok, table_checks, found, used_with, used_if, Used, table_used, cleared_by}
-use Rattle.table.specs.Promises.{First, NoneAgrees, Fails, many_filled, far_next, next_not_count, many_steps, no_bound, large_bound, other_length, Passing, input_for, row_answer, LaterRefused, row_read, row_priced, made as made-refused, TableRefusals}
-use Rattle.table.proofs.Checked.{RowPassed, row_passed, table_passed}
+use Rattle.table.specs.Table.{number, filled, next, row_vector, counts_ok, row_ok, table_ok, used_with, used_if, Used, table_used, cleared_by}
+use Rattle.table.specs.Promises.{First, Fails, many_filled, far_next, next_not_count, many_steps, no_bound, large_bound, other_length, Passing, input_for, row_answer, LaterRefused, row_read, row_priced, made as made-refused, TableRefusals}
+use Rattle.table.proofs.Checked.{row_passed, table_passed}
 use Rattle.table.proofs.Courses.{Course, table_refused, checks_refused, taken, made, course}
 use Rattle.table.proofs.Sound.{not_refused}
 use Rattle.table.proofs.Unchanged.{both_ways, found_first, found_none, one_first, first_some, no_fails, unfailing}

@@ -2,20 +2,19 @@
 use Rattle.std.specs.Prelude.{Some, None}
 use mathlib.Core.Path.{◌≡◌, refl, sym, ap, ◌∙◌, subst}
 use mathlib.Core.Logic.{◌≢◌}
-use Prim.Native.Nat.{ℕ, zero, suc, ◌+◌, ◌*◌, ◌%◌, ◌<◌, ◌≤◌, min}
+use Prim.Native.Nat.{ℕ, zero, suc, ◌+◌, ◌*◌, ◌<◌, ◌≤◌, min}
 use native.Mathlib.Omega.{arith}
 use mathlib.Core.Bool.{Bool, true, false}
-use mathlib.Core.List.{List, [], ◌∷◌}
+use mathlib.Core.List.{List}
 use borrow.Author.Tests.{leb-true, le-leb, eqb-true, eqb-false}
 use lib.ListN.{length, replicate, length-replicate}
-use lib.Dec.{T, leb, eqb}
+use lib.Dec.{T, eqb}
 use lib.IntN.{ℤ}
 use lib.Ieee.{Float, binary64, fits}
 use lib.Ieee.Bits.{of_bits-to_bits}
 use lib.Ieee.Fits.{mul-fits, div-fits}
 use Rattle.elementary.specs.Float.{hex}
-use Rattle.elementary.specs.Checks.{Verdict, passes, refused, verdict, first_of, first_failing, Refuses, here, later, Passes, none, each, by}
-use Rattle.plan.specs.Plan.{room}
+use Rattle.elementary.specs.Checks.{verdict, first_of, first_failing, Refuses, here, later, Passes, none, each, by}
 use Rattle.plan.specs.declared.RunInput.{RunInput}
 use Rattle.vector.specs.Values.{value_vector}
 use Rattle.vector.specs.declared.VectorAnswer.{VectorAnswer}
@@ -29,11 +28,10 @@ use Rattle.model.specs.declared.GLFTConfig.{GLFTConfig}
 use Rattle.model.proofs.Passed.{stops}
 use Rattle.quote.specs.Quotes.{exact_from, exact_answer, exact_by, exact_quotes}
 use Rattle.quote.specs.declared.ExactQuotes.{ExactQuotes}
-use Rattle.quote.specs.declared.ExactQuotes.TheVariants as ExactQuotes
 use Rattle.table.specs.Places.{table_room}
-use Rattle.table.specs.Table.{number, filled, next, row_vector, row_ok, table_ok, room_checks, table_checks, found, bits, with_row, kept_in, Used, table_used, table_answer, cleared_if, cleared}
-use Rattle.table.specs.Promises.{Same, First, Passing, MadeFrom, Added, input_for, row_answer, TableCleared}
-use Rattle.table.proofs.Checked.{TablePassed, RowPassed, row_pass, table_pass, table_passed, agreed}
+use Rattle.table.specs.Table.{number, filled, next, row_vector, row_ok, table_ok, table_checks, found, bits, with_row, kept_in, Used, table_used, table_answer, cleared_if, cleared}
+use Rattle.table.specs.Promises.{Same, MadeFrom, Added, input_for, row_answer}
+use Rattle.table.proofs.Checked.{TablePassed, row_pass, table_pass, agreed}
 use Rattle.table.proofs.FirstRow.{found_row}
 use Rattle.table.proofs.Courses.{Course, table_refused, checks_refused, taken, made, course, read_exact}
 use Rattle.table.proofs.Kept.{RowStays, stays_vector, stays_same, stays_ok, held_vector, row_added, others_stay}

@@ -1,8 +1,7 @@
 -- A new vector takes the rows in turn, the oldest going first. Assumes nothing.
 use Rattle.std.specs.Prelude.{Option, Some, None}
 use mathlib.Core.Path.{◌≡◌, refl, sym, ap, ◌∙◌, subst}
-use mathlib.Core.Logic.{◌≢◌}
-use Prim.Native.Nat.{ℕ, zero, suc, ◌+◌, ◌-◌, ◌%◌, ◌<◌, ◌≤◌, min, suc-le-suc}
+use Prim.Native.Nat.{ℕ, zero, suc, ◌-◌, ◌%◌, ◌<◌, ◌≤◌, suc-le-suc}
 use native.Mathlib.Nat.{zero-lt-suc}
 use native.Mathlib.Omega.{arith}
 use mathlib.Core.List.{List, [], ◌∷◌, ◌++◌}
@@ -17,11 +16,10 @@ use Rattle.model.specs.declared.GLFTConfig.{GLFTConfig}
 use Rattle.prices.specs.declared.GlftQuotes.{GlftQuotes}
 use Rattle.quote.specs.Quotes.{exact_by, exact_quotes}
 use Rattle.quote.specs.declared.ExactQuotes.{ExactQuotes}
-use Rattle.quote.specs.declared.ExactQuotes.TheVariants as ExactQuotes
 use Rattle.table.specs.Places.{table_room, rows_kept}
-use Rattle.table.specs.Table.{filled, next, table_checks, found, with_row, kept_in, Used, table_used, cleared}
+use Rattle.table.specs.Table.{next, found, with_row, kept_in, Used, table_used, cleared}
 use Rattle.table.specs.Promises.{Call, clear, quote, after_call, after_all, NoneAgrees, Added, input_for, adds_by, adds, history, MadeFrom, At, head, tail, InTurn, RowsInTurn}
-use Rattle.table.proofs.Checked.{TablePassed, table_passed}
+use Rattle.table.proofs.Checked.{table_passed}
 use Rattle.table.proofs.Courses.{Course, table_refused, checks_refused, taken, made, course, read_exact}
 use Rattle.vector.proofs.Arrays.{Ran, ran}
 use Rattle.table.proofs.Done.{done_of}

@@ -2,35 +2,32 @@
 use Rattle.std.specs.Prelude.{Some, None}
 use mathlib.Core.Path.{◌≡◌, refl, sym, ap, ◌∙◌, subst}
 use mathlib.Core.Logic.{◌≢◌}
-use Prim.Native.Nat.{ℕ, suc, ◌*◌, ◌+◌, ◌<◌, ◌≤◌}
+use Prim.Native.Nat.{ℕ, ◌<◌, ◌≤◌}
 use native.Mathlib.Omega.{arith}
 use mathlib.Core.Bool.{Bool, true, false}
-use mathlib.Core.List.{List, [], ◌∷◌}
+use mathlib.Core.List.{List}
 use borrow.Author.Tests.{lt-leb, leb-true, leb-false, eqb-true, eqb-false}
 use lib.ListN.{length}
 use lib.Dec.{T, leb, eqb}
 use lib.IntN.{ℤ}
-use Rattle.elementary.specs.Checks.{verdict, first_of, first_failing, Refuses, here, later, Passes, none, each, by}
-use Rattle.elementary.proofs.Checks.{first_failing_lem, none_failing}
+use Rattle.elementary.specs.Checks.{verdict, first_of, first_failing, Refuses, here, later, Passes, none, each}
 use Rattle.operator.proofs.Lists.{never_true}
 use Rattle.plan.specs.declared.RunInput.{RunInput}
 use Rattle.vector.specs.Values.{value_vector}
-use Rattle.vector.specs.declared.Outcome.TheVariants as Outcome
 use Rattle.distances.specs.declared.Answer.{Answer}
 use Rattle.model.specs.Model.{lots, model_of, exact_checks}
 use Rattle.model.specs.declared.GLFTConfig.{GLFTConfig}
 use Rattle.prices.specs.declared.GlftQuotes.{GlftQuotes}
 use Rattle.quote.specs.Quotes.{exact_by, exact_quotes}
 use Rattle.quote.specs.declared.ExactQuotes.{ExactQuotes}
-use Rattle.quote.specs.declared.ExactQuotes.TheVariants as ExactQuotes
 use Rattle.table.specs.Places.{table_room, steps_at}
-use Rattle.table.specs.Table.{number, filled, next, row_vector, agrees, table_ok, table_checks, found, kept_in, Used, table_used, cleared_if, cleared}
-use Rattle.table.specs.Promises.{Same, First, NoneAgrees, Fails, many_filled, far_next, next_not_count, many_steps, no_bound, large_bound, other_length, Passing, input_for, row_answer, TableTaken, TableUnchanged, TableCleared}
+use Rattle.table.specs.Table.{number, filled, row_vector, agrees, table_ok, found, kept_in, Used, cleared_if, cleared}
+use Rattle.table.specs.Promises.{First, NoneAgrees, Fails, many_filled, far_next, next_not_count, many_steps, no_bound, large_bound, other_length, Passing, input_for, row_answer, TableTaken, TableUnchanged, TableCleared}
 use Rattle.table.proofs.Checked.{TablePassed, RowPassed, row_passed, row_pass, table_passed, table_pass, agreed, agree}
-use Rattle.table.proofs.FirstRow.{found_row, row_found, found_nothing, nothing_found}
+use Rattle.table.proofs.FirstRow.{found_row, row_found, found_nothing}
 use Rattle.table.proofs.Courses.{Course, table_refused, checks_refused, taken, made, course}
 use Rattle.table.proofs.Done.{done_of}
-use Rattle.table.proofs.Sound.{not_refused, cleared_is, cleared_zeros, cleared_long}
+use Rattle.table.proofs.Sound.{not_refused, cleared_zeros, cleared_long}
 
 -- ---- checks that pass and refuse
 pub both_ways : {l : List (Bool × ℕ)} {n : ℕ} → Passes l → Refuses l n → ⊥

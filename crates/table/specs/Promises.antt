@@ -21,7 +21,6 @@ use Rattle.prices.specs.declared.GlftQuotes.{GlftQuotes}
 use Rattle.quote.specs.Quotes.{exact_by, exact_quotes, exact_steps}
 use Rattle.quote.specs.Promises.{PricedOf}
 use Rattle.quote.specs.declared.ExactQuotes.{ExactQuotes}
-use Rattle.quote.specs.declared.ExactQuotes.TheVariants as ExactQuotes
 use Rattle.table.specs.Refusals.{small_table, bad_table}
 use Rattle.table.specs.Places.{table_room, rows_kept, filled_at, next_at, row_size, row_at, steps_at, length_at, bound_at, alpha_at, beta_at, eta_at, tau_at, weight_at, offset_at}
 use Rattle.table.specs.Table.{number, filled, next, row_vector, bits, found, table_used, table_answer, cleared_by, cleared}

@@ -15,13 +15,11 @@ use Rattle.vector.specs.declared.VectorAnswer.{VectorAnswer}
 use Rattle.distances.specs.Distances.{lent}
 use Rattle.distances.specs.Reading.{answer_from}
 use Rattle.distances.specs.declared.Answer.{Answer}
-use Rattle.distances.specs.declared.Answer.TheVariants as Answer
 use Rattle.amounts.specs.Amounts.{tau_of}
 use Rattle.model.specs.Model.{input_of, exact_model}
 use Rattle.model.specs.declared.GLFTConfig.{GLFTConfig}
 use Rattle.quote.specs.Quotes.{quotes_by_answer}
 use Rattle.quote.specs.declared.ExactQuotes.{ExactQuotes}
-use Rattle.quote.specs.declared.ExactQuotes.TheVariants as ExactQuotes
 use Rattle.table.specs.Refusals.{small_table, bad_table}
 use Rattle.table.specs.Places.{table_room, rows_kept, filled_at, next_at, row_at, steps_at, length_at, bound_at, alpha_at, beta_at, eta_at, tau_at, weight_at, offset_at}
 use Rattle.elementary.specs.declared.Refusal.{Refusal}

@@ -18,7 +18,6 @@ use Rattle.plan.proofs.Bounds.{bound_range}
 use Rattle.distances.proofs.Holdings.{place_most}
 use Rattle.distances.proofs.Checked.{vector_is}
 use Rattle.distances.proofs.entry.entry_within.Goals as goal
-use Rattle.elementary.specs.Checks.{by}
 
 -- ---- the answer at the end of a run, by the outcome and the vector that the code has of it
 module _ (b : ℕ) (k base : Float) (q : ℤ) where

@@ -1,7 +1,6 @@
 use Rattle.vector.specs.Values.{refused_vector}
 use Rattle.distances.specs.FloatEntry.{refused_entry}
 use Rattle.distances.proofs.entry.refused_entry.Goals as goal
-use Rattle.elementary.specs.Checks.{by}
 
 pub returns : goal.returns
 unfolding refused_entry refused_vector

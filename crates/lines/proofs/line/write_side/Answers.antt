@@ -3,9 +3,8 @@ use mathlib.Core.Path.{◌≡◌, refl, ap}
 use native.Mathlib.Omega.{arith}
 use mathlib.Core.List.{[], ◌∷◌}
 use lib.Dec.{lit≤}
-use mir.Val.{SFits, to_z, of_z}
+use mir.Val.{to_z, of_z}
 use mir.Syntax.{w64}
-use mir.Facts.{to_z-of_z}
 use Rattle.lines.specs.Lines.{side, signed}
 use Rattle.buffers.proofs.Texts.{wrote_none, wrote_byte}
 use Rattle.lines.proofs.line.write_side.Goals as goal

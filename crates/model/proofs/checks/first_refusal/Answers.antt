@@ -1,7 +1,7 @@
 use Rattle.std.specs.Prelude.{Result, Ok, Err}
 use Rattle.std.specs.Result.{result_and}
 use Rattle.std.proofs.Common.{◌≡◌, refl, ◌∙◌}
-use Rattle.elementary.specs.Checks.{Verdict, passes, refused, first_of, check_of}
+use Rattle.elementary.specs.Checks.{first_of, check_of}
 use Rattle.elementary.specs.declared.Refusal.{Refusal}
 use Rattle.model.specs.Checks.{verdict_of, first_refusal}
 use Rattle.model.proofs.checks.first_refusal.Goals as goal

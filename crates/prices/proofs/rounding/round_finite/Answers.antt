@@ -1,5 +1,4 @@
-use mathlib.Core.Path.{◌≡◌, sym, ◌∙◌}
-use Rattle.prices.specs.Inner.{side_of}
+use mathlib.Core.Path.{◌∙◌}
 use Rattle.prices.specs.Prices.{side}
 use Rattle.elementary.proofs.Results.{handed_on}
 use Rattle.prices.proofs.Building.{rounded_by, rounded_by_lem}

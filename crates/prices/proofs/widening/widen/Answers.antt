@@ -9,7 +9,7 @@ use mir.Val.{to_z, of_z}
 use mir.Facts.{to_z-of_z, and_yes}
 use Rattle.amounts.specs.Amounts.{amount_limit, amount_ok}
 use Rattle.amounts.proofs.Sizes.{size_fits}
-use Rattle.prices.specs.Prices.{each, widening, bid_price, ask_price, widened, widen_if, widen}
+use Rattle.prices.specs.Prices.{each, widening, widened, widen_if, widen}
 use Rattle.prices.proofs.Building.{size_widening}
 use Rattle.prices.proofs.widening.widen.Goals as goal
 

@@ -2,7 +2,6 @@
 use Rattle.std.proofs.Common.{◌≡◌, to_z-of_z}
 use Rattle.model.specs.Model.{exact_model}
 use Rattle.quote.specs.Horizon.{plan_from, desk_plan}
-use Rattle.amounts.proofs.Limits.{kept}
 use Rattle.quote.proofs.horizon.first_plan.Goals as goal
 use mir.Syntax.{w64}
 use mir.Val.{to_z, of_z}

@@ -2,7 +2,7 @@ use mathlib.Core.Path.{sym, ◌∙◌, ap}
 use Prim.Native.Nat.{◌+◌, ◌-◌, ◌<◌, ◌≤◌}
 use native.Mathlib.Omega.{arith}
 use lib.ListN.{length}
-use borrow.Rule.Slice.PartMut.{put_mid, same_len_mid}
+use borrow.Rule.Slice.PartMut.{put_mid}
 use Rattle.lines.specs.Lines.{least_room}
 use Rattle.sheet.specs.Kinds.{room_of}
 use Rattle.sheet.proofs.Filling.{Filling, filling_none, filling_length, text_added, filling_end, filling_full, filling_goes_on, no_fill, short_fill}

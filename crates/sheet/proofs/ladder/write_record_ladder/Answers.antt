@@ -1,8 +1,6 @@
 use Rattle.std.specs.Prelude.{Err}
 use mathlib.Core.Path.{◌≡◌, refl, sym, ◌∙◌}
-use borrow.Author.Tests.{eq-eqb, ne_eqb}
 use lib.Dec.{eqb}
-use Prim.Native.Nat.{ℕ}
 use lib.ListN.{length}
 use Rattle.amounts.proofs.Limits.{kept}
 use Rattle.record.specs.Record.{config_of}
@@ -13,7 +11,6 @@ use Rattle.ladders.specs.Ladder.{laddered, laddered_in}
 use Rattle.sheet.specs.Ladders.{refused_by, record_ladder}
 use Rattle.sheet.proofs.Ladders.{text_written, left_refused}
 use Rattle.sheet.proofs.ladder.write_record_ladder.Goals as goal
-use Rattle.elementary.specs.Checks.{by}
 use Rattle.elementary.specs.declared.Refusal.{Refusal}
 
 pub returns-then-eq : goal.returns-then-eq

@@ -7,7 +7,6 @@ use Rattle.sheet.specs.Sheet.{step_of}
 use Rattle.sheet.specs.Inner.{record_text, text_in}
 use Rattle.sheet.proofs.Steps.{step_end, step_long, step_read, no_room, no_line, one_text, one_line}
 use Rattle.sheet.proofs.text.next_text.Goals as goal
-use Rattle.elementary.specs.Checks.{by}
 
 pub returns-then-out-lt-LEAST_ROOM : goal.returns-then-out-lt-LEAST_ROOM
 returns-then-out-lt-LEAST_ROOM c = let p = no_room _ _ c.if-out-lt-LEAST_ROOM.true in record { value = p.0; out_after = p.1 }
