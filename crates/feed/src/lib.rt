@@ -8,6 +8,7 @@ use std::io::{Read, Result};
 
 // Reads until the buffer is full or the input ends, and answers how many bytes that were. With a buffer of
 // one byte more than the longest sheet, a full one tells a sheet that is longer.
+#[tactic(auto, unfolding(crate::specs::Feed::Fed))]
 pub fn read_sheet(rt: &HostRuntime, input: &mut [u8]) -> Result<usize>
     ensures { Fed (length input.old) result }
 {
