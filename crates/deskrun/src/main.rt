@@ -103,7 +103,7 @@ fn put_answer(out: &mut [u8], start: usize, s: &[u8], at: usize) -> usize {
     let volatility = amount_at(s, at, 16);
     let c = config_at(s, at);
     let current = word_at(s, at, 72);
-    // The entry's number is met here alone: an enum would be made of it and taken apart at once.
+    // By the numbers that the head of this file has: an enum would name each entry once more, for this match alone.
     match word_at(s, at, 88) {
         0 => {
             let a = GLFTStrategy::exact_quotes(mid, holding, c, volatility, current);

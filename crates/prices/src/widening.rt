@@ -30,7 +30,8 @@ fn moved(least: i64, bid: Price, ask: Price) -> i64
     }
 }
 
-// Down from the mid, and the ask's up from it: one function for both would take the direction.
+// Down from the mid, and the ask's up from it, as `bid_price` and `ask_price` of specs/Prices are two: one function
+// for both would take a sign that no definition has.
 fn bid_price(mid: i64, w: i64, bid: Price) -> Price
     requires { T (amount_ok mid) × (nat_abs w ≤ 3 * amount_limit) × T (each amount_ok bid) }
     ensures { result ≡ bid_price mid w bid }

@@ -14,7 +14,8 @@ fn slope_of(m: Model) -> f64
     elementary::or_nan(elementary::sqrt(m.sigma2 * m.gamma / (2.0 * m.k * m.a) * growth))
 }
 
-// Two formulas, as the document has them: one function for both would take their signs.
+// Two formulas, as `form_bid` and `form_ask` of specs/ClosedForm are: one function for both would take signs that no
+// definition has.
 fn bid_of(allowed: bool, base: f64, c: f64, q: f64) -> Distance
     ensures { result ≡ form_bid allowed base c q }
 {

@@ -22,6 +22,7 @@ fn write_number(out: &mut [u8], n: u64) -> usize
 {
     let mut at: usize = 0;
     let mut rest = n;
+    // No `for`: how many groups there are shows on the way.
     while rest >= 128 {
         out[at] = (rest % 128) as u8 + 128;
         rest /= 128;

@@ -3,8 +3,6 @@
 // last sheet is zeros.
 #![tactic(auto)]
 
-ghost use Rattle.std.specs.Prelude.{◌≡◌, length};
-
 use harness::{first, read_block};
 
 // One byte more than the longest sheet.
@@ -25,7 +23,7 @@ fn say_line(s: &[u8], at: usize) -> usize {
     }
 }
 
-// Writes the lines of a sheet, of which it has no more than bytes.
+// Writes the lines of a sheet, of which it has no more than bytes; each says where the next begins.
 fn say_lines(s: &[u8]) {
     let mut at: usize = 0;
     for _ in 0..s.len() {
@@ -45,19 +43,13 @@ fn read_length() -> usize {
     harness::word_at(&bytes, 0, 0) as usize
 }
 
-fn blank_sheet() -> [u8; ROOM]
-    ensures { 65537 ≡ length result }
-{
-    [0; ROOM]
-}
-
 // Reads a sheet and writes its lines; false where there is none.
 fn run_sheet() -> bool {
     let n = read_length();
     if n > ROOM {
         return false;
     }
-    let mut sheet = blank_sheet();
+    let mut sheet = [0u8; ROOM];
     read_block(&mut sheet, n);
     say_lines(&sheet[..n]);
     io::write_all(harness::STDOUT, b".\n");

@@ -22,7 +22,7 @@ fn entry_place(first: usize, place: u64) -> Option<usize>
 fn place_in_row(row: usize, role: u64, place: u64) -> Option<usize>
     requires { row ≤ 2429 }
 {
-    // A role's number is met here and in `place_of` alone: an enum would be made of it and taken apart at once.
+    // By the numbers that the head of main.rt has: an enum would name each role once more, for `place_of` alone.
     match role {
         2 => Some(row + STEPS),
         3 => Some(row + LENGTH),

@@ -207,6 +207,7 @@ fn plan_steps(
 {
     let plain = operator::all_ones(left, right);
     let mut pace = first;
+    // No `for`: a step says whether another is due.
     loop {
         match pace {
             Pace::Going(going) => {
@@ -273,6 +274,7 @@ fn run_plans(w: &mut [f64], o: &mut [f64], fixed: Fixed<'_>, tau: f64) -> Outcom
         result (full f.half n w.new) (full f.half n o.new) }
 {
     let mut next = Next::Plan(MAX_EXPM_STEPS, tau);
+    // No `for`: a plan says whether another is due.
     loop {
         match next {
             Next::Plan(budget, rest) => next = run_plan(w, o, fixed, rest, budget),
