@@ -8,6 +8,7 @@ mod line;
 pub mod refusals;
 mod text;
 
+pub use elementary::Refusal;
 pub use fill::{fill_lines, fill_texts};
 pub use horizon::next_plan;
 pub use ladder::next_ladder;
