@@ -4,7 +4,7 @@ ghost use Rattle.vector.specs.Run.{bound_ok, run};
 ghost use Rattle.elementary.specs.Checks.{first_failing, check_of};
 ghost use Rattle.distances.specs.FloatEntry.{refused_entry, with_vector, answer_by, floats_ok, entry_checks};
 
-use crate::lent::{Lent, sides_at};
+use crate::lent::sides_at;
 use crate::places::Scale;
 use crate::refusals::HOLDING;
 use crate::{Answer, FloatAnswer, Sides};
@@ -61,12 +61,11 @@ pub(crate) fn entry_within(scale: Scale, input: RunInput, q: i64) -> FloatAnswer
     match outcome {
         Outcome::Done(steps) => {
             let place = crate::places::place_of(q, input.bound);
-            let v = Lent {
-                w: &a.vector.w,
-                log_offset: &a.vector.log_offset,
-                n: a.vector.n,
-            };
-            with_vector(vector, steps, sides_at(v, scale, place))
+            with_vector(
+                vector,
+                steps,
+                sides_at(&a.vector.w, &a.vector.log_offset, a.vector.n, scale, place),
+            )
         }
         Outcome::OverCap(need, budget, steps) => FloatAnswer {
             answer: Answer::OverCap(need, budget, steps),

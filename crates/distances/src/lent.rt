@@ -85,10 +85,18 @@ fn ask_at<T: Number>(v: Lent<'_, T>, scale: Scale, i: usize) -> Distance
     None
 }
 
-// The distances at place i.
-pub(crate) fn sides_at<T: Number>(v: Lent<'_, T>, scale: Scale, i: usize) -> Sides
-    requires { i < v.n }
-    ensures { result ≡ exact_at (lent v.entry.n (map T.float v.entry.w.now) (map T.float v.entry.log_offset.now)) scale.k scale.base i }
+// The distances at place i. The arrays come one by one: a call that takes them in a struct keeps a copy of the vector
+// that no one reads.
+pub(crate) fn sides_at<'a, T: Number>(
+    w: &'a [T],
+    log_offset: &'a [T],
+    n: usize,
+    scale: Scale,
+    i: usize,
+) -> Sides
+    requires { i < n }
+    ensures { result ≡ exact_at (lent n (map T.float w.now) (map T.float log_offset.now)) scale.k scale.base i }
 {
+    let v = Lent { w, log_offset, n };
     crate::places::both(bid_at(v, scale, i), ask_at(v, scale, i))
 }

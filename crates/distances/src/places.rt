@@ -82,5 +82,5 @@ pub(crate) fn distances_in<T: Number>(v: Lent<'_, T>, scale: Scale, q: i64) -> S
     ensures { result ≡ exact_distances (lent v.entry.n (map T.float v.entry.w.now) (map T.float v.entry.log_offset.now)) scale.k scale.base q }
 {
     check_read(v.n, scale, q)?;
-    sides_at(v, scale, place_of(q, (v.n / 2) as u32))
+    sides_at(v.w, v.log_offset, v.n, scale, place_of(q, (v.n / 2) as u32))
 }

@@ -15,10 +15,16 @@ fn byte_at(s: &[u8], at: usize, i: usize, j: usize) -> u8
     s.get(place).copied().unwrap_or(0)
 }
 
-// The number of eight bytes, lowest first: those from i places after a place on.
+// The number of eight bytes, lowest first: those from i places after a place on. Where all eight are there
+// they are one load: with a test of each `countrun` took twice as long.
 pub fn word_at(s: &[u8], at: usize, i: usize) -> u64
     ensures { result ≡ word s.now (at + i) }
 {
+    let left = s.len().saturating_sub(at);
+    if 8 <= left && i <= left - 8 {
+        let place = at + i;
+        return u64::from_le_bytes(array::from_fn(|j| s[place + j]));
+    }
     u64::from_le_bytes(array::from_fn(|j| byte_at(s, at, i, j)))
 }
 
