@@ -6,7 +6,7 @@
 #![tactic(auto)]
 
 use distances::step_count;
-use harness::{ENTRY, Entry, Sizes, entry_at, put, put_cap, put_number, put_refusal, run};
+use harness::{ENTRY, Entry, PutLine, Sizes, entry_at, put, put_cap, put_number, put_refusal, run};
 use vector::{FirstPlan, RunInput};
 
 // A record has 64 bytes, 1,024 records are read at once, and a line has at most a letter, a float, five
@@ -60,6 +60,18 @@ fn put_line(out: &mut [u8], start: usize, s: &[u8], at: usize) -> usize {
     put(out, end, b"\n")
 }
 
+// What the run of records calls.
+#[derive(Drop)]
+struct Program;
+
+impl PutLine for Program {
+    ghost puts = { λ _ _ _ _ _ _ _ _. Unit {0} };
+
+    fn put_line(&mut self, out: &mut [u8], used: usize, s: &[u8], at: usize) -> usize {
+        put_line(out, used, s, at)
+    }
+}
+
 fn main() {
-    run(SIZES, put_line);
+    run(SIZES, &mut Program);
 }

@@ -10,7 +10,9 @@
 #![tactic(auto)]
 
 use desk::{amount_at, config_at, put_exact, put_float, put_quotes};
-use harness::{LARGEST_BOUND, Sizes, put, put_number, put_refusal, put_signed, run, word_at};
+use harness::{
+    LARGEST_BOUND, PutLine, Sizes, put, put_number, put_refusal, put_signed, run, word_at,
+};
 use quote::refusals::LIMITS;
 use quote::{ExactQuotes, GLFTConfig, GLFTStrategy, GlftQuotes, Model, Refusal};
 
@@ -136,6 +138,18 @@ fn put_line(out: &mut [u8], start: usize, s: &[u8], at: usize) -> usize {
     put(out, end, b"\n")
 }
 
+// What the run of records calls.
+#[derive(Drop)]
+struct Program;
+
+impl PutLine for Program {
+    ghost puts = { λ _ _ _ _ _ _ _ _. Unit {0} };
+
+    fn put_line(&mut self, out: &mut [u8], used: usize, s: &[u8], at: usize) -> usize {
+        put_line(out, used, s, at)
+    }
+}
+
 fn main() {
-    run(SIZES, put_line);
+    run(SIZES, &mut Program);
 }

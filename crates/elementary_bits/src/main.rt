@@ -48,15 +48,24 @@ fn put_line(out: &mut [u8], start: usize, bits: u64) -> usize {
     harness::put(out, at, b"\n")
 }
 
+// What the run of records calls.
+#[derive(Drop)]
+struct Program;
+
+impl harness::PutLine for Program {
+    ghost puts = { λ _ _ _ _ _ _ _ _. Unit {0} };
+
+    fn put_line(&mut self, out: &mut [u8], used: usize, s: &[u8], at: usize) -> usize {
+        put_line(out, used, harness::word_at(s, at, 0))
+    }
+}
+
 fn main() {
     let mut input = io::large_buffer();
     let n = io::read_full(harness::STDIN, &mut input);
     let mut out = io::large_buffer();
     let at = put_line(&mut out, 0, NAN);
-    let mut put_next = |out: &mut [u8], used, s: &[u8], at| {
-        put_line(out, used, harness::word_at(s, at, 0))
-    };
     let patterns = harness::first(&input, n);
-    let used = harness::put_lines(&mut out, at, patterns, SIZES, &mut put_next);
+    let used = harness::put_lines(&mut out, at, patterns, SIZES, &mut Program);
     io::write_all(harness::STDOUT, harness::first(&out, used));
 }

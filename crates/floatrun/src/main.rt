@@ -7,7 +7,7 @@
 
 use distances::{Answer, Distance, FloatAnswer, float_entry};
 use harness::{
-    ENTRY, Entry, Sizes, entry_at, put, put_cap, put_float, put_number, put_refusal, run,
+    ENTRY, Entry, PutLine, Sizes, entry_at, put, put_cap, put_float, put_number, put_refusal, run,
 };
 use vector::{MAX_DIM, RunInput, ValueVector};
 
@@ -98,6 +98,18 @@ fn put_line(out: &mut [u8], start: usize, s: &[u8], at: usize) -> usize {
     put(out, end, b"\n")
 }
 
+// What the run of records calls.
+#[derive(Drop)]
+struct Program;
+
+impl PutLine for Program {
+    ghost puts = { λ _ _ _ _ _ _ _ _. Unit {0} };
+
+    fn put_line(&mut self, out: &mut [u8], used: usize, s: &[u8], at: usize) -> usize {
+        put_line(out, used, s, at)
+    }
+}
+
 fn main() {
-    run(SIZES, put_line);
+    run(SIZES, &mut Program);
 }

@@ -2,9 +2,9 @@
 use Rattle.std.proofs.Common.{◌≡◌, ℕ, ◌+◌, ◌*◌, List, subst, sym}
 use native.Mathlib.Numerals.{add-one}
 use Rattle.harness.specs.Texts.{room}
-use Rattle.harness.specs.Records.{Putter, LinePut, LinesPut}
+use Rattle.harness.specs.Records.{Putter, LinesPut}
 
 pub lines_more : {F : Type 0} (g : Putter F) (s : List ℕ) (size longest n : ℕ) (f : F) (l : List ℕ) (used : ℕ) (m : F) (k : List ℕ) (u x : ℕ) (f' : F) (l' : List ℕ) (used' : ℕ)
-    → LinesPut g s size longest n f l used m k u → x ≡ room k u longest → LinePut g s (n * size) m k x f' l' used' → LinesPut g s size longest (n + 1) f l used f' l' used'
+    → LinesPut g s size longest n f l used m k u → x ≡ room k u longest → g m k x s (n * size) f' l' used' → LinesPut g s size longest (n + 1) f l used f' l' used'
 lines_more g s size longest n f l used m k u x f' l' used' h e p =
-    subst (λ i. LinesPut g s size longest i f l used f' l' used') (sym (add-one n)) (m, k, u, h, subst (λ y. LinePut g s (n * size) m k y f' l' used') e p)
+    subst (λ i. LinesPut g s size longest i f l used f' l' used') (sym (add-one n)) (m, k, u, h, subst (λ y. g m k y s (n * size) f' l' used') e p)

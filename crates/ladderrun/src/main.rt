@@ -13,7 +13,8 @@ ghost use Rattle.std.specs.Prelude.{◌≤◌};
 
 use desk::{amount_at, config_at};
 use harness::{
-    LARGEST_BOUND, Sizes, first, make_room, put, put_number, put_refusal, run_to_cut, word_at,
+    LARGEST_BOUND, PutCut, PutLine, Sizes, first, make_room, put, put_number, put_refusal,
+    run_to_cut, word_at,
 };
 use quote::Refusal;
 use quote::refusals::LIMITS;
@@ -120,6 +121,24 @@ fn put_cut(out: &mut [u8], used: usize, left: usize) -> usize {
     put_unasked(out, start, CUT_SHORT)
 }
 
+// What the run of records calls.
+#[derive(Drop)]
+struct Program;
+
+impl PutLine for Program {
+    ghost puts = { λ _ _ _ _ _ _ _ _. Unit {0} };
+
+    fn put_line(&mut self, out: &mut [u8], used: usize, s: &[u8], at: usize) -> usize {
+        put_record(out, used, s, at)
+    }
+}
+
+impl PutCut for Program {
+    fn put_cut(&mut self, out: &mut [u8], used: usize, left: usize) -> usize {
+        put_cut(out, used, left)
+    }
+}
+
 fn main() {
-    run_to_cut(SIZES, put_record, put_cut);
+    run_to_cut(SIZES, &mut Program, &mut Program);
 }

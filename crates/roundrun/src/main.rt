@@ -4,7 +4,7 @@
 // `R 6`.
 #![tactic(auto)]
 
-use harness::{Sizes, float_of, put, put_refusal, put_signed, run, word_at};
+use harness::{PutLine, Sizes, float_of, put, put_refusal, put_signed, run, word_at};
 use quote::{Refusal, to_billionths};
 
 // A pattern has 8 bytes, 8,192 are read at once, and a line has at most a sign, 16 digits and its end.
@@ -29,6 +29,18 @@ fn put_line(out: &mut [u8], start: usize, s: &[u8], at: usize) -> usize {
     put(out, end, b"\n")
 }
 
+// What the run of records calls.
+#[derive(Drop)]
+struct Program;
+
+impl PutLine for Program {
+    ghost puts = { λ _ _ _ _ _ _ _ _. Unit {0} };
+
+    fn put_line(&mut self, out: &mut [u8], used: usize, s: &[u8], at: usize) -> usize {
+        put_line(out, used, s, at)
+    }
+}
+
 fn main() {
-    run(SIZES, put_line);
+    run(SIZES, &mut Program);
 }

@@ -10,7 +10,9 @@
 ghost use Rattle.std.specs.Prelude.{◌≤◌};
 
 use desk::amount_at;
-use harness::{LARGEST_BOUND, Sizes, bound_of, digit, put, put_number, put_refusal, run, word_at};
+use harness::{
+    LARGEST_BOUND, PutLine, Sizes, bound_of, digit, put, put_number, put_refusal, run, word_at,
+};
 use quote::Refusal;
 use quote::refusals::LIMITS;
 use record::Record;
@@ -107,6 +109,18 @@ fn put_line(out: &mut [u8], start: usize, s: &[u8], at: usize) -> usize {
     put(out, end, b"\n")
 }
 
+// What the run of records calls.
+#[derive(Drop)]
+struct Program;
+
+impl PutLine for Program {
+    ghost puts = { λ _ _ _ _ _ _ _ _. Unit {0} };
+
+    fn put_line(&mut self, out: &mut [u8], used: usize, s: &[u8], at: usize) -> usize {
+        put_line(out, used, s, at)
+    }
+}
+
 fn main() {
-    run(SIZES, put_line);
+    run(SIZES, &mut Program);
 }

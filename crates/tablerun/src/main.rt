@@ -25,7 +25,7 @@ mod numbers;
 mod setting;
 
 use desk::{amount_at, config_at, put_exact};
-use harness::{LARGEST_BOUND, Sizes, put, put_number, put_refusal, run, word_at};
+use harness::{LARGEST_BOUND, PutLine, Sizes, put, put_number, put_refusal, run, word_at};
 use numbers::{are_same, copy};
 use quote::ExactQuotes;
 use quote::refusals::LIMITS;
@@ -177,14 +177,28 @@ fn lent_after(s: &[u8], at: usize, lent: usize) -> usize {
     }
 }
 
+// What the run of records calls: the table, and how many of its numbers are lent.
+#[derive(Drop)]
+struct Program<'a> {
+    numbers: &'a mut [u64],
+    lent: usize,
+}
+
+impl<'a> PutLine for Program<'a> {
+    ghost puts = { λ _ _ _ _ _ _ _ _. Unit {0} };
+
+    fn put_line(&mut self, out: &mut [u8], used: usize, s: &[u8], at: usize) -> usize {
+        let end = put_line(out, used, s, at, self.numbers, self.lent);
+        self.lent = lent_after(s, at, self.lent);
+        end
+    }
+}
+
 fn main() {
     let mut room = [UNSET; ROOM];
-    let numbers: &mut [u64] = &mut room;
-    let mut lent = TABLE_ROOM;
-    let put_next = |out: &mut [u8], start, s: &[u8], at| {
-        let end = put_line(out, start, s, at, numbers, lent);
-        lent = lent_after(s, at, lent);
-        end
+    let mut program = Program {
+        numbers: &mut room,
+        lent: TABLE_ROOM,
     };
-    run(SIZES, put_next);
+    run(SIZES, &mut program);
 }
