@@ -20,8 +20,8 @@ pub struct Sizes {
 // What puts the lines of a program. A trait and no closure: a closure may ask for something, so that a
 // function which calls it would have a `requires`.
 pub trait PutLine {
-    // Of a call: self, the buffer, the place in it, the bytes and the record's place; and what all but the
-    // bytes and that place are after it.
+    // What a call may do: self, the buffer and the place in it before, the bytes and the record's place in
+    // them; then self, the buffer and the place after it.
     ghost puts: { Self → List ℕ → ℕ → List ℕ → ℕ → Self → List ℕ → ℕ → Type 0 };
 
     // Puts the line of the record at a place of s into `out`, from the place `used` on, and answers the
