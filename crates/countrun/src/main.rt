@@ -55,12 +55,6 @@ fn count_at(s: &[u8], at: usize) -> FirstPlan {
 }
 
 // The line of the record at a place.
-fn put_line(out: &mut [u8], start: usize, s: &[u8], at: usize) -> usize {
-    let end = put_plan(out, start, count_at(s, at));
-    put(out, end, b"\n")
-}
-
-// What the run of records calls.
 #[derive(Drop)]
 struct Program;
 
@@ -68,7 +62,8 @@ impl PutLine for Program {
     ghost puts = { λ _ _ _ _ _ _ _ _. Unit {0} };
 
     fn put_line(&mut self, out: &mut [u8], used: usize, s: &[u8], at: usize) -> usize {
-        put_line(out, used, s, at)
+        let end = put_plan(out, used, count_at(s, at));
+        put(out, end, b"\n")
     }
 }
 

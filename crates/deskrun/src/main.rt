@@ -124,21 +124,7 @@ fn put_answer(out: &mut [u8], start: usize, s: &[u8], at: usize) -> usize {
     }
 }
 
-// The record at a place, without its line's end.
-fn put_record(out: &mut [u8], start: usize, s: &[u8], at: usize) -> usize {
-    if word_at(s, at, 48) > LARGEST_BOUND {
-        return put_refusal(out, start, LIMITS.0);
-    }
-    put_answer(out, start, s, at)
-}
-
 // The line of the record at a place.
-fn put_line(out: &mut [u8], start: usize, s: &[u8], at: usize) -> usize {
-    let end = put_record(out, start, s, at);
-    put(out, end, b"\n")
-}
-
-// What the run of records calls.
 #[derive(Drop)]
 struct Program;
 
@@ -146,7 +132,12 @@ impl PutLine for Program {
     ghost puts = { λ _ _ _ _ _ _ _ _. Unit {0} };
 
     fn put_line(&mut self, out: &mut [u8], used: usize, s: &[u8], at: usize) -> usize {
-        put_line(out, used, s, at)
+        if word_at(s, at, 48) > LARGEST_BOUND {
+            let end = put_refusal(out, used, LIMITS.0);
+            return put(out, end, b"\n");
+        }
+        let end = put_answer(out, used, s, at);
+        put(out, end, b"\n")
     }
 }
 

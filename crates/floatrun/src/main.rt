@@ -90,15 +90,6 @@ fn answer_at(s: &[u8], at: usize) -> FloatAnswer {
 }
 
 // The line of the record at a place.
-fn put_line(out: &mut [u8], start: usize, s: &[u8], at: usize) -> usize {
-    let a = answer_at(s, at);
-    let answer = a.answer;
-    let v = a.vector;
-    let end = put_answer(out, start, answer, v);
-    put(out, end, b"\n")
-}
-
-// What the run of records calls.
 #[derive(Drop)]
 struct Program;
 
@@ -106,7 +97,11 @@ impl PutLine for Program {
     ghost puts = { λ _ _ _ _ _ _ _ _. Unit {0} };
 
     fn put_line(&mut self, out: &mut [u8], used: usize, s: &[u8], at: usize) -> usize {
-        put_line(out, used, s, at)
+        let a = answer_at(s, at);
+        let answer = a.answer;
+        let v = a.vector;
+        let end = put_answer(out, used, answer, v);
+        put(out, end, b"\n")
     }
 }
 

@@ -1,6 +1,6 @@
 // The run of a program that reads records and writes a line for each.
 ghost use Rattle.std.specs.Prelude.{◌≡◌, ℕ, List, ◌*◌, ◌/◌, ◌%◌, ◌<◌, ◌≤◌, length};
-ghost use Rattle.harness.specs.Records.{LinesPut};
+ghost use Rattle.harness.specs.Records.{LinesPut, BlockPut, BlocksPut};
 
 use crate::standard::{MANY, STDOUT, make_room, read_block};
 use feed::first;
@@ -34,7 +34,7 @@ pub trait PutLine {
 pub trait PutCut {
     // Puts what it says of the bytes that are left into `out`, from the place `used` on, and answers the
     // place after it.
-    fn put_cut(&mut self, out: &mut [u8], used: usize, left: usize) -> usize;
+    fn put_cut(&self, out: &mut [u8], used: usize, left: usize) -> usize;
 }
 
 // The line `R 6`.
@@ -42,7 +42,7 @@ pub trait PutCut {
 struct CutShort;
 
 impl PutCut for CutShort {
-    fn put_cut(&mut self, out: &mut [u8], used: usize, left: usize) -> usize {
+    fn put_cut(&self, out: &mut [u8], used: usize, left: usize) -> usize {
         crate::standard::put_cut(out, used, left)
     }
 }
@@ -69,7 +69,9 @@ pub fn put_lines<L: PutLine>(
 
 // Reads a block and writes its lines, and where the last record ends inside itself what `put_cut` puts
 // for it. May more follow? After a full block, unless standard output takes no more.
-fn run_block<L: PutLine, C: PutCut>(sizes: Sizes, lines: &mut L, cut: &mut C) -> bool {
+fn run_block<L: PutLine, C: PutCut>(sizes: Sizes, lines: &mut L, cut: &C) -> bool
+    ensures { BlockPut L.puts sizes.size sizes.line lines.old lines.new }
+{
     let mut block = io::large_buffer();
     let n = read_block(&mut block, sizes.block);
     let mut out = io::large_buffer();
@@ -79,8 +81,11 @@ fn run_block<L: PutLine, C: PutCut>(sizes: Sizes, lines: &mut L, cut: &mut C) ->
 }
 
 // Runs a program: reads records from standard input and writes the line of each, and where the last record
-// ends inside itself what `cut` puts after the place and for the bytes left.
-pub fn run_to_cut<L: PutLine, C: PutCut>(sizes: Sizes, lines: &mut L, cut: &mut C) {
+// ends inside itself what `cut` puts after the place and for the bytes left. Which bytes are read, and what is
+// written, no contract sees: this one says that `lines` is asked for the lines of blocks, and for nothing else.
+pub fn run_to_cut<L: PutLine, C: PutCut>(sizes: Sizes, lines: &mut L, cut: &C)
+    ensures { (n : ℕ) × BlocksPut L.puts sizes.size sizes.line n lines.old lines.new }
+{
     for _ in 0..MANY {
         if !run_block(sizes, lines, cut) {
             return;
@@ -89,6 +94,8 @@ pub fn run_to_cut<L: PutLine, C: PutCut>(sizes: Sizes, lines: &mut L, cut: &mut 
 }
 
 // The same where the line of a record that ends inside itself is `R 6`.
-pub fn run<L: PutLine>(sizes: Sizes, lines: &mut L) {
-    run_to_cut(sizes, lines, &mut CutShort);
+pub fn run<L: PutLine>(sizes: Sizes, lines: &mut L)
+    ensures { (n : ℕ) × BlocksPut L.puts sizes.size sizes.line n lines.old lines.new }
+{
+    run_to_cut(sizes, lines, &CutShort);
 }

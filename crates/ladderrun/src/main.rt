@@ -102,26 +102,8 @@ fn put_call(out: &mut [u8], start: usize, s: &[u8], at: usize, buffer: &mut [u8]
     put_answer(out, start, a, buffer)
 }
 
-// The answer to the record at a place.
-fn put_record(out: &mut [u8], start: usize, s: &[u8], at: usize) -> usize {
-    if word_at(s, at, 48) > LARGEST_BOUND {
-        return put_unasked(out, start, LIMITS);
-    }
-    let n = length_at(s, at);
-    let mut buffer = [BEFORE; ROOM];
-    put_call(out, start, s, at, &mut buffer[..n])
-}
-
-// After the answers, that to a record that ends inside itself, if any of its bytes are left.
-fn put_cut(out: &mut [u8], used: usize, left: usize) -> usize {
-    if left == 0 {
-        return used;
-    }
-    let start = make_room(out, used, SIZES.line);
-    put_unasked(out, start, CUT_SHORT)
-}
-
-// What the run of records calls.
+// The answer to the record at a place, and after the answers that to a record that ends inside itself, if any of its
+// bytes are left.
 #[derive(Drop)]
 struct Program;
 
@@ -129,16 +111,25 @@ impl PutLine for Program {
     ghost puts = { λ _ _ _ _ _ _ _ _. Unit {0} };
 
     fn put_line(&mut self, out: &mut [u8], used: usize, s: &[u8], at: usize) -> usize {
-        put_record(out, used, s, at)
+        if word_at(s, at, 48) > LARGEST_BOUND {
+            return put_unasked(out, used, LIMITS);
+        }
+        let n = length_at(s, at);
+        let mut buffer = [BEFORE; ROOM];
+        put_call(out, used, s, at, &mut buffer[..n])
     }
 }
 
 impl PutCut for Program {
-    fn put_cut(&mut self, out: &mut [u8], used: usize, left: usize) -> usize {
-        put_cut(out, used, left)
+    fn put_cut(&self, out: &mut [u8], used: usize, left: usize) -> usize {
+        if left == 0 {
+            return used;
+        }
+        let start = make_room(out, used, SIZES.line);
+        put_unasked(out, start, CUT_SHORT)
     }
 }
 
 fn main() {
-    run_to_cut(SIZES, &mut Program, &mut Program);
+    run_to_cut(SIZES, &mut Program, &Program);
 }

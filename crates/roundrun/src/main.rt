@@ -23,13 +23,6 @@ fn put_billionths(out: &mut [u8], at: usize, b: Result<i64, Refusal>) -> usize {
 }
 
 // The line of the pattern at a place.
-fn put_line(out: &mut [u8], start: usize, s: &[u8], at: usize) -> usize {
-    let x = float_of(word_at(s, at, 0));
-    let end = put_billionths(out, start, to_billionths(x));
-    put(out, end, b"\n")
-}
-
-// What the run of records calls.
 #[derive(Drop)]
 struct Program;
 
@@ -37,7 +30,9 @@ impl PutLine for Program {
     ghost puts = { λ _ _ _ _ _ _ _ _. Unit {0} };
 
     fn put_line(&mut self, out: &mut [u8], used: usize, s: &[u8], at: usize) -> usize {
-        put_line(out, used, s, at)
+        let x = float_of(word_at(s, at, 0));
+        let end = put_billionths(out, used, to_billionths(x));
+        put(out, end, b"\n")
     }
 }
 

@@ -104,12 +104,6 @@ fn put_record(out: &mut [u8], start: usize, s: &[u8], at: usize) -> usize {
 }
 
 // The line of the record at a place.
-fn put_line(out: &mut [u8], start: usize, s: &[u8], at: usize) -> usize {
-    let end = put_record(out, start, s, at);
-    put(out, end, b"\n")
-}
-
-// What the run of records calls.
 #[derive(Drop)]
 struct Program;
 
@@ -117,7 +111,8 @@ impl PutLine for Program {
     ghost puts = { λ _ _ _ _ _ _ _ _. Unit {0} };
 
     fn put_line(&mut self, out: &mut [u8], used: usize, s: &[u8], at: usize) -> usize {
-        put_line(out, used, s, at)
+        let end = put_record(out, used, s, at);
+        put(out, end, b"\n")
     }
 }
 
